@@ -3,5 +3,4 @@
 
 mod event;
 
-pub use event::Event;
-pub use event::order_law;
+pub use event::{Event, order_law};
