@@ -1,0 +1,3 @@
+pub mod EventListLemmas
+pub mod ReactionLemmas
+pub mod ScheduleLemmas

@@ -1,9 +1,13 @@
 //! Simulation models, what their objects do at an event, and the run of a model over one event list.
 #![tactic(auto)]
 
+mod draws;
 mod model;
 mod name;
 mod outcome;
+mod pending;
+mod reaction;
+mod sends;
 mod sequence;
 mod targets;
 mod traces;
@@ -11,6 +15,10 @@ mod traces;
 pub use model::{Behaviour, BehaviourName, Model, Object, Objects, Start, Starts};
 pub use name::Name;
 pub use outcome::{Outcome, Size, Sizes};
+pub use reaction::ObjectState;
+pub use reaction::react;
+pub use sends::Post;
+pub use sends::Sends;
 pub use sequence::Sequence;
 pub use targets::Targets;
 pub use traces::{ObjectTrace, Step, Steps, Traces};
