@@ -5,3 +5,4 @@ pub mod EventLists
 pub mod Reactions
 pub mod Runs
 pub mod Windows
+pub mod Shown

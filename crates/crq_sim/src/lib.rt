@@ -7,6 +7,7 @@ mod name;
 mod outcome;
 mod pending;
 mod reaction;
+mod run;
 mod sends;
 mod sequence;
 mod targets;
