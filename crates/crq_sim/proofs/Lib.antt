@@ -5,3 +5,4 @@ pub mod ScheduleLemmas
 pub mod Sound
 pub mod StartLemmas
 pub mod TraceLemmas
+pub mod WindowLemmas

@@ -7,10 +7,10 @@ use Rattle.crq_sim.specs.declared.reaction.ObjectState.{ObjectState}
 use Rattle.crq_sim.specs.declared.run.Run.{Run}
 use Rattle.crq_sim.specs.declared.traces.ObjectTrace.{ObjectTrace}
 use Rattle.crq_sim.specs.declared.traces.Step.{Step}
-use Rattle.crq_sim.specs.EventLists.{with_events}
+use Rattle.crq_sim.specs.EventLists.{with_events, IsFirst}
 use Rattle.crq_sim.specs.Models.{ModelData, IsModel, IsObject}
 use Rattle.crq_sim.specs.Reactions.{behaviour_at, sends_of, state_after, IsWordOf}
-use Rattle.crq_sim.specs.Runs.{Simulation, state_of, step_of, run_first, after_events, traces_of}
+use Rattle.crq_sim.specs.Runs.{Simulation, state_of, step_of, run_first, after_events, traces_of, IsOverWithin, traces_within}
 use Rattle.crq_sim.specs.Shown.{Shows, IsNext, with_step}
 use Rattle.crq_sim.proofs.Sound.{IsDue, sound, no_state}
 use Rattle.crq_sim.proofs.TraceLemmas.{length-traces, traces_step}
@@ -95,3 +95,20 @@ stays m n (suc k) h =
     let w = after_events m (n + k) in
     let once = stays_once m w.states w.pending w.log before.0 in
     rw add-suc (once.0, once.1 ∙ before.1)
+
+-- where nothing is pending the run is over, and stays so up to the cap
+pub over_within : (m : ModelData) (made cap : ℕ) (traces : List ObjectTrace) → made ≤ cap → (after_events m made).pending ≡ [] → traces ≡ traces_of m.objects (after_events m made).log
+    → IsOverWithin m cap × (traces ≡ traces_within m cap)
+over_within m made cap traces le none is =
+    let rest = stays m made (cap - made) none in
+    let all : made + (cap - made) ≡ cap = omega arith in
+    let at_cap : (after_events m cap).pending ≡ [] = ap (λ n. (after_events m n).pending) (sym all) ∙ rest.0 in
+    let log : (after_events m cap).log ≡ (after_events m made).log = ap (λ n. (after_events m n).log) (sym all) ∙ rest.1 in
+    (at_cap, is ∙ ap (traces_of m.objects) (sym log))
+
+not_over : (e : Event) (pending : List Event) → IsFirst e pending → pending ≡ [] → ⊥
+not_over e pending first none = subst (IsFirst e) none first
+
+-- where an event is pending after as many events as the cap allows, the run has more
+pub more_than : (m : ModelData) (cap : ℕ) (pending : List Event) (e : Event) → pending ≡ (after_events m cap).pending → IsFirst e pending → IsOverWithin m cap → ⊥
+more_than m cap pending e is first none = not_over e pending first (is ∙ none)

@@ -6,3 +6,4 @@ pub mod Reactions
 pub mod Runs
 pub mod Windows
 pub mod Shown
+pub mod Ends

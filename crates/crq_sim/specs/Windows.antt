@@ -1,6 +1,6 @@
 -- The lookahead windows of the serial run (Nicol's YAWNS): a window begins where the last one ended, and takes all
 -- events below an edge, which lies the lookahead after its first event.
-use Rattle.std.specs.Prelude.{◌≡◌, ℕ, zero, suc, ◌+◌, ◌<◌, ◌≤◌, List, [], ◌∷◌, map, drop}
+use Rattle.std.specs.Prelude.{◌≡◌, ◌⊎◌, ℕ, zero, suc, ◌+◌, ◌<◌, ◌≤◌, List, [], ◌∷◌, map, drop}
 use Rattle.crq_base.specs.declared.event.Event.{Event}
 use Rattle.crq_sim.specs.declared.traces.Step.{Step}
 use Rattle.crq_sim.specs.Models.{ModelData}
@@ -41,3 +41,16 @@ IsInWindow m (suc k) n = (i : ℕ) × IsWindowEnd m k i × (i ≤ n) × AreBelow
 -- the events after i and up to n, as those of a window that begins after i and ends after n
 abbrev pub events_between : ModelData → ℕ → ℕ → List Event
 events_between m i n = map (λ (s : Step). s.event) (drop i (after_events m n).log)
+
+-- the window of the last of n events, with its edge; before the first event there is none
+pub record IsIn (m : ModelData) (n number edge : ℕ) : Type 0 where
+  pub before : ℕ
+  pub first : ℕ
+  pub after : number ≡ before + 1
+  pub begun : IsWindowEnd m before first
+  pub inside : first < n
+  pub below : AreBelowEdge m first n
+  pub edge_is : edge ≡ edge_at m first
+
+abbrev pub Tracks : ModelData → ℕ → ℕ → ℕ → Type 0
+Tracks m n number edge = ((n ≡ 0) × (number ≡ 0) × (edge ≡ 0)) ⊎ IsIn m n number edge

@@ -1,6 +1,7 @@
 //! The variables of a serial run, and its steps.
 
-ghost use Rattle.std.specs.Prelude.{◌≡◌, ℕ, ◌+◌, ◌-◌, ◌<◌, ◌≤◌, length, IfOk, OnOk, [], slice_index_or, vec_len};
+ghost use Rattle.std.specs.Prelude.{◌≡◌, ℕ, ◌+◌, ◌-◌, ◌<◌, ◌≤◌, length, IfOk, OnOk, MatchOption, [], slice_index_or, vec_len};
+ghost use Rattle.crq_base.specs.declared.event.Event.{Event};
 ghost use Rattle.crq_sim.specs.EventLists.{with_events, IsFirst};
 ghost use Rattle.crq_sim.specs.Models.{ModelData, IsModel};
 ghost use Rattle.crq_sim.specs.Runs.{kind_of, after_events, first_states, scheduled_starts, traces_of};
@@ -13,7 +14,7 @@ use crate::model::{Behaviour, BehaviourName, Model, Object, Start};
 use crate::pending::Pending;
 use crate::reaction::{ObjectState, react};
 use crate::sequence::Sequence;
-use crate::traces::{ObjectTrace, Step};
+use crate::traces::{ObjectTrace, Step, Traces};
 use crq_base::Event;
 use std::alloc::{AllocError, Global};
 
@@ -132,6 +133,22 @@ impl Run {
         };
         self.run(model, event)?;
         Ok(Some(event.time))
+    }
+
+    /// The time of the least pending event.
+    pub fn next_time(&self) -> Option<u32>
+        ensures { MatchOption result (self.now.pending ≡ []) (λ time. (e : Event) × IsFirst e self.now.pending × (e.time ≡ time)) }
+    {
+        let event = self.pending.first()?;
+        Some(event.time)
+    }
+
+    /// The traces of the steps that were made.
+    pub fn into_traces(self) -> Traces
+        ensures { result ≡ self.traces.items }
+    {
+        let Run { traces, .. } = self;
+        Sequence::from_vec(traces)
     }
 
     /// Runs an event that was taken from the pending ones.
