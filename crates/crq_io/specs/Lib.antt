@@ -1,0 +1,4 @@
+pub mod Faults
+pub mod Told
+pub mod MemFiles
+pub mod MemSink
