@@ -9,6 +9,10 @@ one_more count = min (count + 1) (2 ^ 64 - 1)
 abbrev pub Rose : ℕ → ℕ → Type 0
 Rose before now = one_more before ≤ now
 
+-- no fault was counted between these two values
+abbrev pub NoFault : ℕ → ℕ → Type 0
+NoFault before now = Rose before now → ⊥
+
 -- the call of this number is to fail
 abbrev pub IsListed : List ℕ → ℕ → Type 0
 IsListed numbers number = Contains numbers number

@@ -15,3 +15,6 @@ pub use host::{HostFiles, HostSink};
 pub use mem_files::MemFiles;
 pub use mem_sink::MemSink;
 pub use sink::{Cut, Failed, Sink, write_whole};
+
+#[cfg(test)]
+mod tests;

@@ -8,7 +8,8 @@ use crate::faults::{Memory, is_listed, list_of, one_more};
 use crate::sink::{Failed, Sink};
 use std::alloc::Global;
 
-/// A vector whose room is made with it. The calls of `write` are numbered from 1, and those whose numbers are listed fail.
+/// A vector whose room is made with it. The calls of `write` are numbered from 1, and those whose
+/// numbers are listed fail. Numbers and faults are counted up to 2^64 - 1.
 #[derive(Drop)]
 pub struct MemSink {
     bytes: Vec<u8>,
@@ -25,8 +26,8 @@ pub struct MemSink {
 impl MemSink {
     ghost use Rattle.crq_io.specs.MemSink.{bytes_of, room_of, most_of, fails_of, calls_of, faults_of};
 
-    /// An empty sink with room for `room` bytes, of which a call takes at most `most`. The calls of `write` that fail are those
-    /// whose numbers, from 1, are in `fails`.
+    /// An empty sink with room for `room` bytes, of which a call takes at most `most`. The calls of
+    /// `write` that fail are those whose numbers, from 1, are in `fails`.
     pub fn new(alloc: Global, room: usize, most: usize, fails: &[u64]) -> Result<MemSink, Memory>
         requires { 1 ≤ most }
         ensures bytes { IfOk result (λ made. bytes_of made ≡ []) }
@@ -70,14 +71,18 @@ impl Sink for MemSink {
 
     fn write(&mut self, piece: &[u8]) -> Result<usize, Failed>
         // What every sink ensures.
-        ensures ok { IfOk result (λ n. IsPart n piece.now × Appends (Some (bytes_of self.old)) (Some (bytes_of self.new)) (take n piece.now)) }
+        ensures ok { IfOk result (λ n. IsPart n piece.now
+            × Appends (Some (bytes_of self.old)) (Some (bytes_of self.new)) (take n piece.now)) }
         ensures failed { OnErr result (Rose (faults_of self.old) (faults_of self.new)) }
         ensures nothing { OnErr result (Some (bytes_of self.new) ≡ Some (bytes_of self.old)) }
         ensures later { faults_of self.old ≤ faults_of self.new }
 
         // A write fails, and is counted, exactly where its number is listed or the room is used up.
-        ensures refused { OnErr result (Refuses self.old piece.now × (faults_of self.new ≡ one_more (faults_of self.old))) }
-        ensures taken { IfOk result (λ n. (Refuses self.old piece.now → ⊥) × (faults_of self.new ≡ faults_of self.old) × (n ≡ taken_of self.old piece.now)) }
+        ensures refused { OnErr result (Refuses self.old piece.now) }
+        ensures counted { OnErr result (faults_of self.new ≡ one_more (faults_of self.old)) }
+        ensures accepted { OnOk result (Refuses self.old piece.now → ⊥) }
+        ensures uncounted { OnOk result (faults_of self.new ≡ faults_of self.old) }
+        ensures taken { IfOk result (λ n. n ≡ taken_of self.old piece.now) }
         ensures next { IsNextCall self.old self.new }
     {
         self.calls = one_more(self.calls);

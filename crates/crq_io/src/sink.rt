@@ -24,7 +24,10 @@ pub trait Sink {
 
     /// Writes some first bytes of a piece, and answers how many: at least one, unless the piece is empty.
     fn write(&mut self, piece: &[u8]) -> Result<usize, Failed>
-        ensures ok { IfOk result (λ n. IsPart n piece.now × Appends (written self.old) (written self.new) (take n piece.now)) }
+        ensures ok { IfOk result (λ n. IsPart n piece.now
+            × Appends (written self.old) (written self.new) (take n piece.now)) }
+
+        // A failure was counted in this call, and nothing was taken. The count never falls.
         ensures failed { OnErr result (Rose (faults self.old) (faults self.new)) }
         ensures nothing { OnErr result (written self.new ≡ written self.old) }
         ensures later { faults self.old ≤ faults self.new };
@@ -33,7 +36,10 @@ pub trait Sink {
 /// Writes all bytes, by as many calls as the sink wants, and stops at the first call that fails.
 pub fn write_whole<S: Sink>(sink: &mut S, bytes: &[u8]) -> Result<(), Cut>
     ensures ok { OnOk result (Appends (S.written sink.old) (S.written sink.new) bytes.now) }
-    ensures cut { IfErr result (λ c. (c.sent < length bytes.now) × Appends (S.written sink.old) (S.written sink.new) (take c.sent bytes.now)) }
+    ensures cut { IfErr result (λ c. (c.sent < length bytes.now)
+        × Appends (S.written sink.old) (S.written sink.new) (take c.sent bytes.now)) }
+
+    // A failure was counted in this call. The count never falls.
     ensures failed { OnErr result (Rose (S.faults sink.old) (S.faults sink.new)) }
     ensures later { S.faults sink.old ≤ S.faults sink.new }
 {

@@ -6,14 +6,14 @@ use Rattle.crq_io.proofs.host.HostFilesFiles.TheImpl.Goals as goal
 
 pub fetch-tells : goal.fetch-tells
 fetch-tells g c = record {
-    ok = ok_untold c.result _ c.ensures.ok;
-    kept = λ _. refl;
-    later = c.ensures.later;
-    failed = λ h. omega (arith, c.ensures.failed h);
-    long = λ _ bytes told. absurd (none-some _ told);
-    too_long = λ bytes told. absurd (none-some _ told);
-    long_not_absent = λ _ told. none-some _ told;
-    no_file = λ h. absurd (c.ensures.absent h);
-    absent = λ told. absurd (none-some _ told);
-    fits = λ bytes told. absurd (none-some _ told);
-  }
+  ok = ok_untold c.result _ c.ensures.ok;
+  kept = λ _. refl;
+  later = c.ensures.later;
+  failed = λ h. omega (arith, c.ensures.failed h);
+  long = λ _ bytes told. absurd (none-some _ told);
+  too_long = λ bytes told. absurd (none-some _ told);
+  none_is_long = λ _ told. none-some _ told;
+  no_file = λ h. absurd (c.ensures.absent h);
+  absent = λ told. absurd (none-some _ told);
+  fits = λ bytes told. absurd (none-some _ told);
+}
