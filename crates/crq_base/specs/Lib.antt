@@ -1,1 +1,4 @@
 pub mod Keys
+pub mod Words
+pub mod Starts
+pub mod Entries
