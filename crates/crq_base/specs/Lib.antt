@@ -2,3 +2,4 @@ pub mod Keys
 pub mod Words
 pub mod Starts
 pub mod Entries
+pub mod Histories
