@@ -1,1 +1,3 @@
 pub mod KeyOrder
+pub mod WordLaws
+pub mod HistoryLaws

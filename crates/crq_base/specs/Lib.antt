@@ -1,1 +1,5 @@
 pub mod Keys
+pub mod Words
+pub mod Starts
+pub mod Entries
+pub mod Histories
