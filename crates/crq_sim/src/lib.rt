@@ -2,6 +2,7 @@
 #![tactic(auto)]
 
 mod draws;
+mod memory;
 mod model;
 mod name;
 mod outcome;
@@ -9,20 +10,19 @@ mod pending;
 mod reaction;
 mod run;
 mod sends;
-mod serial_run;
 mod sequence;
+mod serial_run;
 mod targets;
 mod traces;
 
+pub use draws::draw;
+pub use memory::Memory;
 pub use model::{Behaviour, BehaviourName, Model, Object, Objects, Start, Starts};
 pub use name::Name;
 pub use outcome::{Outcome, Size, Sizes};
-pub use reaction::ObjectState;
-pub use reaction::react;
-pub use sends::Post;
+pub use reaction::{ObjectState, react};
 pub use sends::Sends;
 pub use sequence::Sequence;
-pub use serial_run::SimEnd;
-pub use serial_run::serial;
+pub use serial_run::{SimEnd, serial};
 pub use targets::Targets;
 pub use traces::{ObjectTrace, Step, Steps, Traces};
