@@ -1,8 +1,8 @@
 -- A model that the language gives keeps what each model keeps.
-use Rattle.std.proofs.Common.{◌≡◌, ℕ, zero, suc, ◌+◌, ◌<◌, ◌≤◌, List, [], ◌∷◌, ◌++◌, length, get_or, map, Bool, true, false, cond, Option, Some, None, Result, Ok, Err, ◌⊎◌, inl, inr, refl, sym, ap, ap₂, ◌∙◌, subst, arith, ◌==◌, nat_lt, codes, zero-add}
+use Rattle.std.proofs.Common.{◌≡◌, ℕ, zero, suc, ◌+◌, ◌^◌, ◌<◌, ◌≤◌, List, [], ◌∷◌, ◌++◌, length, get_or, map, Bool, true, false, cond, Option, Some, None, Result, Ok, Err, ◌⊎◌, inl, inr, refl, sym, ap, ap₂, ◌∙◌, subst, arith, ◌==◌, nat_lt, codes, zero-add}
 use Rattle.std.specs.List.{All, AllZip, Contains, position_from}
 use Rattle.std.specs.Str.{bytes_eq}
-use Rattle.std.proofs.lemmas.Bool.{cases_Bool, ltb-false, eqb-false}
+use Rattle.std.proofs.lemmas.Bool.{cases_Bool, ltb-true, ltb-false, eqb-false}
 use Rattle.std.proofs.lemmas.List.{length-map, map-append}
 use Rattle.std.proofs.lemmas.List.Elements.{All-nil, All-cons, All-head, All-tail, All-push, All-map, All-weaker, Contains-push_cases, length_all_zip}
 use Rattle.std.proofs.lemmas.Slice.Eq.{bytes_eq-Decides}
@@ -13,12 +13,12 @@ use Rattle.crq_sim.specs.declared.model.Object.{Object}
 use Rattle.crq_sim.specs.declared.model.Start.{Start}
 use Rattle.crq_sim.specs.declared.model.Behaviour.{Behaviour}
 use Rattle.crq_sim.specs.declared.model.Behaviour.TheVariants as behaviour
-use Rattle.crq_reader.specs.Language.{Header, and_then, each, told, in_file, in_object, in_start, must_be_object, format, lookahead, tick, list, text, many, header, known, known_all, number_of, names_of, named_of, next_named, named_objects, behaviour_of, object_of, next_object, objects_of, start_of, next_start, load_of, starts_of, model_of, Sending, Named, relay, phold, station, fan, sink}
+use Rattle.crq_reader.specs.Language.{Header, and_then, each, told, in_file, in_object, in_start, must_be_object, format, lookahead, whole, tick, list, text, many, header, known, known_all, number_of, names_of, named_of, next_named, named_objects, behaviour_of, object_of, next_object, objects_of, start_of, next_start, load_of, starts_of, model_of, Sending, Named, relay, phold, station, fan, sink}
 use Rattle.crq_reader.specs.Drafts.{IsNamed}
-use Rattle.crq_reader.specs.declared.fault.Fault.TheVariants.{UnknownName, Lookahead, TooMany}
-use Rattle.crq_reader.proofs.EachLaws.{and_then_ok, err_if, told_ok, ok_or_ok, each_keeps, each_zip, length-each}
+use Rattle.crq_reader.specs.declared.fault.Fault.TheVariants.{Range, UnknownName, Lookahead, TooMany}
+use Rattle.crq_reader.proofs.EachLaws.{and_then_ok, ok_if, err_if, told_ok, ok_or_ok, each_keeps, each_zip, length-each}
 use Rattle.crq_reader.proofs.NumberLaws.{number_of_range}
-use Rattle.crq_reader.proofs.ReadLaws.{IsAhead, Tells, named_tells}
+use Rattle.crq_reader.proofs.ReadLaws.{Sends, Tells, named_tells, length-known_all}
 
 -- ---- the file
 
@@ -37,8 +37,15 @@ lookahead_some d n e =
     let some = eqb-false made.0 0 kept.0 in
     omega arith
 
+tick_below : (key : List ℕ) (d : Data) (n : ℕ) → tick key d ≡ Ok n → n < 2 ^ 32
+tick_below key d n e =
+    let made = and_then_ok (whole key d) _ n e in
+    let kept = ok_if (nat_lt made.0 (2 ^ 32)) made.0 n Range made.2 in
+    subst (λ x. x < 2 ^ 32) kept.1 (ltb-true made.0 (2 ^ 32) kept.0)
+
 record IsHeader (h : Header) : Type 0 where
   ahead : 0 < h.lookahead
+  within : h.until < 2 ^ 32
   objects_few : length h.objects ≤ 65535
   starts_few : length h.starts ≤ 65535
 
@@ -52,7 +59,7 @@ header_tells d h e =
     let starts = and_then_ok (many (codes "starts") d) _ h objects.2 in
     let made : Header = record { lookahead = ahead.0; until = last.0; objects = objects.0; starts = starts.0 } in
     let is : made ≡ h = cc in
-    subst IsHeader is (record { ahead = lookahead_some d ahead.0 ahead.1; objects_few = many_few (codes "objects") d objects.0 objects.1; starts_few = many_few (codes "starts") d starts.0 starts.1 })
+    subst IsHeader is (record { ahead = lookahead_some d ahead.0 ahead.1; within = tick_below (codes "until") d last.0 last.1; objects_few = many_few (codes "objects") d objects.0 objects.1; starts_few = many_few (codes "starts") d starts.0 starts.1 })
 
 -- ---- names that stand once
 
@@ -75,7 +82,7 @@ apart_push (n ∷ ns) new (first, rest) h =
 record AreNamed (ahead : ℕ) (named : List Named) : Type 0 where
   each_named : All IsNamed named
   apart : AreApart (names_of named)
-  each_ahead : All (λ (o : Named). IsAhead ahead o.sending) named
+  each_sends : All (λ (o : Named). Sends ahead o.sending) named
 
 named_more : (ahead : ℕ) (before : List Named) (d : Data) (o : Named) → AreNamed ahead before → next_named ahead before d ≡ Ok o → AreNamed ahead (before ++ o ∷ [])
 named_more ahead before d o h e =
@@ -83,12 +90,12 @@ named_more ahead before d o h e =
     record {
       each_named = All-push IsNamed before o h.each_named tells.named;
       apart = subst AreApart (sym (map-append (λ (n : Named). n.name) before (o ∷ []))) (apart_push (names_of before) o.name h.apart (λ has. not_there o.name 1 (names_of before) tells.new has.0 has.1 has.2));
-      each_ahead = All-push (λ (n : Named). IsAhead ahead n.sending) before o h.each_ahead tells.ahead_of;
+      each_sends = All-push (λ (n : Named). Sends ahead n.sending) before o h.each_sends tells.sends;
     }
 
 named_objects_tell : (ahead : ℕ) (ds : List Data) (named : List Named) → named_objects ahead ds ≡ Ok named → AreNamed ahead named
 named_objects_tell ahead ds named =
-    each_keeps (next_named ahead) (AreNamed ahead) (λ before d o h e. named_more ahead before d o h e) [] ds named (record { each_named = All-nil IsNamed; apart = tt; each_ahead = All-nil _ })
+    each_keeps (next_named ahead) (AreNamed ahead) (λ before d o h e. named_more ahead before d o h e) [] ds named (record { each_named = All-nil IsNamed; apart = tt; each_sends = All-nil _ })
 
 -- ---- objects with their targets
 
@@ -97,24 +104,25 @@ known_object names name n e =
     let range = number_of_range (bytes_eq name) 1 names n (ok_or_ok (number_of names name) UnknownName n e) in
     (omega (arith, range.0), omega (arith, range.1))
 
-behaviour_tells : (ahead : ℕ) (names : List (List ℕ)) (s : Sending) (b : Behaviour) → IsAhead ahead s → behaviour_of names s ≡ Ok b → IsBehaviour ahead (length names) b
+behaviour_tells : (ahead : ℕ) (names : List (List ℕ)) (s : Sending) (b : Behaviour) → Sends ahead s → behaviour_of names s ≡ Ok b → IsBehaviour ahead (length names) b
 behaviour_tells ahead names (relay n next) b h e =
     let o = and_then_ok (known names next) _ b e in
     let is : behaviour.Relay n o.0 ≡ b = cc in
-    subst (IsBehaviour ahead (length names)) is (h, known_object names next o.0 o.1)
+    subst (IsBehaviour ahead (length names)) is (h.1, known_object names next o.0 o.1)
 behaviour_tells ahead names (phold seed spread) b h e =
     let is : behaviour.Phold seed spread ≡ b = cc in
     subst (IsBehaviour ahead (length names)) is tt
 behaviour_tells ahead names (station n next) b h e =
     let o = and_then_ok (known names next) _ b e in
     let is : behaviour.Station n o.0 ≡ b = cc in
-    subst (IsBehaviour ahead (length names)) is (h, known_object names next o.0 o.1)
+    subst (IsBehaviour ahead (length names)) is (h.1, known_object names next o.0 o.1)
 behaviour_tells ahead names (fan n ts) b h e =
     let os = and_then_ok (known_all names ts) _ b e in
     let all : All (IsObject (length names)) os.0 =
     each_keeps (λ _ t. known names t) (All (IsObject (length names))) (λ done t o p k. All-push (IsObject (length names)) done o p (known_object names t o k)) [] ts os.0 (All-nil _) os.1 in
     let is : behaviour.Fan n os.0 ≡ b = cc in
-    subst (IsBehaviour ahead (length names)) is (h, all)
+    let count = length-known_all names ts os.0 os.1 in
+    subst (IsBehaviour ahead (length names)) is (h.1, omega (arith, h.0.0), omega (arith, h.0.1), all)
 behaviour_tells ahead names sink b h e =
     let is : behaviour.Sink ≡ b = cc in
     subst (IsBehaviour ahead (length names)) is tt
@@ -135,15 +143,15 @@ names_stand names [] (b ∷ bs) h = absurd h
 names_stand names (o ∷ os) [] h = absurd h
 names_stand names (o ∷ os) (b ∷ bs) h = ap₂ (λ n ns. n ∷ ns) h.0.same_name (names_stand names os bs h.1)
 
-behaviours_stand : (ahead : ℕ) (names : List (List ℕ)) (named : List Named) (objects : List Object) → AllZip (Stands names) named objects → All (λ (o : Named). IsAhead ahead o.sending) named
+behaviours_stand : (ahead : ℕ) (names : List (List ℕ)) (named : List Named) (objects : List Object) → AllZip (Stands names) named objects → All (λ (o : Named). Sends ahead o.sending) named
     → All (λ (o : Object). IsBehaviour ahead (length names) o.behaviour) objects
 behaviours_stand ahead names [] [] h all = All-nil _
 behaviours_stand ahead names [] (b ∷ bs) h all = absurd h
 behaviours_stand ahead names (o ∷ os) [] h all = absurd h
 behaviours_stand ahead names (o ∷ os) (b ∷ bs) h all =
     All-cons (λ (x : Object). IsBehaviour ahead (length names) x.behaviour) b bs
-    (behaviour_tells ahead names o.sending b.behaviour (All-head (λ (x : Named). IsAhead ahead x.sending) o os all) h.0.behaves)
-    (behaviours_stand ahead names os bs h.1 (All-tail (λ (x : Named). IsAhead ahead x.sending) o os all))
+    (behaviour_tells ahead names o.sending b.behaviour (All-head (λ (x : Named). Sends ahead x.sending) o os all) h.0.behaves)
+    (behaviours_stand ahead names os bs h.1 (All-tail (λ (x : Named). Sends ahead x.sending) o os all))
 
 names_spelled : (named : List Named) → All IsNamed named → All (λ n. is_name n ≡ true) (names_of named)
 names_spelled named h = All-map (λ n. is_name n ≡ true) (λ (o : Named). o.name) named (All-weaker IsNamed (λ (o : Named). is_name o.name ≡ true) (λ o k. k.spelled) named h)
@@ -194,10 +202,11 @@ model_kept d m e =
     subst IsModel is
     (record {
       ahead = file.ahead;
+      within = file.within;
       few_objects = omega (arith, file.objects_few);
       few_starts = omega (arith, file.starts_few);
       named = All-unmap (λ n. is_name n ≡ true) (λ (o : Object). o.name) objects.0 spelled;
       apart = subst AreApart (sym same) kept.apart;
-      behaviours = subst (λ n. All (λ (o : Object). IsBehaviour h.0.lookahead n o.behaviour) objects.0) count (behaviours_stand h.0.lookahead names named.0 objects.0 stand kept.each_ahead);
+      behaviours = subst (λ n. All (λ (o : Object). IsBehaviour h.0.lookahead n o.behaviour) objects.0) count (behaviours_stand h.0.lookahead names named.0 objects.0 stand kept.each_sends);
       started = subst (λ n. All (λ (s : Start). IsObject n s.object) starts.0) count (starts_there names h.0.starts starts.0 starts.1);
     })

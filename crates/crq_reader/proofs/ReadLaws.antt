@@ -34,7 +34,7 @@ delay_ahead ahead key d n e =
 
 -- ---- sendings
 
-abbrev Sends : ℕ → Sending → Type 0
+abbrev pub Sends : ℕ → Sending → Type 0
 Sends ahead s = IsSending s × IsAhead ahead s
 
 texts_length : (ds : List Data) → list_all (λ t. is_some (as_str t)) ds ≡ true → length (filter_map as_str ds) ≡ length ds
@@ -113,7 +113,7 @@ length-known_all names ts ns e = length-each (λ _ t. known names t) [] ts ns e 
 pub record Tells (ahead : ℕ) (before : List Named) (o : Named) : Type 0 where
   pub named : IsNamed o
   pub new : number_of (names_of before) o.name ≡ None
-  pub ahead_of : IsAhead ahead o.sending
+  pub sends : Sends ahead o.sending
 
 no_number : (o : Option ℕ) → is_some o ≡ false → o ≡ None
 no_number None e = refl
@@ -135,5 +135,5 @@ named_tells ahead before d o e =
     (record {
       named = record { spelled = subst (λ x. is_name x ≡ true) (proper.1 ∙ same) proper.0; sends = sends.0 };
       new = subst (λ x. number_of (names_of before) x ≡ None) same (no_number _ unheard.0);
-      ahead_of = sends.1;
+      sends = sends;
     })
