@@ -58,7 +58,7 @@ legal_more h e l m = legal_append [] h (e ∷ []) l (m, tt)
 pub more_legal : (h : List Entry) (e : Entry) → IsLegal (h ++ e ∷ []) → MayFollow h e
 more_legal h e l = let r = legal_back [] h (e ∷ []) l in r.0
 
-not_nil : (xs ys : List Entry) (y : Entry) → xs ++ y ∷ ys ≡ [] → ⊥
+pub not_nil : (xs ys : List Entry) (y : Entry) → xs ++ y ∷ ys ≡ [] → ⊥
 not_nil [] ys y e = cc
 not_nil (x ∷ xs) ys y e = cc
 
@@ -81,14 +81,17 @@ fronts c (x ∷ f) (y ∷ g) s t m n e =
 pub began_one : (c : ℕ) (h f g : List Entry) → Began c h f → Began c h g → f ≡ g
 began_one c h f g a b = fronts c f g a.back b.back a.last b.last (sym a.parts ∙ b.parts)
 
+-- the last of the caller's own entries is the one at which its search began
+pub own_begun : (c : ℕ) (h front : List Entry) → Began c h front → own c h ≡ own c front ++ Begin c ∷ []
+own_begun c h front b = ap (own c) b.parts ∙ (own_begin c front b.back ∙ (λ i. own c front ++ Begin c ∷ b.last i))
+
+pub last_one : (xs ys : List Entry) (x y : Entry) → xs ++ x ∷ [] ≡ ys ++ y ∷ [] → x ≡ y
+last_one [] [] x y e = cc
+last_one [] (z ∷ ys) x y e = let r : ys ++ y ∷ [] ≡ [] = cc in absurd (not_nil ys [] y r)
+last_one (z ∷ xs) [] x y e = let r : xs ++ x ∷ [] ≡ [] = cc in absurd (not_nil xs [] x r)
+last_one (z ∷ xs) (w ∷ ys) x y e = let r : xs ++ x ∷ [] ≡ ys ++ y ∷ [] = cc in last_one xs ys x y r
+
 -- a caller whose last entry is not Begin is in no search
 pub ended : (c : ℕ) (h front : List Entry) (e : Entry) → caller_of e ≡ c → (e ≡ Begin c → ⊥) → Began c (h ++ e ∷ []) front → ⊥
-ended c h front e q other b = let mine = sym (own_here c h e q) ∙ (ap (own c) b.parts ∙ own_begin c front b.back) in
-    let end : own c h ++ e ∷ [] ≡ own c front ++ Begin c ∷ [] = subst (λ z. own c h ++ e ∷ [] ≡ own c front ++ Begin c ∷ z) b.last mine in
-    other (last_one (own c h) (own c front) e (Begin c) end)
-  where
-    last_one : (xs ys : List Entry) (x y : Entry) → xs ++ x ∷ [] ≡ ys ++ y ∷ [] → x ≡ y
-    last_one [] [] x y e = cc
-    last_one [] (z ∷ ys) x y e = absurd (not_nil ys [] y (let r : ys ++ y ∷ [] ≡ [] = cc in r))
-    last_one (z ∷ xs) [] x y e = absurd (not_nil xs [] x (let r : xs ++ x ∷ [] ≡ [] = cc in r))
-    last_one (z ∷ xs) (w ∷ ys) x y e = last_one xs ys x y (let r : xs ++ x ∷ [] ≡ ys ++ y ∷ [] = cc in r)
+ended c h front e q other b =
+    other (last_one (own c h) (own c front) e (Begin c) (sym (own_here c h e q) ∙ own_begun c (h ++ e ∷ []) front b))

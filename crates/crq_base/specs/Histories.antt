@@ -53,9 +53,9 @@ pub record Began (caller : ℕ) (history front : List Entry) : Type 0 where
   pub parts : history ≡ front ++ Begin caller ∷ back
   pub last : own caller back ≡ []
 
--- each event that was settled in front and is earlier than this one is taken
+-- no event that was settled in front and isn't taken has a lesser key than this one
 abbrev pub NoneEarlier : List Entry → List Entry → Event → Type 0
-NoneEarlier front history event = (f : Event) → Contains (settleds front) f → IsEarlier f event → Contains (outs history) f
+NoneEarlier front history event = (f : Event) → Contains (settleds front) f → (Contains (outs history) f → ⊥) → IsEarlier f event → ⊥
 
 -- each event that was settled in front and lies below the limit is taken
 abbrev pub NoneBelow : List Entry → List Entry → ℕ → Type 0

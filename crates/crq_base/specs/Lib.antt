@@ -3,3 +3,4 @@ pub mod Words
 pub mod Starts
 pub mod Entries
 pub mod Histories
+pub mod Faults

@@ -7,6 +7,7 @@ mod event;
 mod first;
 mod holder;
 mod kinds;
+mod legality;
 mod words;
 
 pub use entry::Entry;
@@ -14,4 +15,5 @@ pub use event::{Event, order_law};
 pub use first::First;
 pub use holder::Holder;
 pub use kinds::StepKind;
+pub use legality::{Fault, judge};
 pub use words::{Control, Current, Link, Mark, Pin, Stamp, spelling_law, word_law};
