@@ -1,4 +1,5 @@
 pub mod EventListLemmas
+pub mod GeneratedLemmas
 pub mod ReactionLemmas
 pub mod RunLemmas
 pub mod ScheduleLemmas

@@ -1,5 +1,5 @@
 -- The variables of a run, and its steps.
-use Rattle.std.proofs.Common.{◌≡◌, ℕ, suc, ◌+◌, ◌-◌, ◌*◌, ◌<◌, ◌≤◌, List, [], ◌∷◌, ◌++◌, length, get_or, set, refl, arith, ap, sym, ◌∙◌, subst, add-one, add-zero, add-suc, zero}
+use Rattle.std.proofs.Common.{◌≡◌, ℕ, suc, ◌+◌, ◌-◌, ◌*◌, ◌≤◌, List, [], ◌∷◌, ◌++◌, length, get_or, set, refl, arith, ap, sym, ◌∙◌, subst, add-one, add-zero, add-suc, zero}
 use Rattle.std.proofs.lemmas.List.{get_or_read}
 use Rattle.std.specs.List.{AllByRecursion}
 use Rattle.crq_base.specs.declared.event.Event.{Event}
@@ -8,7 +8,7 @@ use Rattle.crq_sim.specs.declared.run.Run.{Run}
 use Rattle.crq_sim.specs.declared.traces.ObjectTrace.{ObjectTrace}
 use Rattle.crq_sim.specs.declared.traces.Step.{Step}
 use Rattle.crq_sim.specs.EventLists.{with_events, IsFirst}
-use Rattle.crq_sim.specs.Models.{ModelData, IsModel, IsObject}
+use Rattle.crq_sim.specs.Models.{ModelData, IsModel}
 use Rattle.crq_sim.specs.Reactions.{behaviour_at, sends_of, state_after, IsWordOf}
 use Rattle.crq_sim.specs.Runs.{Simulation, state_of, step_of, run_first, after_events, traces_of, IsOverWithin, traces_within}
 use Rattle.crq_sim.specs.Shown.{Shows, IsNext, with_step}

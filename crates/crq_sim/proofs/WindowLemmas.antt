@@ -1,6 +1,6 @@
 -- The windows of a serial run.
-use Rattle.std.proofs.Common.{◌≡◌, ◌⊎◌, ℕ, zero, suc, ◌+◌, ◌-◌, ◌<◌, ◌≤◌, List, [], ◌∷◌, refl, arith, ap, sym, ◌∙◌, subst, inl, inr, add-one}
-use Rattle.std.proofs.lemmas.Bool.{cases_eq, cases_lt}
+use Rattle.std.proofs.Common.{◌≡◌, ℕ, zero, suc, ◌+◌, ◌<◌, ◌≤◌, List, [], ◌∷◌, refl, arith, ap, sym, ◌∙◌, subst, inl, inr, add-one}
+use Rattle.std.proofs.lemmas.Bool.{cases_eq}
 use Rattle.crq_base.specs.declared.event.Event.{Event}
 use Rattle.crq_sim.specs.EventLists.{IsFirst}
 use Rattle.crq_sim.specs.Models.{ModelData, IsModel}

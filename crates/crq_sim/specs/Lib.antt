@@ -7,3 +7,4 @@ pub mod Runs
 pub mod Windows
 pub mod Shown
 pub mod Ends
+pub mod Generated

@@ -2,6 +2,7 @@
 #![tactic(auto)]
 
 mod draws;
+mod generated;
 mod memory;
 mod model;
 mod name;
@@ -16,6 +17,7 @@ mod targets;
 mod traces;
 
 pub use draws::draw;
+pub use generated::generate;
 pub use memory::Memory;
 pub use model::{Behaviour, BehaviourName, Model, Object, Objects, Start, Starts};
 pub use name::Name;
@@ -26,3 +28,6 @@ pub use sequence::Sequence;
 pub use serial_run::{SimEnd, serial};
 pub use targets::Targets;
 pub use traces::{ObjectTrace, Step, Steps, Traces};
+
+#[cfg(test)]
+mod tests;
