@@ -1,9 +1,11 @@
 pub mod EventListLemmas
 pub mod GeneratedLemmas
+pub mod OrderLemmas
 pub mod ReactionLemmas
 pub mod RunLemmas
 pub mod ScheduleLemmas
 pub mod Sound
 pub mod StartLemmas
 pub mod TraceLemmas
+pub mod WindowCounts
 pub mod WindowLemmas

@@ -96,6 +96,20 @@ stays m n (suc k) h =
     let once = stays_once m w.states w.pending w.log before.0 in
     rw add-suc (once.0, once.1 ∙ before.1)
 
+empty_kept : (m : ModelData) (states : List ObjectState) (pending : List Event) (log : List Step) → pending ≡ [] → run_first m states pending log ≡ (record { states = states; pending = pending; log = log })
+unfolding run_first
+empty_kept m states pending log h = rw h refl
+
+-- nor do the states
+pub kept : (m : ModelData) (n k : ℕ) → (after_events m n).pending ≡ [] → after_events m (n + k) ≡ after_events m n
+unfolding after_events
+kept m n zero h = rw add-zero refl
+kept m n (suc k) h =
+    let w = after_events m (n + k) in
+    let before : w ≡ after_events m n = kept m n k h in
+    let none : w.pending ≡ [] = ap (λ (x : Simulation). x.pending) before ∙ h in
+    rw add-suc (empty_kept m w.states w.pending w.log none ∙ before)
+
 -- where nothing is pending the run is over, and stays so up to the cap
 pub over_within : (m : ModelData) (made cap : ℕ) (traces : List ObjectTrace) → made ≤ cap → (after_events m made).pending ≡ [] → traces ≡ traces_of m.objects (after_events m made).log
     → IsOverWithin m cap × (traces ≡ traces_within m cap)

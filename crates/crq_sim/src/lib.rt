@@ -3,6 +3,7 @@
 
 mod draws;
 mod generated;
+mod laws;
 mod memory;
 mod model;
 mod name;
@@ -18,6 +19,7 @@ mod traces;
 
 pub use draws::draw;
 pub use generated::generate;
+pub use laws::{end_law, one_window_law, order_law};
 pub use memory::Memory;
 pub use model::{Behaviour, BehaviourName, Model, Object, Objects, Start, Starts};
 pub use name::Name;
