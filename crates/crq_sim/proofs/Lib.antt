@@ -1,5 +1,6 @@
 pub mod EventListLemmas
 pub mod GeneratedLemmas
+pub mod NextWindow
 pub mod OrderLemmas
 pub mod ReactionLemmas
 pub mod RunLemmas
@@ -9,3 +10,4 @@ pub mod StartLemmas
 pub mod TraceLemmas
 pub mod WindowCounts
 pub mod WindowLemmas
+pub mod WindowRunLemmas

@@ -8,3 +8,4 @@ pub mod Windows
 pub mod Shown
 pub mod Ends
 pub mod Generated
+pub mod WindowRuns

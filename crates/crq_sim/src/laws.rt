@@ -1,12 +1,14 @@
 //! Laws of the serial run and its windows. Each function states one law, and does nothing.
 
-ghost use Rattle.std.specs.Prelude.{◌≡◌, ◌⊎◌, ◌↔◌, ℕ, ◌+◌, List, []};
+ghost use Rattle.std.specs.Prelude.{◌≡◌, ◌⊎◌, ◌↔◌, ℕ, ◌+◌, List, [], ◌++◌, length};
+ghost use Rattle.std.specs.List.{AllByRecursion};
 ghost use Rattle.crq_base.specs.declared.event.Event.{Event};
 ghost use Rattle.crq_base.specs.Keys.{IsBefore};
 ghost use Rattle.crq_sim.specs.EventLists.{with_event, AreInOrder, IsIn, IsFirst};
 ghost use Rattle.crq_sim.specs.Models.{ModelData, IsModel};
-ghost use Rattle.crq_sim.specs.Runs.{after_events};
-ghost use Rattle.crq_sim.specs.Windows.{IsWindowEnd, IsInWindow};
+ghost use Rattle.crq_sim.specs.Runs.{Simulation, after_events};
+ghost use Rattle.crq_sim.specs.WindowRuns.{events_later, AreBelow, AreFrom, CanRun, RunsWindow};
+ghost use Rattle.crq_sim.specs.Windows.{EndsWindow, IsWindowEnd, IsInWindow};
 
 /// Once nothing is pending nothing changes, so it doesn't matter how many more events are asked for.
 pub fn end_law()
@@ -26,4 +28,20 @@ pub fn one_window_law()
     ensures some { (m : ModelData) (n : ℕ) → IsModel m → ((after_events m n).pending ≡ [] → ⊥) → (k : ℕ) × IsInWindow m k n }
     ensures one { (m : ModelData) (k k' n : ℕ) → IsInWindow m k n → IsInWindow m k' n → k ≡ k' }
     ensures end { (m : ModelData) (k n n' : ℕ) → IsWindowEnd m k n → IsWindowEnd m k n' → n ≡ n' }
+{}
+
+/// Running the events below an edge does at each object what the object's own events do, in whatever order the objects
+/// are taken, where none of these events may send below the edge.
+pub fn window_law()
+    ensures { (m : ModelData) (edge : ℕ) (below rest : List Event) (w : Simulation) → IsModel m → length w.states ≡ length m.objects → w.pending ≡ below ++ rest
+        → AllByRecursion (CanRun m edge) below → AreFrom edge rest → RunsWindow m edge w below rest (events_later m (length below) w) }
+{}
+
+/// From each point of the serial run, the events below the time of the first one plus the lookahead stand in front:
+/// they are the next window, and running them is the next part of the run (Nicol, "The cost of conservative
+/// synchronization in parallel discrete event simulations", 1993).
+pub fn next_window_law()
+    ensures { (m : ModelData) (i : ℕ) (e : Event) → IsModel m → IsFirst e (after_events m i).pending
+        → (below : List Event) × (rest : List Event) × ((after_events m i).pending ≡ below ++ rest) × AreBelow (e.time + m.lookahead) below × AreFrom (e.time + m.lookahead) rest
+        × EndsWindow m i (i + length below) × RunsWindow m (e.time + m.lookahead) (after_events m i) below rest (after_events m (i + length below)) }
 {}

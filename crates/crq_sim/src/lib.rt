@@ -19,7 +19,7 @@ mod traces;
 
 pub use draws::draw;
 pub use generated::generate;
-pub use laws::{end_law, one_window_law, order_law};
+pub use laws::{end_law, next_window_law, one_window_law, order_law, window_law};
 pub use memory::Memory;
 pub use model::{Behaviour, BehaviourName, Model, Object, Objects, Start, Starts};
 pub use name::Name;
