@@ -1,5 +1,5 @@
 -- The variables of a run, and its steps.
-use Rattle.std.proofs.Common.{◌≡◌, ℕ, suc, ◌+◌, ◌-◌, ◌*◌, ◌<◌, ◌≤◌, List, [], ◌∷◌, ◌++◌, length, get_or, set, refl, arith, ap, sym, ◌∙◌, subst, add-one, add-zero, add-suc, zero}
+use Rattle.std.proofs.Common.{◌≡◌, ℕ, suc, ◌+◌, ◌-◌, ◌*◌, ◌≤◌, List, [], ◌∷◌, ◌++◌, length, get_or, set, refl, arith, ap, sym, ◌∙◌, subst, add-one, add-zero, add-suc, zero}
 use Rattle.std.proofs.lemmas.List.{get_or_read}
 use Rattle.std.specs.List.{AllByRecursion}
 use Rattle.crq_base.specs.declared.event.Event.{Event}
@@ -8,7 +8,7 @@ use Rattle.crq_sim.specs.declared.run.Run.{Run}
 use Rattle.crq_sim.specs.declared.traces.ObjectTrace.{ObjectTrace}
 use Rattle.crq_sim.specs.declared.traces.Step.{Step}
 use Rattle.crq_sim.specs.EventLists.{with_events, IsFirst}
-use Rattle.crq_sim.specs.Models.{ModelData, IsModel, IsObject}
+use Rattle.crq_sim.specs.Models.{ModelData, IsModel}
 use Rattle.crq_sim.specs.Reactions.{behaviour_at, sends_of, state_after, IsWordOf}
 use Rattle.crq_sim.specs.Runs.{Simulation, state_of, step_of, run_first, after_events, traces_of, IsOverWithin, traces_within}
 use Rattle.crq_sim.specs.Shown.{Shows, IsNext, with_step}
@@ -95,6 +95,20 @@ stays m n (suc k) h =
     let w = after_events m (n + k) in
     let once = stays_once m w.states w.pending w.log before.0 in
     rw add-suc (once.0, once.1 ∙ before.1)
+
+empty_kept : (m : ModelData) (states : List ObjectState) (pending : List Event) (log : List Step) → pending ≡ [] → run_first m states pending log ≡ (record { states = states; pending = pending; log = log })
+unfolding run_first
+empty_kept m states pending log h = rw h refl
+
+-- nor do the states
+pub kept : (m : ModelData) (n k : ℕ) → (after_events m n).pending ≡ [] → after_events m (n + k) ≡ after_events m n
+unfolding after_events
+kept m n zero h = rw add-zero refl
+kept m n (suc k) h =
+    let w = after_events m (n + k) in
+    let before : w ≡ after_events m n = kept m n k h in
+    let none : w.pending ≡ [] = ap (λ (x : Simulation). x.pending) before ∙ h in
+    rw add-suc (empty_kept m w.states w.pending w.log none ∙ before)
 
 -- where nothing is pending the run is over, and stays so up to the cap
 pub over_within : (m : ModelData) (made cap : ℕ) (traces : List ObjectTrace) → made ≤ cap → (after_events m made).pending ≡ [] → traces ≡ traces_of m.objects (after_events m made).log

@@ -1,6 +1,6 @@
 -- What is known of each simulation of a model.
-use Rattle.std.proofs.Common.{◌≡◌, ◌⊎◌, ℕ, zero, suc, ◌+◌, ◌-◌, ◌*◌, ◌%◌, ◌^◌, ◌<◌, ◌≤◌, min, max, List, [], ◌∷◌, ◌++◌, length, map, get_or, set, cond, true, false, nat_eq, if◌then◌else◌, refl, arith, ap, sym, ◌∙◌, subst, inl, inr, get_or-set_same, get_or-set_other}
-use Rattle.std.specs.Prelude.{◌==◌, All}
+use Rattle.std.proofs.Common.{◌≡◌, ◌⊎◌, ℕ, zero, suc, ◌+◌, ◌-◌, ◌*◌, ◌%◌, ◌^◌, ◌<◌, ◌≤◌, List, [], ◌∷◌, length, map, get_or, set, cond, true, false, nat_eq, if◌then◌else◌, refl, arith, ap, sym, ◌∙◌, subst, inl, inr, get_or-set_same, get_or-set_other}
+use Rattle.std.specs.Prelude.{◌==◌}
 use Rattle.std.proofs.lemmas.Bool.{cases_eq}
 use Rattle.std.proofs.lemmas.Bool.Decides.{nat_tests, leb_tells}
 use Rattle.std.proofs.lemmas.List.{length-set, length-map}
@@ -14,10 +14,10 @@ use Rattle.crq_sim.specs.declared.model.Start.{Start}
 use Rattle.crq_sim.specs.declared.reaction.ObjectState.{ObjectState}
 use Rattle.crq_sim.specs.declared.sends.Post.{Post}
 use Rattle.crq_sim.specs.declared.traces.Step.{Step}
-use Rattle.crq_sim.specs.Draws.{drawn, next_state}
-use Rattle.crq_sim.specs.EventLists.{with_event, with_events, IsAbsent, AreAbsent}
+use Rattle.crq_sim.specs.Draws.{drawn}
+use Rattle.crq_sim.specs.EventLists.{with_event, AreAbsent}
 use Rattle.crq_sim.specs.Models.{ModelData, IsModel, IsObject, IsBehaviour}
-use Rattle.crq_sim.specs.Reactions.{object_at, behaviour_at, first_word, first_state, served, posts_of, word_after, scheduled, sends_of, state_after, IsWordOf}
+use Rattle.crq_sim.specs.Reactions.{behaviour_at, first_word, first_state, posts_of, word_after, scheduled, sends_of, state_after, IsWordOf}
 use Rattle.crq_sim.specs.Runs.{Simulation, state_of, run_first, scheduled_starts, first_states, after_events}
 use Rattle.crq_sim.proofs.EventListLemmas.{absent, All-with_event, All-with_events, All-weaker}
 use Rattle.crq_sim.proofs.ScheduleLemmas.{scheduled_due, scheduled_past, scheduled_none, length-scheduled}
@@ -92,11 +92,12 @@ scheduled_known m o sent e [] all = rw (scheduled_none m.until o sent) tt
 scheduled_known m o sent e (p ∷ ps) all =
     elim (leb_tells p.time m.until) [
       | inl at ↦ (let rest : List Event = scheduled m.until o (sent + 1) ps in
-          rw (scheduled_due m.until o sent p ps at.1)
-          (record { time = at.1; later = all.0.later at.1; there = all.0.there; source = refl; from = omega arith; below = omega arith },
+          rw (scheduled_due m.until o sent p ps at.1) (
+            record { time = at.1; later = all.0.later at.1; there = all.0.there; source = refl; from = omega arith; below = omega arith },
             All-weaker (IsSend m o (sent + 1) (length rest) e) (IsSend m o sent (suc (length rest)) e)
-            (λ f h. record { time = h.time; later = h.later; there = h.there; source = h.source; from = (let k = h.from in omega arith); below = (let k = h.below in omega arith) })
-            rest (scheduled_known m o (sent + 1) e ps all.1)))
+                (λ f h. record { time = h.time; later = h.later; there = h.there; source = h.source; from = (let k = h.from in omega arith); below = (let k = h.below in omega arith) })
+                rest (scheduled_known m o (sent + 1) e ps all.1),
+          ))
       | inr past ↦ rw (scheduled_past m.until o sent p ps past.1) (scheduled_known m o sent e ps all.1)
     ]
 
@@ -209,8 +210,8 @@ sound_step m n states (e ∷ es) log is h =
       ]);
       events = All-with_events (IsDue m states') sends es
           (All-weaker (IsSend m e.dst s.sent (length sends) e) (IsDue m states')
-            (λ f k. record { time = k.time; there = k.there; number = (let b = k.below in let q : next_number m states' f.src ≡ s'.sent = ap (next_number m states') k.source ∙ next_here m states e.dst s' named in_states in omega arith) })
-            sends (sends_known m e.dst s e is there))
+          (λ f k. record { time = k.time; there = k.there; number = (let b = k.below in let q : next_number m states' f.src ≡ s'.sent = ap (next_number m states') k.source ∙ next_here m states e.dst s' named in_states in omega arith) })
+          sends (sends_known m e.dst s e is there))
           (All-weaker (IsDue m states) (IsDue m states') (λ f d. record { time = d.time; there = d.there; number = (let k = d.number in let r = more_sent m states (e.dst - 1) s' f.src inside rising in omega arith) }) es h.events.1);
     }
 
@@ -257,10 +258,12 @@ absent_scheduled until src n [] pending all = rw (scheduled_none until src n) tt
 absent_scheduled until src n (p ∷ ps) pending all =
     let e : Event = record { time = p.time; src = src; seq = n; dst = p.dst; load = p.load } in
     elim (leb_tells p.time until) [
-      | inl at ↦ rw (scheduled_due until src n p ps at.1)
-          (absent e pending all, absent_scheduled until src (n + 1) ps (with_event e pending)
+      | inl at ↦ rw (scheduled_due until src n p ps at.1) (
+        absent e pending all,
+        absent_scheduled until src (n + 1) ps (with_event e pending)
             (All-with_event (λ (f : Event). src ≡ f.src → f.seq < n + 1) e pending (λ _. omega arith)
-              (All-weaker (λ (f : Event). src ≡ f.src → f.seq < n) (λ (f : Event). src ≡ f.src → f.seq < n + 1) (λ f h same. (let k : f.seq < n = h same in omega arith)) pending all)))
+            (All-weaker (λ (f : Event). src ≡ f.src → f.seq < n) (λ (f : Event). src ≡ f.src → f.seq < n + 1) (λ f h same. (let k : f.seq < n = h same in omega arith)) pending all)),
+      )
       | inr past ↦ rw (scheduled_past until src n p ps past.1) (absent_scheduled until src n ps pending all)
     ]
 
@@ -272,4 +275,4 @@ absent_sends m states o e pending named all =
     let number : next_number m states o ≡ (state_of states o).sent = rw not_file refl in
     absent_scheduled m.until o (state_of states o).sent (posts_of m (behaviour_at m o) (state_of states o).word e) pending
     (All-weaker (IsDue m states) (λ (f : Event). o ≡ f.src → f.seq < (state_of states o).sent)
-      (λ f due same. (let k : f.seq < next_number m states f.src = due.number in let q : next_number m states o ≡ next_number m states f.src = ap (next_number m states) same in omega arith)) pending all)
+    (λ f due same. (let k : f.seq < next_number m states f.src = due.number in let q : next_number m states o ≡ next_number m states f.src = ap (next_number m states) same in omega arith)) pending all)

@@ -1,6 +1,6 @@
 -- The windows of a serial run.
-use Rattle.std.proofs.Common.{◌≡◌, ◌⊎◌, ℕ, zero, suc, ◌+◌, ◌-◌, ◌<◌, ◌≤◌, List, [], ◌∷◌, refl, arith, ap, sym, ◌∙◌, subst, inl, inr, add-one}
-use Rattle.std.proofs.lemmas.Bool.{cases_eq, cases_lt}
+use Rattle.std.proofs.Common.{◌≡◌, ℕ, zero, suc, ◌+◌, ◌<◌, ◌≤◌, List, [], ◌∷◌, refl, arith, ap, sym, ◌∙◌, subst, inl, inr, add-one}
+use Rattle.std.proofs.lemmas.Bool.{cases_eq}
 use Rattle.crq_base.specs.declared.event.Event.{Event}
 use Rattle.crq_sim.specs.EventLists.{IsFirst}
 use Rattle.crq_sim.specs.Models.{ModelData, IsModel}
@@ -8,7 +8,7 @@ use Rattle.crq_sim.specs.Runs.{after_events}
 use Rattle.crq_sim.specs.Windows.{IsNextBelow, edge_of, edge_at, AreBelowEdge, EndsWindow, IsWindowEnd, IsInWindow, IsIn, Tracks}
 
 -- the first pending event tells the edge of a window that begins with it
-first_edge : (lookahead : ℕ) (pending : List Event) (e : Event) → IsFirst e pending → edge_of lookahead pending ≡ e.time + lookahead
+pub first_edge : (lookahead : ℕ) (pending : List Event) (e : Event) → IsFirst e pending → edge_of lookahead pending ≡ e.time + lookahead
 first_edge lookahead [] e h = absurd h
 first_edge lookahead (f ∷ fs) e h = ap (λ (x : Event). x.time + lookahead) (sym h)
 

@@ -1,5 +1,5 @@
 -- Why a run under a cap on events leaves no traces.
-use Rattle.std.specs.Prelude.{◌≡◌, ℕ}
+use Rattle.std.specs.Prelude.{ℕ}
 use Rattle.crq_sim.specs.declared.serial_run.SimEnd.{SimEnd}
 use Rattle.crq_sim.specs.declared.serial_run.SimEnd.TheVariants.{Memory, Events}
 use Rattle.crq_sim.specs.Models.{ModelData}

@@ -7,3 +7,5 @@ pub mod Runs
 pub mod Windows
 pub mod Shown
 pub mod Ends
+pub mod Generated
+pub mod WindowRuns

@@ -2,6 +2,8 @@
 #![tactic(auto)]
 
 mod draws;
+mod generated;
+mod laws;
 mod memory;
 mod model;
 mod name;
@@ -16,6 +18,8 @@ mod targets;
 mod traces;
 
 pub use draws::draw;
+pub use generated::generate;
+pub use laws::{end_law, next_window_law, one_window_law, order_law, window_law};
 pub use memory::Memory;
 pub use model::{Behaviour, BehaviourName, Model, Object, Objects, Start, Starts};
 pub use name::Name;
@@ -26,3 +30,6 @@ pub use sequence::Sequence;
 pub use serial_run::{SimEnd, serial};
 pub use targets::Targets;
 pub use traces::{ObjectTrace, Step, Steps, Traces};
+
+#[cfg(test)]
+mod tests;

@@ -117,7 +117,10 @@ fn act(
         }
         Behaviour::Fan { delay, targets } => {
             let due = time + u64::from(*delay);
-            (event.load, source.schedule_each(due, event.load, targets.as_slice()))
+            (
+                event.load,
+                source.schedule_each(due, event.load, targets.as_slice()),
+            )
         }
         Behaviour::Sink => (word.wrapping_add(event.load), Sends::none()),
     }

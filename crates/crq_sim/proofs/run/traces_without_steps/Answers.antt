@@ -1,5 +1,3 @@
-use Rattle.std.proofs.Common.{◌∙◌, ◌++◌, ◌∷◌, [], ap}
-use Rattle.crq_sim.specs.declared.traces.ObjectTrace.{ObjectTrace}
 use Rattle.crq_sim.proofs.TraceLemmas.{trace_pushed}
 use Rattle.crq_sim.proofs.run.traces_without_steps.Goals as goal
 

@@ -1,7 +1,7 @@
-use Rattle.std.proofs.Common.{◌≡◌, ◌+◌, ◌≤◌, ◌<◌, ℕ, None, Option, arith, ap, sym, subst, ◌∙◌}
+use Rattle.std.proofs.Common.{◌≡◌, ◌+◌, ℕ, None, Option, arith, ap, subst, ◌∙◌}
 use Rattle.crq_sim.specs.Runs.{after_events, traces_of}
 use Rattle.crq_sim.specs.Shown.{Advances}
-use Rattle.crq_sim.specs.Windows.{Tracks, IsInWindow}
+use Rattle.crq_sim.specs.Windows.{Tracks}
 use Rattle.crq_sim.proofs.RunLemmas.{over_within, more_than}
 use Rattle.crq_sim.proofs.WindowLemmas.{tracked}
 use Rattle.crq_sim.proofs.serial_run.serial.Goals as goal

@@ -1,4 +1,4 @@
-use Rattle.std.proofs.Common.{◌≡◌, ◌≤◌, ◌<◌, ◌*◌, ◌∙◌, ap, arith, sym, List, subst, refl, []}
+use Rattle.std.proofs.Common.{◌≡◌, ◌∙◌, ap, arith, sym, List, subst, refl, []}
 use Rattle.crq_base.specs.declared.event.Event.{Event}
 use Rattle.crq_sim.specs.declared.reaction.ObjectState.{ObjectState}
 use Rattle.crq_sim.specs.declared.model.BehaviourName.TheVariants.{Sink}
@@ -67,12 +67,14 @@ insert_each-requires c =
 pub returns : goal.returns
 returns c =
     let s = read (goal.at.returns c).After-index in
-    let sends = c.as_slice.ensures.value ∙ c.react-sends.ensures.sends ∙ ap (λ (x : ObjectState). sends_of c.args.model.now c.args.event.dst x c.args.event) s in
-    (ran_shows c.args.model.now c.args.self.now _ c.args.event c.react-sends.new.state c.is_model.ensures c.requires.next
-      (record {
-        state = c.react-sends.ensures.state ∙ ap (λ (x : ObjectState). state_after c.args.model.now c.args.event.dst x c.args.event) s;
-        states_are = refl;
-        pending_is = c.in_ok-insert_each.ensures ∙ ap (λ (es : List Event). with_events es c.args.self.now.pending) sends;
-        traces_are = c.in_ok-push_step.ensures;
-      })
-      no_trace refl, refl)
+    let sends = c.as_slice.ensures.value ∙ c.react-sends.ensures.sends ∙ ap (λ (x : ObjectState). sends_of c.args.model.now c.args.event.dst x c.args.event) s in (
+      ran_shows c.args.model.now c.args.self.now _ c.args.event c.react-sends.new.state c.is_model.ensures c.requires.next
+          (record {
+            state = c.react-sends.ensures.state ∙ ap (λ (x : ObjectState). state_after c.args.model.now c.args.event.dst x c.args.event) s;
+            states_are = refl;
+            pending_is = c.in_ok-insert_each.ensures ∙ ap (λ (es : List Event). with_events es c.args.self.now.pending) sends;
+            traces_are = c.in_ok-push_step.ensures;
+          })
+          no_trace refl,
+      refl,
+    )

@@ -1,4 +1,4 @@
-use Rattle.std.proofs.Common.{◌≡◌, ◌<◌, ◌≤◌, ◌+◌, ◌++◌, ◌∷◌, [], ap, sym, ◌∙◌, arith, length}
+use Rattle.std.proofs.Common.{◌<◌, ◌≤◌, ◌+◌, ◌++◌, ◌∷◌, [], ap, sym, ◌∙◌, arith, length}
 use Rattle.std.proofs.lemmas.List.{append-nil}
 use Rattle.crq_sim.proofs.ScheduleLemmas.{event_of, scheduled_due, scheduled_past, scheduled_none}
 use Rattle.crq_sim.proofs.sends.Source.schedule.Goals as goal

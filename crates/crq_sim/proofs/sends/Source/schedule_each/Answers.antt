@@ -1,4 +1,4 @@
-use Rattle.std.proofs.Common.{◌∙◌, sym, ap, List, ◌≤◌, length, arith}
+use Rattle.std.proofs.Common.{◌∙◌, sym, ap, length, arith}
 use Rattle.crq_base.specs.declared.event.Event.{Event}
 use Rattle.crq_sim.proofs.ScheduleLemmas.{scheduled_none, sent_next}
 use Rattle.crq_sim.proofs.sends.Source.schedule_each.Goals as goal

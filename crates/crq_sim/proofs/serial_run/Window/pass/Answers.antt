@@ -1,5 +1,4 @@
-use Rattle.std.proofs.Common.{◌≡◌, ◌+◌, ◌≤◌, ◌<◌, ℕ, arith, ap, sym, subst, ◌∙◌}
-use Rattle.crq_sim.specs.Windows.{Tracks}
+use Rattle.std.proofs.Common.{◌≡◌, ◌+◌, arith}
 use Rattle.crq_sim.proofs.WindowLemmas.{tracks_same, tracks_next, few_tracked}
 use Rattle.crq_sim.proofs.serial_run.Window.pass.Goals as goal
 use Rattle.crq_sim.proofs.serial_run.Window.pass.Goals.{then-from-self, else-from-self}
