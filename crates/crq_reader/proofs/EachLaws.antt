@@ -1,7 +1,7 @@
 -- Steps in order, one after another.
 use Rattle.std.proofs.Common.{◌≡◌, ℕ, ◌+◌, ◌<◌, ◌≤◌, List, [], ◌∷◌, ◌++◌, length, get_or, drop, map, Bool, true, false, cond, if◌then◌else◌, Option, Some, None, ok_or, Result, Ok, Err, refl, sym, ap, ◌∙◌, subst, arith, append_assoc, append-nil, length-append}
 use Rattle.std.specs.List.{AllZip, filter_map, cons_option}
-use Rattle.std.proofs.lemmas.List.{drop_more, drop_all}
+use Rattle.std.proofs.lemmas.List.{drop_more, drop_all, map-append}
 use Rattle.crq_reader.specs.Language.{and_then, each, told}
 use Rattle.crq_reader.specs.declared.fault.Fault.{Fault}
 use Rattle.crq_reader.specs.declared.fault.ModelFault.{ModelFault}
@@ -75,6 +75,22 @@ length-each step done [] ys e = let is : done ≡ ys = cc in omega (arith, ap le
 length-each step done (x ∷ xs) ys e =
     let made = and_then_ok (step done x) (λ y. each step (done ++ y ∷ []) xs) ys e in
     omega (arith, length-each step (done ++ made.0 ∷ []) xs ys made.2, length-append done (made.0 ∷ []))
+
+-- ---- all steps made
+
+module _ {A B F X : Type 0} (step : List B → A → Result B F) (f : X → A) (g : X → B) where
+  all_from : (before rest : List X) → ((b : List X) (x : X) (r : List X) → b ++ x ∷ r ≡ before ++ rest → step (map g b) (f x) ≡ Ok (g x)) → each step (map g before) (map f rest) ≡ Ok (map g (before ++ rest))
+  unfolding each
+  all_from before [] h = ap (λ xs. Ok (map g xs)) (sym (append-nil before))
+  all_from before (x ∷ xs) h =
+      let joined = append_assoc before (x ∷ []) xs in
+      ap (λ r. and_then r (λ y. each step (map g before ++ y ∷ []) (map f xs))) (h before x xs refl)
+      ∙ ap (λ ys. each step ys (map f xs)) (sym (map-append g before (x ∷ [])))
+      ∙ all_from (before ++ x ∷ []) xs (λ b y r e. h b y r (e ∙ joined))
+      ∙ ap (λ ys. Ok (map g ys)) joined
+
+  pub each_all : (xs : List X) → ((b : List X) (x : X) (r : List X) → b ++ x ∷ r ≡ xs → step (map g b) (f x) ≡ Ok (g x)) → each step [] (map f xs) ≡ Ok (map g xs)
+  each_all xs h = all_from [] xs h
 
 -- ---- the same where elements are passed over
 

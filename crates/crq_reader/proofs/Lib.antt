@@ -5,3 +5,7 @@ pub mod EachLaws
 pub mod ReadLaws
 pub mod ModelLaws
 pub mod JsonLaws
+pub mod NewlineLaws
+pub mod BackLaws
+pub mod CanonicalLaws
+pub mod TextLaws

@@ -224,18 +224,22 @@ starts_of names = each (next_start names) []
 
 -- ---- the whole file
 
-abbrev pub model_of : Data → Result ModelData ModelFault
-model_of d =
-    and_then (told in_file (header d)) (λ h.
-    and_then (named_objects h.lookahead h.objects) (λ named.
+abbrev pub objects_then : Header → List Named → Result ModelData ModelFault
+objects_then h named =
     and_then (objects_of named) (λ objects.
     and_then (starts_of (names_of named) h.starts) (λ starts.
-    Ok (record { lookahead = h.lookahead; until = h.until; objects = objects; starts = starts })))))
+    Ok (record { lookahead = h.lookahead; until = h.until; objects = objects; starts = starts })))
+
+abbrev pub elements_then : Header → Result ModelData ModelFault
+elements_then h = and_then (named_objects h.lookahead h.objects) (objects_then h)
+
+abbrev pub model_of : Data → Result ModelData ModelFault
+model_of d = and_then (told in_file (header d)) elements_then
 
 abbrev pub of_value : Option Data → Result ModelData ModelFault
 of_value None = Err (in_file NotJson)
 of_value (Some d) = model_of d
 
 -- the bytes of a file
-abbrev pub language : List ℕ → Result ModelData ModelFault
+unfoldable pub language : List ℕ → Result ModelData ModelFault
 language bytes = if is_utf8 bytes then of_value (read bytes) else Err (in_file NotJson)

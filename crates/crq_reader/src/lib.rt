@@ -10,6 +10,8 @@ mod objects;
 mod read;
 mod resolved;
 mod starts;
+mod text;
 
 pub use fault::{Fault, ModelFault, Place};
 pub use read::read_model;
+pub use text::model_text;
