@@ -1,0 +1,15 @@
+use Rattle.std.proofs.Common.{◌≡◌, ◌⊎◌, sym, subst}
+use Rattle.crq_top.specs.declared.ending.Status.TheVariants as statuses
+use Rattle.crq_top.proofs.Meaning.{more_known, over_known, over_capped}
+use Rattle.crq_top.proofs.Spelling.{one_run}
+use Rattle.crq_top.proofs.running.run.Goals as goal
+
+pub returns-clause-events_exactly : goal.returns-clause-events_exactly
+returns-clause-events_exactly g c = λ a bytes m cap asked told short is capped more none.
+    subst (λ s. (s ≡ statuses.Events) ⊎ (s ≡ statuses.Memory) ⊎ (s ≡ statuses.Write)) (sym c.status.ensures)
+    (more_known _ _ _ _ _ _ _ _ a bytes m cap c.run_to_ending.result (record { asked = asked; alone = (λ b k. one_run _ b a k asked); told = told; short = short; is = is; no_fault = none }) capped more c.run_to_ending.ensures)
+
+pub returns-clause-complete : goal.returns-clause-complete
+returns-clause-complete g c = λ a bytes m cap asked told short is capped over none written.
+    subst (λ s. (s ≡ statuses.Ok) ⊎ (s ≡ statuses.Memory)) (sym c.status.ensures)
+    (over_known _ _ _ _ _ _ _ _ a bytes m c.run_to_ending.result (record { asked = asked; alone = (λ b k. one_run _ b a k asked); told = told; short = short; is = is; no_fault = none }) (over_capped a m cap capped over) written c.run_to_ending.ensures)

@@ -1,0 +1,4 @@
+pub mod Commands
+pub mod Lines
+pub mod Endings
+pub mod Meanings

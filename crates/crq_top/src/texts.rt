@@ -1,0 +1,194 @@
+//! The text of each command, or why there is none.
+
+ghost use Rattle.std.specs.Prelude.{◌≡◌, ℕ, ◌⊎◌, ◌≤◌, IfOk, IfErr, List, Some, Ok};
+ghost use Rattle.crq_io.specs.Faults.{Rose, NoFault};
+ghost use Rattle.crq_reader.specs.Canonical.{canonical};
+ghost use Rattle.crq_sim.specs.Ends.{IsEndOf};
+ghost use Rattle.crq_sim.specs.Generated.{generated};
+ghost use Rattle.crq_sim.specs.Models.{ModelData};
+ghost use Rattle.crq_sim.specs.Runs.{IsOverWithin, traces_within};
+ghost use Rattle.crq_printer.specs.Texts.{trace_text_of};
+ghost use Rattle.crq_top.specs.Commands.{Asked, IsBetween, IsInRange, asked_of};
+ghost use Rattle.crq_top.specs.Lines.{check_line};
+ghost use Rattle.crq_top.specs.Meanings.{Names, IsCap, IsModelOf, IsTextOf, IsCause, IsEndingOf, IsEndingOfRun, AreBytesOf};
+
+use crate::command::Command;
+use crate::ending::Ending;
+use crq_io::{Fetch, Files};
+use crq_printer::trace_text;
+use crq_reader::{Fault, ModelFault, model_text, read_model};
+use crq_sim::{Memory, Model, SimEnd, Traces, generate, serial};
+use std::alloc::{AllocError, Global};
+use std::thread::Threads;
+
+/// How many bytes a model file may have.
+const MOST_BYTES: u64 = 16_777_216;
+
+/// The bytes of a model file.
+fn bytes_of<F: Files>(
+    alloc: Global,
+    files: &mut F,
+    name: &str,
+    command: &Command,
+) -> Result<Vec<u8>, Ending>
+    requires { Names (asked_of command.now) name.now }
+    ensures ok { IfOk result (λ bytes. AreBytesOf (F.found files.old) (asked_of command.now) bytes.items) }
+    ensures err { IfErr result (λ e. IsCause (F.found files.old) (F.faults files.old) (F.faults files.new) (asked_of command.now) e) }
+{
+    match files.fetch(alloc, name, MOST_BYTES) {
+        Ok(bytes) => Ok(bytes),
+        Err(Fetch::Memory) => Err(Ending::Memory),
+        Err(Fetch::Long) => Err(Ending::Long),
+        Err(Fetch::Failed) => Err(Ending::Read),
+        Err(Fetch::NoFile) => Err(Ending::Read),
+    }
+}
+
+/// The ending of a text that is no model; want of memory says nothing of the text.
+fn ending_of(fault: ModelFault) -> Ending
+    ensures { IsEndingOf fault result }
+{
+    match fault.number {
+        Fault::Memory => Ending::Memory,
+        _ => Ending::Model(fault),
+    }
+}
+
+/// The model that the file spells.
+fn model_of<F: Files>(
+    alloc: Global,
+    files: &mut F,
+    name: &str,
+    command: &Command,
+) -> Result<Model, Ending>
+    requires { Names (asked_of command.now) name.now }
+    ensures ok { IfOk result (λ m. IsModelOf (F.found files.old) (asked_of command.now) m) }
+    ensures err { IfErr result (λ e. IsCause (F.found files.old) (F.faults files.old) (F.faults files.new) (asked_of command.now) e) }
+{
+    let bytes = bytes_of(alloc, files, name, command)?;
+    match read_model(alloc, bytes.as_slice()) {
+        Ok(model) => Ok(model),
+        Err(fault) => Err(ending_of(fault)),
+    }
+}
+
+/// The traces of the serial run, where it has at most `events` events.
+fn traces_of(alloc: Global, model: &Model, events: u32) -> Result<Traces, Ending>
+    requires { events ≤ 4194304 }
+    ensures ok { IfOk result (λ t. IsOverWithin model.now events × (t ≡ traces_within model.now events)) }
+    ensures err { IfErr result (λ e. IsEndingOfRun model.now events e) }
+{
+    match serial(alloc, model, events) {
+        Ok(traces) => Ok(traces),
+        Err(SimEnd::Memory) => Err(Ending::Memory),
+        Err(SimEnd::Events(window)) => Err(Ending::Events(window)),
+    }
+}
+
+/// The trace text of the serial run, where it has at most `events` events.
+fn text_of_run<R: Threads + Sync>(
+    rt: &R,
+    alloc: Global,
+    model: &Model,
+    events: u32,
+) -> Result<Vec<u8>, Ending>
+    requires { events ≤ 4194304 }
+    ensures ok { IfOk result (λ t. IsOverWithin model.now events × (t.items ≡ trace_text_of (traces_within model.now events))) }
+    ensures err { IfErr result (λ e. IsEndingOfRun model.now events e) }
+{
+    let traces = traces_of(alloc, model, events)?;
+    match trace_text(rt, alloc, &traces) {
+        Ok(text) => Ok(text),
+        Err(Memory) => Err(Ending::Memory),
+    }
+}
+
+/// The text of a run of the model under that name.
+fn run_text<F: Files, R: Threads + Sync>(
+    rt: &R,
+    alloc: Global,
+    files: &mut F,
+    name: &str,
+    events: u32,
+    command: &Command,
+) -> Result<Vec<u8>, Ending>
+    requires named { Names (asked_of command.now) name.now }
+    requires capped { IsCap (asked_of command.now) events }
+    requires few { events ≤ 4194304 }
+    ensures ok { IfOk result (λ t. (m : ModelData) × IsModelOf (F.found files.old) (asked_of command.now) m × IsOverWithin m events × (t.items ≡ trace_text_of (traces_within m events))) }
+    ensures err { IfErr result (λ e. IsCause (F.found files.old) (F.faults files.old) (F.faults files.new) (asked_of command.now) e) }
+{
+    let model = model_of(alloc, files, name, command)?;
+    text_of_run(rt, alloc, &model, events)
+}
+
+/// The line that tells the size of a model.
+fn check_text(alloc: Global, model: &Model) -> Result<Vec<u8>, Ending>
+    ensures ok { IfOk result (λ t. t.items ≡ check_line model.now) }
+    ensures err { IfErr result (λ e. e ≡ Ending.Memory) }
+{
+    let objects = model.objects().len();
+    let starts = model.starts().len();
+    let lookahead = model.lookahead();
+    let until = model.until();
+    match format!(in alloc; "model {objects} {starts} {lookahead} {until}\n") {
+        Ok(line) => Ok(line.into_bytes()),
+        Err(AllocError) => Err(Ending::Memory),
+    }
+}
+
+/// The text of a generated model.
+fn generated_text(
+    alloc: Global,
+    seed: u64,
+    objects: u32,
+    population: u32,
+) -> Result<Vec<u8>, Ending>
+    requires objects { IsBetween 1 65535 objects }
+    requires population { population ≤ 65535 }
+    ensures ok { IfOk result (λ t. t.items ≡ canonical (generated seed objects population)) }
+    ensures err { IfErr result (λ e. e ≡ Ending.Memory) }
+{
+    match generate(alloc, seed, objects, population) {
+        Ok(model) => canonical_text(alloc, &model),
+        Err(Memory) => Err(Ending::Memory),
+    }
+}
+
+/// The canonical text of a model.
+fn canonical_text(alloc: Global, model: &Model) -> Result<Vec<u8>, Ending>
+    ensures ok { IfOk result (λ t. t.items ≡ canonical model.now) }
+    ensures err { IfErr result (λ e. e ≡ Ending.Memory) }
+{
+    match model_text(alloc, model) {
+        Ok(text) => Ok(text),
+        Err(Memory) => Err(Ending::Memory),
+    }
+}
+
+/// The text of a command, or why it has none.
+pub(crate) fn text_of<F: Files, R: Threads + Sync>(
+    rt: &R,
+    alloc: Global,
+    command: &Command,
+    files: &mut F,
+) -> Result<Vec<u8>, Ending>
+    requires { IsInRange (asked_of command.now) }
+    ensures ok { IfOk result (λ t. IsTextOf (F.found files.old) (asked_of command.now) t.items) }
+    ensures err { IfErr result (λ e. IsCause (F.found files.old) (F.faults files.old) (F.faults files.new) (asked_of command.now) e) }
+{
+    match command {
+        Command::Run { model, events, .. } | Command::Serial { model, events } => {
+            run_text(rt, alloc, files, model, *events, command)
+        }
+        Command::Check { model } => {
+            let model = model_of(alloc, files, model, command)?;
+            check_text(alloc, &model)
+        }
+        Command::Gen {
+            seed,
+            objects,
+            population,
+        } => generated_text(alloc, *seed, *objects, *population),
+    }
+}
