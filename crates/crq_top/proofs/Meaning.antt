@@ -14,13 +14,11 @@ use Rattle.crq_top.specs.declared.ending.Status.TheVariants as statuses
 use Rattle.crq_top.specs.Endings.{line_of, status_of}
 use Rattle.crq_top.specs.Meanings.{Found, Names, IsCap, AreBytesOf, IsModelOf, IsFaultOf, IsTextOf, CannotRead, IsTooLong, HasMoreEvents, IsCause, IsDue, text_due, ending_due, EndsAs, Concludes, Prints, Tells, IsCutShort, Means, IsToldOf}
 
-
 appends_none : (old new : Option (List ℕ)) → Appends old new [] → new ≡ old
 appends_none None new h = h
 appends_none (Some xs) new h = h ∙ ap Some (append-nil xs)
 
 module _ (asks : Asked → Type 0) (found : Found) (before now : ℕ) (old new : Option (List ℕ)) (writes_before writes_now : ℕ) where
-
   -- what was due of a call that printed its text, or ended otherwise than by a cut
   by_text : (due : Result (List ℕ) Ending) → IsDue asks found before now due → Concludes old new writes_before writes_now due endings.Ok → Prints asks found old new
   by_text (Ok text) is (inl w) = (is.0, is.1, (text, is.2, w.1))
@@ -134,7 +132,7 @@ pub more_known : (asks : Asked → Type 0) (found : Found) (before now : ℕ) (o
     → (status_of e ≡ statuses.Events) ⊎ (status_of e ≡ statuses.Memory) ⊎ (status_of e ≡ statuses.Write)
 more_known asks found before now old new wb wn a bytes m cap endings.Ok k capped more h =
     (let t = means asks found before now old new wb wn endings.Ok h in
-        absurd (more (over_of found a t.2.0 bytes m cap k.told k.is capped (subst (λ b. IsTextOf found b t.2.0) (k.alone t.0 t.1) t.2.1))))
+    absurd (more (over_of found a t.2.0 bytes m cap k.told k.is capped (subst (λ b. IsTextOf found b t.2.0) (k.alone t.0 t.1) t.2.1))))
 more_known asks found before now old new wb wn a bytes m cap endings.Usage k capped more h = absurd ((means asks found before now old new wb wn endings.Usage h).0 a k.asked)
 more_known asks found before now old new wb wn a bytes m cap (endings.Model f) k capped more h =
     (let t = means asks found before now old new wb wn (endings.Model f) h in absurd (no_fault_of found a bytes m t.0 k.told k.is (moved asks (λ b. IsFaultOf found b t.0) a k.alone t.1.0)))
@@ -179,4 +177,4 @@ no_model_known asks found before now old new wb wn a endings.Long asked alone na
     (let k = moved asks (IsTooLong found) a alone (means asks found before now old new wb wn endings.Long h).0 in absurd (nameless k.name k.named))
 no_model_known asks found before now old new wb wn a (endings.Events w) asked alone nameless none h =
     (let t = means asks found before now old new wb wn (endings.Events w) h in let k = moved asks (λ b. HasMoreEvents found b t.0) a alone t.1.0 in
-        absurd (nameless k.is_model.fetched.name k.is_model.fetched.named))
+    absurd (nameless k.is_model.fetched.name k.is_model.fetched.named))

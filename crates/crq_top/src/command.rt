@@ -10,11 +10,20 @@ use itoa::Buffer;
 #[derive(Clone, Copy, Debug)]
 pub enum Command<'w> {
     /// `run MODEL 1 ROWS EVENTS`: the trace text of the model, where its run has at most so many events.
-    Run { model: &'w str, rows: u32, events: u32 },
+    Run {
+        model: &'w str,
+        rows: u32,
+        events: u32,
+    },
     /// `check MODEL`: the size of the model.
-    Check { model: &'w str },
+    Check {
+        model: &'w str,
+    },
     /// `serial MODEL EVENTS`: the trace text of the serial run.
-    Serial { model: &'w str, events: u32 },
+    Serial {
+        model: &'w str,
+        events: u32,
+    },
     /// `gen SEED OBJECTS POPULATION`: the text of a generated model.
     Gen {
         seed: u64,

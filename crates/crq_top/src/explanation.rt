@@ -76,4 +76,5 @@ impl Display for Explanation<'_> {
 }
 
 /// The forms of the commands.
-const USAGE: &str = "crq: the commands are: run MODEL 1 ROWS EVENTS (ROWS 4 to 131072, EVENTS 1 to 4194304), check MODEL, serial MODEL EVENTS, gen SEED OBJECTS POPULATION (OBJECTS 1 to 65535, POPULATION 0 to 65535)";
+const USAGE: &str =
+    "crq: the commands are: run MODEL 1 ROWS EVENTS (ROWS 4 to 131072, EVENTS 1 to 4194304), check MODEL, serial MODEL EVENTS, gen SEED OBJECTS POPULATION (OBJECTS 1 to 65535, POPULATION 0 to 65535)";

@@ -14,3 +14,6 @@ pub use ending::{Ending, Status};
 pub use explanation::Explanation;
 pub use inspecting::{inspect, inspect_to_ending};
 pub use running::{run, run_to_ending};
+
+#[cfg(test)]
+mod tests;

@@ -23,5 +23,5 @@ returns-in-len4 c =
     let words = four c.args.words.now c.name-item-then-words-lt5.result c.seed-item.result c.objects-item.result c.population-item.result c.in-len4.len_at_least c.in-len4.len_below c.name-item-then-words-lt5.is c.seed-item.is c.objects-item.is c.population-item.is in
     let name = sym c.as_str-then-words-lt5.ensures.value ∙ bytes_same c.as_str-then-words-lt5.result.now (codes "gen") (sym c.if-eq-3.ensures) in
     let texts = ap (map string_bytes) words
-        ∙ λ i. name i ∷ (sym c.as_str-in-len4.ensures.value) i ∷ (sym c.as_str-in-len4-2.ensures.value) i ∷ (sym c.as_str-in-len4-3.ensures.value) i ∷ [] in
+    ∙ λ i. name i ∷ (sym c.as_str-in-len4.ensures.value) i ∷ (sym c.as_str-in-len4-2.ensures.value) i ∷ (sym c.as_str-in-len4-3.ensures.value) i ∷ [] in
     subst (λ ws. MatchOption c.gen_of.result ((a : Asked) → AsksInspect ws a → ⊥) (λ command. AsksInspect ws (asked_of command))) (sym texts) c.gen_of.ensures
