@@ -1,21 +1,20 @@
 -- An event list with one more event, and with several.
-use Rattle.std.proofs.Common.{◌≡◌, ◌⊎◌, ℕ, ◌+◌, ◌<◌, ◌≤◌, List, [], ◌∷◌, Bool, true, false, cond, ◌||◌, refl, arith, ap, length, drop, get_or, sym, ◌∙◌, inl, inr, subst}
+use Rattle.std.proofs.Common.{◌≡◌, ◌⊎◌, ℕ, ◌+◌, ◌<◌, ◌≤◌, List, [], ◌∷◌, Bool, true, false, cond, ◌||◌, refl, arith, ap, length, drop, get_or, sym, ◌∙◌, inl, inr}
 use Rattle.std.proofs.lemmas.Bool.Decides.{nat_tests}
 use Rattle.std.proofs.lemmas.List.{drop_more, drop_all}
-use Rattle.std.specs.BTreeSet.{insert_key}
 use Rattle.std.specs.declared.cmp.Ordering.{Ordering}
 use Rattle.std.specs.declared.cmp.Ordering.TheVariants.{Less, Equal, Greater}
 use Rattle.std.specs.List.{AllByRecursion, list_any}
-use Rattle.std.specs.Ordering.{is_eq, is_lt, nat_cmp, ordering_then, match_ordering}
+use Rattle.std.specs.Ordering.{is_eq, is_lt, nat_cmp, ordering_then}
 use Rattle.crq_base.specs.declared.event.Event.{Event}
 use Rattle.crq_base.specs.Keys.{event_cmp, IsBefore}
 use Rattle.crq_base.proofs.KeyOrder.{before_trans, before_else}
 use Rattle.crq_sim.specs.EventLists.{with_event, with_events, AreInOrder, IsAbsent, AreAbsent}
 
-nat_equal : (a b : ℕ) → nat_cmp a b ≡ Equal → a ≡ b
+pub nat_equal : (a b : ℕ) → nat_cmp a b ≡ Equal → a ≡ b
 nat_equal a b h = grind (arith, nat_tests)
 
-then_equal : (p q : Ordering) → ordering_then p q ≡ Equal → (p ≡ Equal) × (q ≡ Equal)
+pub then_equal : (p q : Ordering) → ordering_then p q ≡ Equal → (p ≡ Equal) × (q ≡ Equal)
 then_equal Less q h = absurd (cc)
 then_equal Equal q h = (refl, h)
 then_equal Greater q h = absurd (cc)
@@ -40,23 +39,10 @@ absent e (f ∷ fs) h =
     let here : is_eq (event_cmp e f) ≡ false = not_equal _ (λ same. let s = alike e f same in let l : f.seq < e.seq = h.0 s.0 in let q : e.seq ≡ f.seq = s.1 in omega arith) in
     rw here (absent e fs h.1)
 
--- a new event goes where std's set puts it
-insert_step : (o : Ordering) (e f : Event) (fs gs hs : List Event) → is_eq o ≡ false → hs ≡ gs
-    → match_ordering o (e ∷ f ∷ fs) (f ∷ fs) (f ∷ hs) ≡ cond (is_lt o) (e ∷ f ∷ fs) (f ∷ gs)
-insert_step Less e f fs gs hs h k = refl
-insert_step Equal e f fs gs hs h k = absurd (cc)
-insert_step Greater e f fs gs hs h k = ap (λ xs. f ∷ xs) k
-
 -- a test that no element of the list passes
 none_passes : (a b : Bool) → (a || b) ≡ false → (a ≡ false) × (b ≡ false)
 none_passes true b h = absurd (cc)
 none_passes false b h = (refl, h)
-
-pub inserted : (e : Event) (pending : List Event) → IsAbsent e pending → insert_key event_cmp pending e ≡ with_event e pending
-inserted e [] h = refl
-inserted e (f ∷ fs) h =
-    let both = none_passes (is_eq (event_cmp e f)) (list_any (λ g. is_eq (event_cmp e g)) fs) h in
-    insert_step (event_cmp e f) e f fs (with_event e fs) (insert_key event_cmp fs e) both.0 (inserted e fs both.1)
 
 -- what holds of each event still does with one more
 pub All-with_event : (P : Event → Type 0) (e : Event) (pending : List Event) → P e → AllByRecursion P pending → AllByRecursion P (with_event e pending)
@@ -79,7 +65,7 @@ All-trans : (e f : Event) (fs : List Event) → IsBefore e f → AllByRecursion 
 All-trans e f [] h all = tt
 All-trans e f (g ∷ gs) h all = (before_trans e f g h all.0, All-trans e f gs h all.1)
 
-bool_cases : (b : Bool) → (b ≡ true) ⊎ (b ≡ false)
+pub bool_cases : (b : Bool) → (b ≡ true) ⊎ (b ≡ false)
 bool_cases true = inl refl
 bool_cases false = inr refl
 
@@ -98,18 +84,9 @@ in_order-with_events [] pending new h = h
 in_order-with_events (e ∷ es) pending new h = in_order-with_events es (with_event e pending) new.1 (in_order-with_event e pending new.0 h)
 
 -- the events from the i-th on, one by one
-pub record Inserting (events pending : List Event) (i : ℕ) (now : List Event) : Type 0 where
-  pub rest : with_events (drop i events) now ≡ with_events events pending
-  pub new : AreAbsent (drop i events) now
+pub inserted_next : (events pending : List Event) (i : ℕ) (now : List Event) (e : Event) → i < length events → with_events (drop i events) now ≡ with_events events pending
+    → with_events (drop (i + 1) events) (with_event (get_or events i e) now) ≡ with_events events pending
+inserted_next events pending i now e lt h = sym (ap (λ (es : List Event). with_events es now) (drop_more events i e lt)) ∙ h
 
-pub first_absent : (events pending : List Event) (i : ℕ) (now : List Event) (e : Event) → i < length events → Inserting events pending i now → IsAbsent (get_or events i e) now
-first_absent events pending i now e lt h = (let k = subst (λ (es : List Event). AreAbsent es now) (drop_more events i e lt) h.new in k.0)
-
-pub inserted_next : (events pending : List Event) (i : ℕ) (now : List Event) (e : Event) → i < length events → Inserting events pending i now → Inserting events pending (i + 1) (with_event (get_or events i e) now)
-inserted_next events pending i now e lt h = record {
-  rest = sym (ap (λ (es : List Event). with_events es now) (drop_more events i e lt)) ∙ h.rest;
-  new = (let k = subst (λ (es : List Event). AreAbsent es now) (drop_more events i e lt) h.new in k.1);
-}
-
-pub inserted_all : (events pending : List Event) (i : ℕ) (now : List Event) → length events ≤ i → Inserting events pending i now → now ≡ with_events events pending
-inserted_all events pending i now le h = sym (ap (λ (es : List Event). with_events es now) (drop_all i events le)) ∙ h.rest
+pub inserted_all : (events pending : List Event) (i : ℕ) (now : List Event) → length events ≤ i → with_events (drop i events) now ≡ with_events events pending → now ≡ with_events events pending
+inserted_all events pending i now le h = sym (ap (λ (es : List Event). with_events es now) (drop_all i events le)) ∙ h

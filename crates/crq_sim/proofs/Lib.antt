@@ -1,5 +1,6 @@
 pub mod EventListLemmas
 pub mod GeneratedLemmas
+pub mod HeapLemmas
 pub mod NextWindow
 pub mod OrderLemmas
 pub mod ReactionLemmas

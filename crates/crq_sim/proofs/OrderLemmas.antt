@@ -1,5 +1,5 @@
 -- The pending events of a run are in order.
-use Rattle.std.proofs.Common.{◌≡◌, ◌⊎◌, ℕ, zero, suc, List, [], ◌∷◌, ◌++◌, true, false, cond, inl, inr, refl, sym, ap, ◌∙◌, subst}
+use Rattle.std.proofs.Common.{◌≡◌, ◌⊎◌, ℕ, zero, suc, List, [], ◌∷◌, true, false, cond, inl, inr, refl, sym, ap, ◌∙◌, subst}
 use Rattle.std.specs.Ordering.{is_lt}
 use Rattle.std.specs.List.{AllByRecursion}
 use Rattle.crq_base.specs.declared.event.Event.{Event}
@@ -9,7 +9,7 @@ use Rattle.crq_sim.specs.declared.reaction.ObjectState.{ObjectState}
 use Rattle.crq_sim.specs.declared.traces.Step.{Step}
 use Rattle.crq_sim.specs.EventLists.{with_event, with_events, AreInOrder, IsIn, IsFirst}
 use Rattle.crq_sim.specs.Models.{ModelData, IsModel}
-use Rattle.crq_sim.specs.Runs.{Simulation, state_of, run_first, after_events}
+use Rattle.crq_sim.specs.Runs.{run_first, after_events}
 use Rattle.crq_sim.proofs.EventListLemmas.{in_order-with_events}
 use Rattle.crq_sim.proofs.Sound.{IsDue, sound, absent_sends}
 use Rattle.crq_sim.proofs.StartLemmas.{starts_in_order}

@@ -5,7 +5,7 @@ use Rattle.std.proofs.lemmas.List.{drop_more, drop_all}
 use Rattle.std.specs.List.{AllByRecursion}
 use Rattle.crq_base.specs.declared.event.Event.{Event}
 use Rattle.crq_sim.specs.declared.model.Start.{Start}
-use Rattle.crq_sim.specs.EventLists.{with_event, with_events, IsAbsent, AreInOrder}
+use Rattle.crq_sim.specs.EventLists.{with_event, with_events, AreInOrder}
 use Rattle.crq_sim.specs.Runs.{scheduled_starts}
 use Rattle.crq_sim.proofs.EventListLemmas.{absent, All-with_event, All-weaker, in_order-with_event}
 
@@ -40,9 +40,6 @@ pub record Started (until : ℕ) (starts : List Start) (i seq : ℕ) (pending : 
   pub rest : with_events (scheduled_starts until seq (drop i starts)) pending ≡ with_events (scheduled_starts until 0 starts) []
   pub below : AllByRecursion (λ (f : Event). f.seq < seq) pending
   pub few : seq ≤ i
-
-pub started_absent : (until : ℕ) (starts : List Start) (i seq : ℕ) (pending : List Event) (s : Start) → Started until starts i seq pending → IsAbsent (event_of s seq) pending
-started_absent until starts i seq pending s k = absent (event_of s seq) pending (All-weaker (λ (f : Event). f.seq < seq) _ (λ f h same. h) pending k.below)
 
 pub started_due : (until : ℕ) (starts : List Start) (i seq : ℕ) (pending : List Event) (d : Start) → i < length starts → (get_or starts i d).time ≤ until
     → Started until starts i seq pending → Started until starts (i + 1) (seq + 1) (with_event (event_of (get_or starts i d) seq) pending)

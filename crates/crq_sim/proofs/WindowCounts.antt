@@ -5,7 +5,7 @@ use Rattle.crq_base.specs.declared.event.Event.{Event}
 use Rattle.crq_sim.specs.EventLists.{IsFirst}
 use Rattle.crq_sim.specs.Models.{ModelData, IsModel}
 use Rattle.crq_sim.specs.Runs.{after_events}
-use Rattle.crq_sim.specs.Windows.{AreBelowEdge, EndsWindow, IsWindowEnd, IsInWindow, Tracks}
+use Rattle.crq_sim.specs.Windows.{EndsWindow, IsWindowEnd, IsInWindow, Tracks}
 use Rattle.crq_sim.proofs.RunLemmas.{stays}
 use Rattle.crq_sim.proofs.WindowLemmas.{tracks_same, tracks_next, tracked}
 

@@ -9,3 +9,4 @@ pub mod Shown
 pub mod Ends
 pub mod Generated
 pub mod WindowRuns
+pub mod Heaps

@@ -1,26 +1,32 @@
 //! The event list of a serial run.
 
 ghost use Rattle.std.specs.Prelude.{◌≡◌, [], ◌∷◌, OnOk, MatchOption};
-ghost use Rattle.crq_sim.specs.EventLists.{IsAbsent, with_event, with_events, AreAbsent, IsFirst};
+ghost use Rattle.crq_sim.specs.EventLists.{with_event, with_events, IsFirst};
 
 use crq_base::Event;
 use std::alloc::{AllocError, Global};
-use std::collections::BTreeSet;
+use std::cmp::Reverse;
+use std::collections::BinaryHeap;
 use std::marker;
 
 /// Pending events. Contracts see them in order, the least one first.
 #[derive(Drop)]
 pub struct Pending {
-    events: BTreeSet<Event>,
+    /// A heap gives its greatest element first.
+    events: BinaryHeap<Reverse<Event>>,
 }
 
 impl marker::Model for Pending {
     ghost use Rattle.std.specs.Prelude.{List};
+    ghost use Rattle.std.specs.BinaryHeap.{heap_items, IsHeap};
     ghost use Rattle.crq_base.specs.declared.event.Event.{Event};
+    ghost use Rattle.crq_sim.specs.Heaps.{reverse_cmp, listed};
 
     ghost Value = { List Event };
 
-    ghost view = { λ p. p.events.keys };
+    ghost view = { λ p. listed (heap_items p.events) };
+
+    ghost invariant = { λ p. IsHeap reverse_cmp (heap_items p.events) };
 }
 
 impl Pending {
@@ -29,22 +35,20 @@ impl Pending {
         ensures { result ≡ [] }
     {
         Pending {
-            events: BTreeSet::new(alloc),
+            events: BinaryHeap::new(alloc),
         }
     }
 
-    /// Adds an event that isn't there.
+    /// Adds an event.
     pub fn insert(&mut self, event: Event) -> Result<(), AllocError>
-        requires { IsAbsent event self.old }
         ensures { OnOk result (self.new ≡ with_event event self.old) }
     {
-        self.events.insert(event)?;
+        self.events.push(Reverse(event))?;
         Ok(())
     }
 
-    /// Adds events, none of which is there.
+    /// Adds events.
     pub fn insert_each(&mut self, events: &[Event]) -> Result<(), AllocError>
-        requires { AreAbsent events.now self.old }
         ensures { OnOk result (self.new ≡ with_events events.now self.old) }
     {
         for event in events {
@@ -57,13 +61,15 @@ impl Pending {
     pub fn pop_first(&mut self) -> Option<Event>
         ensures { MatchOption result ((self.old ≡ []) × (self.new ≡ [])) (λ e. self.old ≡ e ∷ self.new) }
     {
-        self.events.pop_first()
+        let item = self.events.pop()?;
+        Some(item.0)
     }
 
     /// The least event.
     pub fn first(&self) -> Option<Event>
         ensures { MatchOption result (self.now ≡ []) (λ e. IsFirst e self.now) }
     {
-        self.events.first().copied()
+        let item = self.events.peek()?;
+        Some(item.0)
     }
 }

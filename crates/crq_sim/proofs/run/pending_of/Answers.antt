@@ -1,9 +1,6 @@
-use Rattle.crq_sim.proofs.StartLemmas.{started_absent, started_due, started_past, started_all}
+use Rattle.crq_sim.proofs.StartLemmas.{started_due, started_past, started_all}
 use Rattle.crq_sim.proofs.run.pending_of.Goals as goal
 use Rattle.crq_sim.proofs.run.pending_of.Goals.{then-start-until+in_ok-insert, else-start-until}
-
-pub insert-requires : goal.insert-requires
-insert-requires c = started_absent _ _ _ _ _ _ c.loop-start.invariant
 
 pub loop-start-preserved : goal.loop-start-preserved
 loop-start-preserved c =

@@ -3,11 +3,10 @@ use Rattle.crq_base.specs.declared.event.Event.{Event}
 use Rattle.crq_sim.specs.declared.reaction.ObjectState.{ObjectState}
 use Rattle.crq_sim.specs.declared.model.BehaviourName.TheVariants.{Sink}
 use Rattle.crq_sim.specs.declared.traces.ObjectTrace.{ObjectTrace}
-use Rattle.crq_sim.specs.EventLists.{with_events, AreAbsent}
+use Rattle.crq_sim.specs.EventLists.{with_events}
 use Rattle.crq_sim.specs.Reactions.{behaviour_at, state_after, sends_of, IsWordOf}
 use Rattle.crq_sim.specs.Runs.{state_of}
 use Rattle.crq_sim.proofs.RunLemmas.{Known, next_known, state_read, ran_shows}
-use Rattle.crq_sim.proofs.Sound.{absent_sends}
 use Rattle.crq_sim.proofs.run.Run.run.Goals as goal
 use Rattle.crq_sim.proofs.run.Run.run.Goals.{After-is_model, After-index}
 
@@ -56,13 +55,6 @@ index_mut-requires c = let k = known (goal.at.index_mut-requires c).After-is_mod
 
 pub push_step-requires : goal.push_step-requires
 push_step-requires c = let k = known (goal.at.push_step-requires c).After-is_model in let a = k.all_traces in let b = k.due.there in (k.due.there.0, omega arith)
-
-pub insert_each-requires : goal.insert_each-requires
-insert_each-requires c =
-    let k = known (goal.at.insert_each-requires c).After-is_model in
-    let s = read (goal.at.insert_each-requires c).After-index in
-    let sends = c.as_slice.ensures.value ∙ c.react-sends.ensures.sends ∙ ap (λ (x : ObjectState). sends_of c.args.model.now c.args.event.dst x c.args.event) s in
-    subst (λ (es : List Event). AreAbsent es c.args.self.now.pending) (sym sends) (absent_sends c.args.model.now c.args.self.now.states.items c.args.event.dst c.args.event c.args.self.now.pending k.due.there.0 k.others)
 
 pub returns : goal.returns
 returns c =
