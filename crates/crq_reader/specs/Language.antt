@@ -12,7 +12,7 @@ use Rattle.crq_sim.specs.declared.model.Start.{Start}
 use Rattle.crq_sim.specs.declared.model.Behaviour.{Behaviour}
 use Rattle.crq_sim.specs.declared.model.Behaviour.TheVariants as behaviour
 use Rattle.crq_reader.specs.declared.fault.Fault.{Fault}
-use Rattle.crq_reader.specs.declared.fault.Fault.TheVariants.{NotJson, Missing, WrongKind, Range, UnknownName, Lookahead, TooMany}
+use Rattle.crq_reader.specs.declared.fault.Fault.TheVariants.{NotJson, Memory, Missing, WrongKind, Range, UnknownName, Lookahead, TooMany}
 use Rattle.crq_reader.specs.declared.fault.Place.TheVariants as place
 use Rattle.crq_reader.specs.declared.fault.ModelFault.{ModelFault}
 
@@ -26,6 +26,18 @@ and_then (Err e) f = Err e
 unfoldable pub each : {A B F : Type 0} → (List B → A → Result B F) → List B → List A → Result (List B) F
 each step done [] = Ok done
 each step done (x ∷ xs) = and_then (step done x) (λ y. each step (done ++ y ∷ []) xs)
+
+-- ---- faults
+
+abbrev pub fault_number : Fault → ℕ
+fault_number NotJson = 1
+fault_number Memory = 2
+fault_number Missing = 3
+fault_number WrongKind = 4
+fault_number Range = 5
+fault_number UnknownName = 6
+fault_number Lookahead = 7
+fault_number TooMany = 8
 
 -- ---- where a fault is
 

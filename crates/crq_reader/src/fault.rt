@@ -1,7 +1,9 @@
 //! Why a text is no model.
 
-ghost use Rattle.std.specs.Prelude.{◌≡◌, ◌+◌, ◌≤◌};
+ghost use Rattle.std.specs.Prelude.{◌≡◌, ◌≤◌};
 ghost use Rattle.crq_reader.specs.Language as language;
+
+use std::fmt;
 
 /// What is wrong with a text. The numbers are those that a caller prints.
 #[derive(Clone, Copy, Debug, PartialEq, Eq)]
@@ -24,6 +26,41 @@ pub enum Fault {
     TooMany,
 }
 
+impl Fault {
+    /// The number of the fault, 1 to 8.
+    pub fn number(&self) -> u32
+        ensures { result ≡ language.fault_number self.now }
+    {
+        match self {
+            Fault::NotJson => 1,
+            Fault::Memory => 2,
+            Fault::Missing => 3,
+            Fault::WrongKind => 4,
+            Fault::Range => 5,
+            Fault::UnknownName => 6,
+            Fault::Lookahead => 7,
+            Fault::TooMany => 8,
+        }
+    }
+}
+
+impl fmt::Display for Fault {
+    fn fmt<W: fmt::Write>(&self, f: &mut fmt::Formatter<W>) -> fmt::Result {
+        f.write_str(match self {
+            Fault::NotJson => "the text isn't JSON in UTF-8",
+            Fault::Memory => "there is no memory to read the text",
+            Fault::Missing => "a member is missing",
+            Fault::WrongKind => "something is of the wrong kind",
+            Fault::Range => {
+                "a number or a name is out of range, a name is given twice, or there is no target"
+            }
+            Fault::UnknownName => "there is no such kind, or no object of that name",
+            Fault::Lookahead => "the lookahead is 0, or a delay or service is below it",
+            Fault::TooMany => "there are more than 65535 objects or starts, or more than 4 targets",
+        })
+    }
+}
+
 /// Which part of the file a fault is in. Objects and starts are counted from 1.
 #[derive(Clone, Copy, Debug, PartialEq, Eq)]
 pub enum Place {
@@ -35,6 +72,16 @@ pub enum Place {
     Start(u32),
 }
 
+impl fmt::Display for Place {
+    fn fmt<W: fmt::Write>(&self, f: &mut fmt::Formatter<W>) -> fmt::Result {
+        match self {
+            Place::File => f.write_str("the model"),
+            Place::Object(k) => write!(f, "object {k}"),
+            Place::Start(i) => write!(f, "start {i}"),
+        }
+    }
+}
+
 /// The first thing that is wrong with a text.
 #[derive(Clone, Copy, Debug, PartialEq, Eq)]
 pub struct ModelFault {
@@ -44,6 +91,12 @@ pub struct ModelFault {
     pub place: Place,
     /// The place as one number: 0 for the file, `k` for object `k`, and the number of objects plus `i` for start `i`.
     pub at: u32,
+}
+
+impl fmt::Display for ModelFault {
+    fn fmt<W: fmt::Write>(&self, f: &mut fmt::Formatter<W>) -> fmt::Result {
+        write!(f, "{}: {}", self.place, self.number)
+    }
 }
 
 /// There was no memory to read the text.

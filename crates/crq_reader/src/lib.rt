@@ -10,6 +10,8 @@ mod objects;
 mod read;
 mod resolved;
 mod starts;
+#[cfg(test)]
+mod tests;
 mod text;
 
 pub use fault::{Fault, ModelFault, Place};
