@@ -1,6 +1,19 @@
-//! Words that all crates of the pending event set share: events and the order of their keys.
+//! What all crates of the pending event set share: events and the order of their keys, the packed words of the shared
+//! table, the kinds of its steps, and the entries of a set's history.
 #![tactic(auto)]
 
+mod entry;
 mod event;
+mod first;
+mod holder;
+mod kinds;
+mod legality;
+mod words;
 
+pub use entry::Entry;
 pub use event::{Event, order_law};
+pub use first::First;
+pub use holder::Holder;
+pub use kinds::StepKind;
+pub use legality::{Fault, judge};
+pub use words::{Control, Current, Link, Mark, Pin, Stamp, spelling_law, word_law};

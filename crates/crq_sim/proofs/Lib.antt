@@ -1,0 +1,13 @@
+pub mod EventListLemmas
+pub mod GeneratedLemmas
+pub mod NextWindow
+pub mod OrderLemmas
+pub mod ReactionLemmas
+pub mod RunLemmas
+pub mod ScheduleLemmas
+pub mod Sound
+pub mod StartLemmas
+pub mod TraceLemmas
+pub mod WindowCounts
+pub mod WindowLemmas
+pub mod WindowRunLemmas

@@ -1,2 +1,11 @@
 pub mod Names
 pub mod Models
+pub mod Draws
+pub mod EventLists
+pub mod Reactions
+pub mod Runs
+pub mod Windows
+pub mod Shown
+pub mod Ends
+pub mod Generated
+pub mod WindowRuns

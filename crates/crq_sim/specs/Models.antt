@@ -1,5 +1,5 @@
 -- A simulation model as contracts see it.
-use Rattle.std.specs.Prelude.{◌≡◌, true, ℕ, ◌<◌, ◌≤◌, List, [], ◌∷◌, length, map, All, Contains}
+use Rattle.std.specs.Prelude.{◌≡◌, true, ℕ, ◌<◌, ◌≤◌, ◌^◌, List, [], ◌∷◌, length, map, All, Contains}
 use Rattle.crq_sim.specs.Names.{is_name}
 use Rattle.crq_sim.specs.declared.model.Object.{Object}
 use Rattle.crq_sim.specs.declared.model.Start.{Start}
@@ -21,7 +21,7 @@ abbrev pub IsBehaviour : ℕ → ℕ → Behaviour → Type 0
 IsBehaviour lookahead objects (Relay delay next) = (lookahead ≤ delay) × IsObject objects next
 IsBehaviour lookahead objects (Phold seed spread) = Unit {0}
 IsBehaviour lookahead objects (Station service next) = (lookahead ≤ service) × IsObject objects next
-IsBehaviour lookahead objects (Fan delay targets) = (lookahead ≤ delay) × All (IsObject objects) targets
+IsBehaviour lookahead objects (Fan delay targets) = (lookahead ≤ delay) × (0 < length targets) × (length targets ≤ 4) × All (IsObject objects) targets
 IsBehaviour lookahead objects Sink = Unit {0}
 
 -- no name stands twice
@@ -31,6 +31,7 @@ AreApart (n ∷ ns) = (Contains ns n → ⊥) × AreApart ns
 
 pub record IsModel (m : ModelData) : Type 0 where
   pub ahead : 0 < m.lookahead
+  pub within : m.until < 2 ^ 32
   pub few_objects : length m.objects < 65536
   pub few_starts : length m.starts < 65536
   pub named : All (λ (o : Object). is_name o.name ≡ true) m.objects

@@ -1,18 +1,35 @@
 //! Simulation models, what their objects do at an event, and the run of a model over one event list.
 #![tactic(auto)]
 
+mod draws;
+mod generated;
+mod laws;
 mod memory;
 mod model;
 mod name;
 mod outcome;
+mod pending;
+mod reaction;
+mod run;
+mod sends;
 mod sequence;
+mod serial_run;
 mod targets;
 mod traces;
 
+pub use draws::draw;
+pub use generated::generate;
+pub use laws::{end_law, next_window_law, one_window_law, order_law, window_law};
 pub use memory::Memory;
 pub use model::{Behaviour, BehaviourName, Model, Object, Objects, Start, Starts};
 pub use name::Name;
 pub use outcome::{Outcome, Size, Sizes};
+pub use reaction::{ObjectState, react};
+pub use sends::Sends;
 pub use sequence::Sequence;
+pub use serial_run::{SimEnd, serial};
 pub use targets::Targets;
 pub use traces::{ObjectTrace, Step, Steps, Traces};
+
+#[cfg(test)]
+mod tests;

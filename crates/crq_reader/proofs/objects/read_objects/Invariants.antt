@@ -1,0 +1,10 @@
+use Rattle.std.proofs.Common.{◌≡◌, length, drop, map}
+use Rattle.serde_json.specs.View.{view}
+use Rattle.crq_reader.specs.Language.{each, next_named, named_objects}
+use Rattle.crq_reader.proofs.objects.read_objects.Given as goal
+
+abbrev pub invariant-loop-value : goal.invariant-loop-value
+invariant-loop-value l = record {
+  read : length l.drafts ≡ l.value-index;
+  rest : each (next_named l.lookahead) l.drafts (map view (drop l.value-index l.values)) ≡ named_objects l.lookahead (map view l.values);
+}

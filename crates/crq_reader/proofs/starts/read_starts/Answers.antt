@@ -1,0 +1,34 @@
+use Rattle.std.proofs.Common.{◌≡◌, ◌+◌, ◌++◌, ◌∷◌, [], length, map, Ok, Err, inr, sym, ap, ap₂, ◌∙◌, arith, length-append, rules}
+use Rattle.std.proofs.lemmas.List.{length-map}
+use Rattle.serde_json.specs.View.{view}
+use Rattle.crq_reader.specs.Language.{told, in_start, next_start, names_of, Named}
+use Rattle.crq_reader.proofs.EachLaws.{each_next, each_fault, each_end}
+use Rattle.crq_reader.proofs.starts.read_starts.Goals as goal
+
+pub returns-in-Err-clause-err : goal.returns-in-Err-clause-err
+returns-in-Err-clause-err c =
+    let i = length c.loop-value.starts.items + 1 in
+    let objects = length (names_of c.args.drafts.now) in
+    let count : c.len.result + 1 ≡ i = ap (λ n. n + 1) (c.len.ensures ∙ c.loop-value.starts.ok.0) in
+    let all : c.len-in-Err.result ≡ objects = c.len-in-Err.ensures.len ∙ sym (length-map c.args.drafts.now (λ (o : Named). o.name)) in
+    let fault =
+    each_fault (next_start (names_of c.args.drafts.now)) view c.loop-value.starts.items c.args.values.now c.loop-value.value-index c.value-item.result (in_start objects i c.in-Err.fault)
+    c.loop-value-test.true c.value-item.is (ap (told (in_start objects i)) (sym c.in-Err.ensures)) in
+    inr (sym c.loop-value.invariant.rest ∙ fault ∙ ap Err (sym (c.in_start.ensures ∙ ap₂ (λ n k. in_start n k c.in-Err.fault) all count)))
+
+pub loop-value-preserved : goal.loop-value-preserved
+loop-value-preserved c =
+    let i = length c.loop-value.starts.items + 1 in
+    let objects = length (names_of c.args.drafts.now) in
+    let next =
+    each_next (next_start (names_of c.args.drafts.now)) view c.loop-value.starts.items c.args.values.now c.loop-value.value-index c.value-item.result c.in-Ok.start
+    c.loop-value-test.true c.value-item.is (ap (told (in_start objects i)) (sym c.in-Ok.ensures)) in
+    let pushed : c.push.new.self.items ≡ c.loop-value.starts.items ++ c.in-Ok.start ∷ [] = search rules in
+    record {
+      read = omega (arith, ap length pushed, length-append c.loop-value.starts.items (c.in-Ok.start ∷ []));
+      rest = rw pushed (next ∙ c.loop-value.invariant.rest);
+    }
+
+pub returns-clause-ok : goal.returns-clause-ok
+returns-clause-ok c =
+    sym c.loop-value.invariant.rest ∙ each_end (next_start (names_of c.args.drafts.now)) view c.loop-value.starts.items c.args.values.now c.loop-value.value-index c.loop-value-test.false

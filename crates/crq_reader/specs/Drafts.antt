@@ -1,0 +1,54 @@
+-- What the reader keeps of the elements of a file, as the definition of the language sees them.
+use Rattle.std.specs.Prelude.{◌≡◌, ℕ, ◌<◌, ◌≤◌, List, map, length, true, Option, Result, Err, ◌⊎◌}
+use Rattle.std.specs.Borrow.{Bor}
+use Rattle.std.specs.BTreeMap.{BTreeMap, get_by}
+use Rattle.std.specs.Cmp.Lexicographic.{slice_cmp}
+use Rattle.std.specs.Ordering.{nat_cmp}
+use Rattle.std.specs.List.{filter_map}
+use Rattle.serde_json.specs.Find.{as_str}
+use Rattle.serde_json.specs.View.{view}
+use Rattle.crq_reader.specs.Language as language
+use Rattle.crq_reader.specs.Language.{Sending, Named, number_of, names_of, in_file}
+use Rattle.crq_sim.specs.Names.{is_name}
+use Rattle.crq_reader.specs.declared.fault.Fault.TheVariants.{Memory}
+use Rattle.crq_reader.specs.declared.fault.ModelFault.{ModelFault}
+use Rattle.crq_reader.specs.declared.draft.Draft.{Draft}
+use Rattle.crq_reader.specs.declared.draft.DraftBehaviour.{DraftBehaviour}
+use Rattle.crq_reader.specs.declared.draft.DraftBehaviour.TheVariants.{Relay, Phold, Station, Fan, Sink}
+use Rattle.crq_reader.specs.declared.header.Header.{Header}
+
+abbrev pub header_of : Header → language.Header
+header_of h = record { lookahead = h.lookahead; until = h.until; objects = map view h.objects.now; starts = map view h.starts.now }
+
+abbrev pub sending_of : DraftBehaviour → Sending
+sending_of (Relay n next) = language.relay n next.now
+sending_of (Phold seed spread) = language.phold seed spread
+sending_of (Station n next) = language.station n next.now
+sending_of (Fan n targets) = language.fan n (filter_map as_str (map view targets.now))
+sending_of Sink = language.sink
+
+abbrev pub named_of : Draft → Named
+named_of d = record { name = d.name.now; sending = sending_of d.behaviour }
+
+-- ---- what is kept of the objects that were read
+
+abbrev pub IsSending : Sending → Type 0
+IsSending (language.relay n next) = Unit {0}
+IsSending (language.phold seed spread) = Unit {0}
+IsSending (language.station n next) = Unit {0}
+IsSending (language.fan n ts) = (0 < length ts) × (length ts ≤ 4)
+IsSending language.sink = Unit {0}
+
+pub record IsNamed (n : Named) : Type 0 where
+  pub spelled : is_name n.name ≡ true
+  pub sends : IsSending n.sending
+
+-- the map finds the number of each name
+abbrev pub Finds : BTreeMap (Bor (List ℕ)) ℕ → List (List ℕ) → Type 0
+Finds numbers names = (name : List ℕ) → get_by (λ k. slice_cmp nat_cmp name k.now) numbers ≡ number_of names name
+
+-- ---- answers of the reader
+
+-- want of memory, which is free, or the fault that comes first
+abbrev pub IsFault : {A : Type 0} → ModelFault → Result A ModelFault → Type 0
+IsFault e told = (e ≡ in_file Memory) ⊎ (told ≡ Err e)

@@ -1,0 +1,128 @@
+-- The variables of a run, and its steps.
+use Rattle.std.proofs.Common.{◌≡◌, ℕ, suc, ◌+◌, ◌-◌, ◌*◌, ◌≤◌, List, [], ◌∷◌, ◌++◌, length, get_or, set, refl, arith, ap, sym, ◌∙◌, subst, add-one, add-zero, add-suc, zero}
+use Rattle.std.proofs.lemmas.List.{get_or_read}
+use Rattle.std.specs.List.{AllByRecursion}
+use Rattle.crq_base.specs.declared.event.Event.{Event}
+use Rattle.crq_sim.specs.declared.reaction.ObjectState.{ObjectState}
+use Rattle.crq_sim.specs.declared.run.Run.{Run}
+use Rattle.crq_sim.specs.declared.traces.ObjectTrace.{ObjectTrace}
+use Rattle.crq_sim.specs.declared.traces.Step.{Step}
+use Rattle.crq_sim.specs.EventLists.{with_events, IsFirst}
+use Rattle.crq_sim.specs.Models.{ModelData, IsModel}
+use Rattle.crq_sim.specs.Reactions.{behaviour_at, sends_of, state_after, IsWordOf}
+use Rattle.crq_sim.specs.Runs.{Simulation, state_of, step_of, run_first, after_events, traces_of, IsOverWithin, traces_within}
+use Rattle.crq_sim.specs.Shown.{Shows, IsNext, with_step}
+use Rattle.crq_sim.proofs.Sound.{IsDue, sound, no_state}
+use Rattle.crq_sim.proofs.TraceLemmas.{length-traces, traces_step}
+
+-- what is known of a run whose least pending event was taken
+pub record Known (m : ModelData) (r : Run) (e : Event) : Type 0 where
+  pub all_states : length r.states.items ≡ length m.objects
+  pub all_traces : length r.traces.items ≡ length m.objects
+  pub due : IsDue m r.states.items e
+  pub count : (state_of r.states.items e.dst).count ≤ r.made
+  pub sent : (state_of r.states.items e.dst).sent ≤ 4 * r.made
+  pub word : IsWordOf (behaviour_at m e.dst) (state_of r.states.items e.dst).word
+  pub others : AllByRecursion (IsDue m r.states.items) r.pending
+
+pub next_known : (m : ModelData) (r : Run) (e : Event) → IsModel m → IsNext m r e → Known m r e
+next_known m r e is h =
+    let w : Simulation = after_events m r.made in
+    let all = sound m r.made is in
+    let events : AllByRecursion (IsDue m w.states) (e ∷ r.pending) = subst (λ (es : List Event). AllByRecursion (IsDue m w.states) es) h.pending all.events in
+    let mine : AllByRecursion (IsDue m r.states.items) (e ∷ r.pending) = subst (λ (xs : List ObjectState). AllByRecursion (IsDue m xs) (e ∷ r.pending)) (sym h.states) events in
+    record {
+      all_states = ap length h.states ∙ all.many;
+      all_traces = ap length h.traces ∙ length-traces 1 m.objects w.log;
+      due = mine.0;
+      count = (let k = all.counts e.dst in rw h.states k);
+      sent = (let k = all.sents e.dst in rw h.states k);
+      word = subst (λ (xs : List ObjectState). IsWordOf (behaviour_at m e.dst) (state_of xs e.dst).word) (sym h.states) (all.words e.dst events.0.there);
+      others = mine.1;
+    }
+
+pub state_read : (m : ModelData) (r : Run) (e : Event) → Known m r e → (x : ObjectState) → x ≡ get_or r.states.items (e.dst - 1) x → x ≡ state_of r.states.items e.dst
+state_read m r e k x h = get_or_read r.states.items (e.dst - 1) x (let a = k.all_states in let b = k.due.there in omega arith) h no_state
+
+run_first_at : (m : ModelData) (states : List ObjectState) (pending rest : List Event) (log : List Step) (e : Event) → pending ≡ e ∷ rest
+    → run_first m states pending log ≡ (record {
+      states = set states (e.dst - 1) (state_after m e.dst (state_of states e.dst) e);
+      pending = with_events (sends_of m e.dst (state_of states e.dst) e) rest;
+      log = log ++ step_of m (state_of states e.dst) e ∷ [];
+    })
+unfolding run_first
+run_first_at m states pending rest log e h = rw h refl
+
+pub next_events : (m : ModelData) (n : ℕ) → after_events m (n + 1) ≡ run_first m (after_events m n).states (after_events m n).pending (after_events m n).log
+unfolding after_events
+next_events m n = rw add-one refl
+
+-- what the variables hold after the event was run
+pub record Ran (m : ModelData) (r : Run) (e : Event) (s : ObjectState) (states : List ObjectState) (pending : List Event) (traces : List ObjectTrace) : Type 0 where
+  pub state : s ≡ state_after m e.dst (state_of r.states.items e.dst) e
+  pub states_are : states ≡ set r.states.items (e.dst - 1) s
+  pub pending_is : pending ≡ with_events (sends_of m e.dst (state_of r.states.items e.dst) e) r.pending
+  pub traces_are : (d : ObjectTrace) → traces ≡ with_step r.traces.items (get_or r.traces.items (e.dst - 1) d) (record { event = e; count = s.count; word = s.word })
+
+pub ran_shows : (m : ModelData) (r r' : Run) (e : Event) (s : ObjectState) → IsModel m → IsNext m r e → Ran m r e s r'.states.items r'.pending r'.traces.items → ObjectTrace → r'.made ≡ r.made + 1 → Shows m r'
+ran_shows m r r' e s is h ran d made =
+    let w : Simulation = after_events m r.made in
+    let known = next_known m r e is h in
+    let there = known.due.there in
+    let now : after_events m r'.made ≡ run_first m w.states w.pending w.log = ap (after_events m) made ∙ next_events m r.made in
+    let next = now ∙ run_first_at m w.states w.pending r.pending w.log e h.pending in
+    let here : state_of r.states.items e.dst ≡ state_of w.states e.dst = ap (λ (xs : List ObjectState). state_of xs e.dst) h.states in
+    let step : Step = record { event = e; count = s.count; word = s.word } in
+    let s_is : s ≡ state_after m e.dst (state_of w.states e.dst) e = ran.state ∙ ap (λ x. state_after m e.dst x e) here in
+    let step_is : step ≡ step_of m (state_of w.states e.dst) e = ap (λ (x : ObjectState). record { event = e; count = x.count; word = x.word }) s_is in
+    record {
+      states = ran.states_are ∙ ap (λ (xs : List ObjectState). set xs (e.dst - 1) s) h.states ∙ ap (λ (x : ObjectState). set w.states (e.dst - 1) x) s_is ∙ sym (ap (λ (x : Simulation). x.states) next);
+      pending = ran.pending_is ∙ ap (λ (x : ObjectState). with_events (sends_of m e.dst x e) r.pending) here ∙ sym (ap (λ (x : Simulation). x.pending) next);
+      traces = ran.traces_are d ∙ traces_step m.objects w.log step r.traces.items d there.0 there.1 h.traces
+          ∙ ap (λ (x : Step). traces_of m.objects (w.log ++ x ∷ [])) step_is ∙ sym (ap (λ (x : Simulation). traces_of m.objects x.log) next);
+    }
+
+stays_once : (m : ModelData) (states : List ObjectState) (pending : List Event) (log : List Step) → pending ≡ [] → ((run_first m states pending log).pending ≡ []) × ((run_first m states pending log).log ≡ log)
+unfolding run_first
+stays_once m states pending log h = rw h (refl, refl)
+
+-- after the last event nothing changes
+pub stays : (m : ModelData) (n k : ℕ) → (after_events m n).pending ≡ [] → ((after_events m (n + k)).pending ≡ []) × ((after_events m (n + k)).log ≡ (after_events m n).log)
+unfolding after_events
+stays m n zero h = rw add-zero (h, refl)
+stays m n (suc k) h =
+    let before = stays m n k h in
+    let w = after_events m (n + k) in
+    let once = stays_once m w.states w.pending w.log before.0 in
+    rw add-suc (once.0, once.1 ∙ before.1)
+
+empty_kept : (m : ModelData) (states : List ObjectState) (pending : List Event) (log : List Step) → pending ≡ [] → run_first m states pending log ≡ (record { states = states; pending = pending; log = log })
+unfolding run_first
+empty_kept m states pending log h = rw h refl
+
+-- nor do the states
+pub kept : (m : ModelData) (n k : ℕ) → (after_events m n).pending ≡ [] → after_events m (n + k) ≡ after_events m n
+unfolding after_events
+kept m n zero h = rw add-zero refl
+kept m n (suc k) h =
+    let w = after_events m (n + k) in
+    let before : w ≡ after_events m n = kept m n k h in
+    let none : w.pending ≡ [] = ap (λ (x : Simulation). x.pending) before ∙ h in
+    rw add-suc (empty_kept m w.states w.pending w.log none ∙ before)
+
+-- where nothing is pending the run is over, and stays so up to the cap
+pub over_within : (m : ModelData) (made cap : ℕ) (traces : List ObjectTrace) → made ≤ cap → (after_events m made).pending ≡ [] → traces ≡ traces_of m.objects (after_events m made).log
+    → IsOverWithin m cap × (traces ≡ traces_within m cap)
+over_within m made cap traces le none is =
+    let rest = stays m made (cap - made) none in
+    let all : made + (cap - made) ≡ cap = omega arith in
+    let at_cap : (after_events m cap).pending ≡ [] = ap (λ n. (after_events m n).pending) (sym all) ∙ rest.0 in
+    let log : (after_events m cap).log ≡ (after_events m made).log = ap (λ n. (after_events m n).log) (sym all) ∙ rest.1 in
+    (at_cap, is ∙ ap (traces_of m.objects) (sym log))
+
+not_over : (e : Event) (pending : List Event) → IsFirst e pending → pending ≡ [] → ⊥
+not_over e pending first none = subst (IsFirst e) none first
+
+-- where an event is pending after as many events as the cap allows, the run has more
+pub more_than : (m : ModelData) (cap : ℕ) (pending : List Event) (e : Event) → pending ≡ (after_events m cap).pending → IsFirst e pending → IsOverWithin m cap → ⊥
+more_than m cap pending e is first none = not_over e pending first (is ∙ none)

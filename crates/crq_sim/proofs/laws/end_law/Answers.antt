@@ -1,0 +1,5 @@
+use Rattle.crq_sim.proofs.RunLemmas.{kept}
+use Rattle.crq_sim.proofs.laws.end_law.Goals as goal
+
+pub returns : goal.returns
+returns c = kept

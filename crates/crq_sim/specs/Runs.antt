@@ -1,0 +1,85 @@
+-- The serial run of a model: one event list, from which the least event is taken again and again.
+use Rattle.std.specs.Prelude.{◌≡◌, ℕ, zero, suc, ◌+◌, ◌-◌, List, [], ◌∷◌, ◌++◌, map, filter, slice_index_or, slice_set, if◌then◌else◌, nat_le, ◌==◌}
+use Rattle.crq_base.specs.declared.event.Event.{Event}
+use Rattle.crq_sim.specs.declared.model.Behaviour.{Behaviour}
+use Rattle.crq_sim.specs.declared.model.Behaviour.TheVariants.{Relay, Phold, Station, Fan, Sink}
+use Rattle.crq_sim.specs.declared.model.BehaviourName.{BehaviourName}
+use Rattle.crq_sim.specs.declared.model.BehaviourName.TheVariants as names
+use Rattle.crq_sim.specs.declared.model.Object.{Object}
+use Rattle.crq_sim.specs.declared.model.Start.{Start}
+use Rattle.crq_sim.specs.declared.reaction.ObjectState.{ObjectState}
+use Rattle.crq_sim.specs.declared.traces.ObjectTrace.{ObjectTrace}
+use Rattle.crq_sim.specs.declared.traces.Step.{Step}
+use Rattle.crq_sim.specs.EventLists.{with_events}
+use Rattle.crq_sim.specs.Models.{ModelData}
+use Rattle.crq_sim.specs.Reactions.{first_state, sends_of, state_after}
+
+-- the objects' states, the pending events in order, and the steps that were made
+pub record Simulation : Type 0 where
+  pub states : List ObjectState
+  pub pending : List Event
+  pub log : List Step
+
+-- the state of an object
+abbrev pub state_of : List ObjectState → ℕ → ObjectState
+state_of states o = slice_index_or states (o - 1) (record { count = 0; word = 0; sent = 0 })
+
+-- an event and what its object has after it
+abbrev pub step_of : ModelData → ObjectState → Event → Step
+step_of m s e = record { event = e; count = (state_after m e.dst s e).count; word = (state_after m e.dst s e).word }
+
+-- the least pending event is run at its object, and what that sends becomes pending
+unfoldable pub run_first : ModelData → List ObjectState → List Event → List Step → Simulation
+run_first m states [] log = record { states = states; pending = []; log = log }
+run_first m states (e ∷ es) log = record {
+  states = slice_set states (e.dst - 1) (state_after m e.dst (state_of states e.dst) e);
+  pending = with_events (sends_of m e.dst (state_of states e.dst) e) es;
+  log = log ++ step_of m (state_of states e.dst) e ∷ [];
+}
+
+-- the starts up to the end, numbered in their order; their source is 0
+unfoldable pub scheduled_starts : ℕ → ℕ → List Start → List Event
+scheduled_starts until n [] = []
+scheduled_starts until n (s ∷ ss) =
+    if nat_le s.time until then record { time = s.time; src = 0; seq = n; dst = s.object; load = s.load } ∷ scheduled_starts until (n + 1) ss
+    else scheduled_starts until n ss
+
+abbrev pub first_states : List Object → List ObjectState
+first_states objects = map (λ (o : Object). first_state o.behaviour) objects
+
+-- before the first event
+abbrev pub beginning : ModelData → Simulation
+beginning m = record { states = first_states m.objects; pending = with_events (scheduled_starts m.until 0 m.starts) []; log = [] }
+
+-- after so many events, or after the last one
+unfoldable pub after_events : ModelData → ℕ → Simulation
+after_events m zero = beginning m
+after_events m (suc n) = run_first m (after_events m n).states (after_events m n).pending (after_events m n).log
+
+-- a behaviour without its numbers
+abbrev pub kind_of : Behaviour → BehaviourName
+kind_of (Relay delay next) = names.Relay
+kind_of (Phold seed spread) = names.Phold
+kind_of (Station service next) = names.Station
+kind_of (Fan delay targets) = names.Fan
+kind_of Sink = names.Sink
+
+-- the steps of one object
+abbrev pub steps_of : ℕ → List Step → List Step
+steps_of o log = filter (λ (s : Step). s.event.dst == o) log
+
+-- what each of the objects did, the first of which has number o
+abbrev pub traces_from : ℕ → List Object → List Step → List ObjectTrace
+traces_from o [] log = []
+traces_from o (x ∷ xs) log = record { name = x.name; behaviour = kind_of x.behaviour; steps = steps_of o log } ∷ traces_from (o + 1) xs log
+
+abbrev pub traces_of : List Object → List Step → List ObjectTrace
+traces_of objects log = traces_from 1 objects log
+
+-- the run is over after at most so many events
+abbrev pub IsOverWithin : ModelData → ℕ → Type 0
+IsOverWithin m cap = (after_events m cap).pending ≡ []
+
+-- the traces of the run, where it is over after at most so many events
+abbrev pub traces_within : ModelData → ℕ → List ObjectTrace
+traces_within m cap = traces_of m.objects (after_events m cap).log

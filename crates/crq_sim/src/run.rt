@@ -1,0 +1,175 @@
+//! The variables of a serial run, and its steps.
+
+ghost use Rattle.std.specs.Prelude.{◌≡◌, ℕ, ◌+◌, ◌-◌, ◌<◌, ◌≤◌, length, IfOk, OnOk, MatchOption, [], slice_index_or, vec_len};
+ghost use Rattle.crq_base.specs.declared.event.Event.{Event};
+ghost use Rattle.crq_sim.specs.EventLists.{with_events, IsFirst};
+ghost use Rattle.crq_sim.specs.Models.{ModelData, IsModel};
+ghost use Rattle.crq_sim.specs.Runs.{kind_of, after_events, first_states, scheduled_starts, traces_of};
+ghost use Rattle.crq_sim.specs.Shown.{Shows, IsNext, Advances, with_step};
+ghost use Rattle.crq_sim.specs.declared.model.Object.{Object};
+ghost use Rattle.crq_sim.specs.declared.run.Run.{Run};
+ghost use Rattle.crq_sim.specs.declared.traces.ObjectTrace.{ObjectTrace};
+
+use crate::model::{Behaviour, BehaviourName, Model, Object, Start};
+use crate::pending::Pending;
+use crate::reaction::{ObjectState, react};
+use crate::sequence::Sequence;
+use crate::traces::{ObjectTrace, Step, Traces};
+use crq_base::Event;
+use std::alloc::{AllocError, Global};
+
+/// A serial run after `made` events.
+#[derive(Drop)]
+pub struct Run {
+    pub made: u32,
+    pub states: Vec<ObjectState>,
+    pub pending: Pending,
+    pub traces: Vec<ObjectTrace>,
+}
+
+impl Behaviour {
+    /// The behaviour without its numbers.
+    pub fn kind(&self) -> BehaviourName
+        ensures { result ≡ kind_of self.now }
+    {
+        match self {
+            Behaviour::Relay { .. } => BehaviourName::Relay,
+            Behaviour::Phold { .. } => BehaviourName::Phold,
+            Behaviour::Station { .. } => BehaviourName::Station,
+            Behaviour::Fan { .. } => BehaviourName::Fan,
+            Behaviour::Sink => BehaviourName::Sink,
+        }
+    }
+}
+
+/// The states of the objects before the first event.
+fn states_of(alloc: Global, objects: &[Object]) -> Result<Vec<ObjectState>, AllocError>
+    ensures { IfOk result (λ s. s.items ≡ first_states objects.now) }
+{
+    let mut states = Vec::with_capacity(alloc, objects.len())?;
+    for object in objects {
+        states.push(ObjectState::before(object))?;
+    }
+    Ok(states)
+}
+
+/// The trace of an object that made no step.
+fn trace_without_steps(alloc: Global, object: &Object) -> Result<ObjectTrace, AllocError>
+    ensures { IfOk result (λ t. t ≡ record { name = object.now.name; behaviour = kind_of object.now.behaviour; steps = [] }) }
+{
+    Ok(ObjectTrace {
+        name: object.name.copied(alloc)?,
+        behaviour: object.behaviour.kind(),
+        steps: Sequence::from_vec(Vec::new(alloc)),
+    })
+}
+
+/// A trace without steps for each object.
+fn traces_without_steps(alloc: Global, objects: &[Object]) -> Result<Vec<ObjectTrace>, AllocError>
+    ensures { IfOk result (λ t. t.items ≡ traces_of objects.now []) }
+{
+    let mut traces = Vec::with_capacity(alloc, objects.len())?;
+    for object in objects {
+        traces.push(trace_without_steps(alloc, object)?)?;
+    }
+    Ok(traces)
+}
+
+/// The starts up to the end as pending events.
+fn pending_of(alloc: Global, until: u32, starts: &[Start]) -> Result<Pending, AllocError>
+    requires { length starts.now < 65536 }
+    ensures { IfOk result (λ p. p ≡ with_events (scheduled_starts until 0 starts.now) []) }
+{
+    let mut pending = Pending::new(alloc);
+    let mut seq = 0;
+    for start in starts {
+        if start.time <= until {
+            let event = Event {
+                time: start.time,
+                src: 0,
+                seq,
+                dst: start.object,
+                load: start.load,
+            };
+            pending.insert(event)?;
+            seq += 1;
+        }
+    }
+    Ok(pending)
+}
+
+/// Adds a step to the trace of its object.
+fn push_step(traces: &mut Vec<ObjectTrace>, step: Step) -> Result<(), AllocError>
+    requires { (0 < step.event.dst) × (step.event.dst ≤ vec_len traces.old) }
+    ensures { OnOk result ((d : ObjectTrace) → traces.new.items ≡ with_step traces.old.items (slice_index_or traces.old.items (step.event.dst - 1) d) step) }
+{
+    let trace = &mut traces[step.event.dst as usize - 1];
+    trace.steps.push(step)
+}
+
+impl Run {
+    /// The run before its first event.
+    pub fn begin(alloc: Global, model: &Model) -> Result<Run, AllocError>
+        ensures shows { IfOk result (λ r. Shows model.now r) }
+        ensures none { IfOk result (λ r. r.made ≡ 0) }
+    {
+        model.is_model();
+        Ok(Run {
+            made: 0,
+            states: states_of(alloc, model.objects())?,
+            pending: pending_of(alloc, model.until(), model.starts())?,
+            traces: traces_without_steps(alloc, model.objects())?,
+        })
+    }
+
+    /// Runs the least pending event and answers its time, or answers None where nothing is pending.
+    pub fn step(&mut self, model: &Model) -> Result<Option<u32>, AllocError>
+        requires shows { Shows model.now self.old }
+        requires few { self.old.made < 4194304 }
+        ensures { IfOk result (λ time. Advances model.now self.old self.new time) }
+    {
+        let Some(event) = self.pending.pop_first() else {
+            return Ok(None);
+        };
+        self.run(model, event)?;
+        Ok(Some(event.time))
+    }
+
+    /// The time of the least pending event.
+    pub fn next_time(&self) -> Option<u32>
+        ensures { MatchOption result (self.now.pending ≡ []) (λ time. (e : Event) × IsFirst e self.now.pending × (e.time ≡ time)) }
+    {
+        let event = self.pending.first()?;
+        Some(event.time)
+    }
+
+    /// The traces of the steps that were made.
+    pub fn into_traces(self) -> Traces
+        ensures { result ≡ self.traces.items }
+    {
+        let Run { traces, .. } = self;
+        Sequence::from_vec(traces)
+    }
+
+    /// Runs an event that was taken from the pending ones.
+    fn run(&mut self, model: &Model, event: Event) -> Result<(), AllocError>
+        requires next { IsNext model.now self.old event }
+        requires few { self.old.made < 4194304 }
+        ensures { OnOk result (Shows model.now self.new × (self.new.made ≡ self.old.made + 1)) }
+    {
+        model.is_model();
+        let at = event.dst as usize - 1;
+        let mut state = self.states[at];
+        let sends = react(model, event.dst, &mut state, &event);
+        self.states[at] = state;
+        let step = Step {
+            event,
+            count: state.count,
+            word: state.word,
+        };
+        push_step(&mut self.traces, step)?;
+        self.pending.insert_each(sends.as_slice())?;
+        self.made += 1;
+        Ok(())
+    }
+}
