@@ -12,3 +12,6 @@ mod summary;
 pub use printing::trace_text;
 pub use reading::{TraceFault, read_traces};
 pub use summary::summary_text;
+
+#[cfg(test)]
+mod tests;
