@@ -11,7 +11,7 @@ use Rattle.crq_printer.specs.Texts.{step_line, heading_line, heading, object_lin
 use Rattle.crq_printer.specs.Reading.{IsStepOf, IsTraceOf, AreTracesFrom, IsReadable}
 use Rattle.crq_printer.proofs.HeadingFields.{same_count}
 
-same_tail : {X : Type 0} (xs ys us vs : List X) → length xs ≡ length ys → xs ++ us ≡ ys ++ vs → us ≡ vs
+pub same_tail : {X : Type 0} (xs ys us vs : List X) → length xs ≡ length ys → xs ++ us ≡ ys ++ vs → us ≡ vs
 same_tail [] [] us vs same e = e
 same_tail [] (y ∷ ys) us vs same e = absurd (omega arith)
 same_tail (x ∷ xs) [] us vs same e = absurd (omega arith)

@@ -8,5 +8,6 @@ pub mod DueLaws
 pub mod FaultLaws
 pub mod StepsRead
 pub mod ReadingLaws
+pub mod SameTexts
 pub mod StepLines
 pub mod Pieces

@@ -74,6 +74,10 @@ pub lines_front : (xs ys : List (List ℕ)) → AreLines (xs ++ ys) → AreLines
 lines_front [] ys h = tt
 lines_front (x ∷ xs) ys h = (h.0, lines_front xs ys h.1)
 
+pub lines_back : (xs ys : List (List ℕ)) → AreLines (xs ++ ys) → AreLines ys
+lines_back [] ys h = h
+lines_back (x ∷ xs) ys h = lines_back xs ys h.1
+
 pub object_is_lines : (number : ℕ) (o : ObjectTrace) → number < 2 ^ 64 → IsTraceOf number o → AreLines (object_lines number o)
 object_is_lines number o small is = (heading_is_line number o small is, steps_are_lines number o.steps is.steps)
 
@@ -113,6 +117,11 @@ no_nil (w ∷ words) rest e = absurd (cc)
 
 no_empty_line : (y ys : List ℕ) → IsLine y → [] ≡ y ++ ys → ⊥
 no_empty_line y ys hy e = absurd (no_nil hy.words ys (e ∙ ap (λ (bs : List ℕ). bs ++ ys) hy.whole))
+
+-- no lines make no bytes
+pub no_lines : (lines : List (List ℕ)) → AreLines lines → [] ≡ concat lines → lines ≡ []
+no_lines [] all e = refl
+no_lines (l ∷ lines) all e = absurd (no_empty_line l (concat lines) all.0 e)
 
 -- bytes that begin with lines are lines that begin with these
 pub record Begins (xs ys : List (List ℕ)) (rest : List ℕ) : Type 0 where

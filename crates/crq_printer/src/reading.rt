@@ -4,6 +4,7 @@ ghost use Rattle.std.specs.Prelude.{◌≡◌, ℕ, ◌+◌, ◌<◌, ◌≤◌,
 ghost use Rattle.std.specs.List.{concat};
 ghost use Rattle.crq_printer.specs.Texts.{step_line, object_lines, trace_text_of};
 ghost use Rattle.crq_printer.specs.Reading.{IsStepOf, IsTraceOf, IsReadable, FaultIs};
+ghost use Rattle.crq_sim.specs.declared.traces.ObjectTrace.{ObjectTrace};
 ghost use Rattle.crq_printer.specs.Parts.{StepFault, PartFault};
 
 use crate::parts::{read_heading, read_step, skip_end, skip_first};
@@ -86,6 +87,7 @@ fn read_object(
 pub fn read_traces(alloc: Global, text: &[u8]) -> Result<Traces, TraceFault>
     ensures readable { IfOk result (λ ts. IsReadable ts) }
     ensures text { IfOk result (λ ts. trace_text_of ts ≡ text.now) }
+    ensures only { (ts : List ObjectTrace) → IsReadable ts → trace_text_of ts ≡ text.now → IfOk result (λ read. read ≡ ts) }
     ensures fault { IfErr result (λ e. FaultIs e text.now) }
 {
     let Some(mut rest) = skip_first(text) else {
