@@ -1,3 +1,13 @@
 pub mod Numerals
+pub mod FieldLaws
+pub mod NumberLaws
+pub mod StepFields
+pub mod HeadingFields
+pub mod LineLaws
+pub mod DueLaws
+pub mod FaultLaws
+pub mod StepsRead
+pub mod ReadingLaws
+pub mod SameTexts
 pub mod StepLines
 pub mod Pieces

@@ -9,7 +9,7 @@ pub concat-append : (xs ys : List (List ℕ)) → concat (xs ++ ys) ≡ concat x
 concat-append [] ys = refl
 concat-append (x ∷ xs) ys = ap (λ (zs : List ℕ). x ++ zs) (concat-append xs ys) ∙ sym (append_assoc x (concat xs) (concat ys))
 
-concat_push : (xs : List (List ℕ)) (y : List ℕ) → concat (xs ++ y ∷ []) ≡ concat xs ++ y
+pub concat_push : (xs : List (List ℕ)) (y : List ℕ) → concat (xs ++ y ∷ []) ≡ concat xs ++ y
 concat_push xs y = concat-append xs (y ∷ []) ∙ ap (λ (zs : List ℕ). concat xs ++ zs) (append-nil y)
 
 -- the line of the next step, which was written at the end of a buffer

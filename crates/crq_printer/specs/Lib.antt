@@ -1,1 +1,4 @@
 pub mod Texts
+pub mod Fields
+pub mod Reading
+pub mod Parts

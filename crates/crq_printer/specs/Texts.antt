@@ -26,9 +26,12 @@ kind_word Sink = codes "sink"
 abbrev pub step_line : Step → List ℕ
 step_line s = line (decimal s.event.time ∷ decimal s.event.src ∷ decimal s.event.seq ∷ decimal s.event.load ∷ decimal s.count ∷ decimal s.word ∷ [])
 
--- the line before an object's steps
+-- the line before an object's steps: its number, name and kind, and how many steps follow
+abbrev pub heading_line : ℕ → List ℕ → BehaviourName → ℕ → List ℕ
+heading_line number name kind count = line (codes "object" ∷ decimal number ∷ name ∷ kind_word kind ∷ decimal count ∷ [])
+
 abbrev pub heading : ℕ → ObjectTrace → List ℕ
-heading number o = line (codes "object" ∷ decimal number ∷ o.name ∷ kind_word o.behaviour ∷ decimal (length o.steps) ∷ [])
+heading number o = heading_line number o.name o.behaviour (length o.steps)
 
 abbrev pub object_lines : ℕ → ObjectTrace → List (List ℕ)
 object_lines number o = heading number o ∷ map step_line o.steps
@@ -42,9 +45,16 @@ lines_from number (o ∷ os) = object_lines number o ++ lines_from (number + 1) 
 abbrev pub steps_in : List ObjectTrace → ℕ
 steps_in ts = sum_by (λ (o : ObjectTrace). length o.steps) ts
 
--- the lines of a trace text: the objects are numbered from 1, and the last line has the sum of their counts
+abbrev pub first_line : List ℕ
+first_line = line (codes "trace" ∷ codes "1" ∷ [])
+
+-- the last line, with the sum of the objects' counts
+abbrev pub end_line : ℕ → List ℕ
+end_line total = line (codes "end" ∷ decimal total ∷ [])
+
+-- the lines of a trace text; the objects are numbered from 1
 abbrev pub trace_lines : List ObjectTrace → List (List ℕ)
-trace_lines ts = line (codes "trace" ∷ codes "1" ∷ []) ∷ (lines_from 1 ts ++ line (codes "end" ∷ decimal (steps_in ts) ∷ []) ∷ [])
+trace_lines ts = first_line ∷ (lines_from 1 ts ++ end_line (steps_in ts) ∷ [])
 
 unfoldable pub trace_text_of : List ObjectTrace → List ℕ
 trace_text_of ts = concat (trace_lines ts)

@@ -1,8 +1,8 @@
 //! The trace text.
 
-ghost use Rattle.std.specs.Prelude.{◌≡◌, ◌+◌, ◌<◌, ◌^◌, ℕ, ◌∷◌, ◌++◌, [], codes, length, IfOk, OnOk, SomeIff};
+ghost use Rattle.std.specs.Prelude.{◌≡◌, ◌+◌, ◌<◌, ◌^◌, ℕ, ◌∷◌, ◌++◌, [], codes, length, IfOk, OnOk, SomeIff, min, vec_len};
 ghost use Rattle.std.specs.Fmt.{decimal};
-ghost use Rattle.std.specs.List.{concat, flat_map};
+ghost use Rattle.std.specs.List.{concat, flat_map, sum_by};
 ghost use Rattle.crq_printer.specs.Texts.{line, object_lines, lines_from, steps_in, trace_text_of};
 
 use crate::lines::{heading, push_steps};
@@ -52,8 +52,10 @@ fn pieces<R: Threads + Sync>(
         .collect(rt, alloc)?
 }
 
-/// How long the pieces are together.
-fn total_len(pieces: &[Vec<u8>]) -> usize {
+/// How long the pieces are together, if that can be said.
+fn total_len(pieces: &[Vec<u8>]) -> usize
+    ensures { result ≡ min (sum_by (λ p. vec_len p) pieces.now) usize.MAX }
+{
     let mut total = 0usize;
     for piece in pieces {
         total = total.saturating_add(piece.len());
@@ -112,8 +114,5 @@ pub fn trace_text<R: Threads + Sync>(
     let Some(total) = steps_in(traces.as_slice()) else {
         return Err(Memory);
     };
-    match text_of(rt, alloc, traces.as_slice(), total) {
-        Ok(text) => Ok(text),
-        Err(AllocError) => Err(Memory),
-    }
+    Ok(text_of(rt, alloc, traces.as_slice(), total)?)
 }

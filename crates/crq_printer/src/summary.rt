@@ -96,8 +96,5 @@ pub fn summary_text(alloc: Global, outcome: &Outcome) -> Result<Vec<u8>, Memory>
     let Some(events) = steps_in(outcome.traces.as_slice()) else {
         return Err(Memory);
     };
-    match text_of(alloc, outcome, events) {
-        Ok(text) => Ok(text.into_bytes()),
-        Err(AllocError) => Err(Memory),
-    }
+    Ok(text_of(alloc, outcome, events)?.into_bytes())
 }
