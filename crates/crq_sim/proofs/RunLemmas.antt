@@ -1,6 +1,7 @@
 -- The variables of a run, and its steps.
-use Rattle.std.proofs.Common.{◌≡◌, ℕ, suc, ◌+◌, ◌-◌, ◌*◌, ◌≤◌, List, [], ◌∷◌, ◌++◌, length, get_or, set, refl, arith, ap, sym, ◌∙◌, subst, add-one, add-zero, add-suc, zero}
+use Rattle.std.proofs.Common.{◌≡◌, ℕ, suc, ◌+◌, ◌-◌, ◌*◌, ◌≤◌, List, [], ◌∷◌, ◌++◌, length, get_or, set, refl, arith, ap, sym, ◌∙◌, subst, add-one, add-zero, add-suc, zero, All}
 use Rattle.std.proofs.lemmas.List.{get_or_read}
+use Rattle.std.proofs.lemmas.List.Elements.{All-from_recursion}
 use Rattle.std.specs.List.{AllByRecursion}
 use Rattle.crq_base.specs.declared.event.Event.{Event}
 use Rattle.crq_sim.specs.declared.reaction.ObjectState.{ObjectState}
@@ -8,17 +9,15 @@ use Rattle.crq_sim.specs.declared.run.Run.{Run}
 use Rattle.crq_sim.specs.declared.traces.ObjectTrace.{ObjectTrace}
 use Rattle.crq_sim.specs.declared.traces.Step.{Step}
 use Rattle.crq_sim.specs.EventLists.{with_events, IsFirst}
-use Rattle.crq_sim.specs.Models.{ModelData, IsModel}
+use Rattle.crq_sim.specs.Models.{ModelData, IsModel, IsObject}
 use Rattle.crq_sim.specs.Reactions.{behaviour_at, sends_of, state_after, IsWordOf}
 use Rattle.crq_sim.specs.Runs.{Simulation, state_of, step_of, run_first, after_events, traces_of, IsOverWithin, traces_within}
-use Rattle.crq_sim.specs.Shown.{Shows, IsNext, with_step}
+use Rattle.crq_sim.specs.Shown.{Shows, IsNext}
 use Rattle.crq_sim.proofs.Sound.{IsDue, sound, no_state}
-use Rattle.crq_sim.proofs.TraceLemmas.{length-traces, traces_step}
 
 -- what is known of a run whose least pending event was taken
 pub record Known (m : ModelData) (r : Run) (e : Event) : Type 0 where
   pub all_states : length r.states.items ≡ length m.objects
-  pub all_traces : length r.traces.items ≡ length m.objects
   pub due : IsDue m r.states.items e
   pub count : (state_of r.states.items e.dst).count ≤ r.made
   pub sent : (state_of r.states.items e.dst).sent ≤ 4 * r.made
@@ -33,7 +32,6 @@ next_known m r e is h =
     let mine : AllByRecursion (IsDue m r.states.items) (e ∷ r.pending) = subst (λ (xs : List ObjectState). AllByRecursion (IsDue m xs) (e ∷ r.pending)) (sym h.states) events in
     record {
       all_states = ap length h.states ∙ all.many;
-      all_traces = ap length h.traces ∙ length-traces 1 m.objects w.log;
       due = mine.0;
       count = (let k = all.counts e.dst in rw h.states k);
       sent = (let k = all.sents e.dst in rw h.states k);
@@ -58,14 +56,14 @@ unfolding after_events
 next_events m n = rw add-one refl
 
 -- what the variables hold after the event was run
-pub record Ran (m : ModelData) (r : Run) (e : Event) (s : ObjectState) (states : List ObjectState) (pending : List Event) (traces : List ObjectTrace) : Type 0 where
+pub record Ran (m : ModelData) (r : Run) (e : Event) (s : ObjectState) (states : List ObjectState) (pending : List Event) (log : List Step) : Type 0 where
   pub state : s ≡ state_after m e.dst (state_of r.states.items e.dst) e
   pub states_are : states ≡ set r.states.items (e.dst - 1) s
   pub pending_is : pending ≡ with_events (sends_of m e.dst (state_of r.states.items e.dst) e) r.pending
-  pub traces_are : (d : ObjectTrace) → traces ≡ with_step r.traces.items (get_or r.traces.items (e.dst - 1) d) (record { event = e; count = s.count; word = s.word })
+  pub log_is : log ≡ r.log.items ++ record { event = e; count = s.count; word = s.word } ∷ []
 
-pub ran_shows : (m : ModelData) (r r' : Run) (e : Event) (s : ObjectState) → IsModel m → IsNext m r e → Ran m r e s r'.states.items r'.pending r'.traces.items → ObjectTrace → r'.made ≡ r.made + 1 → Shows m r'
-ran_shows m r r' e s is h ran d made =
+pub ran_shows : (m : ModelData) (r r' : Run) (e : Event) (s : ObjectState) → IsModel m → IsNext m r e → Ran m r e s r'.states.items r'.pending r'.log.items → r'.made ≡ r.made + 1 → Shows m r'
+ran_shows m r r' e s is h ran made =
     let w : Simulation = after_events m r.made in
     let known = next_known m r e is h in
     let there = known.due.there in
@@ -78,9 +76,29 @@ ran_shows m r r' e s is h ran d made =
     record {
       states = ran.states_are ∙ ap (λ (xs : List ObjectState). set xs (e.dst - 1) s) h.states ∙ ap (λ (x : ObjectState). set w.states (e.dst - 1) x) s_is ∙ sym (ap (λ (x : Simulation). x.states) next);
       pending = ran.pending_is ∙ ap (λ (x : ObjectState). with_events (sends_of m e.dst x e) r.pending) here ∙ sym (ap (λ (x : Simulation). x.pending) next);
-      traces = ran.traces_are d ∙ traces_step m.objects w.log step r.traces.items d there.0 there.1 h.traces
-          ∙ ap (λ (x : Step). traces_of m.objects (w.log ++ x ∷ [])) step_is ∙ sym (ap (λ (x : Simulation). traces_of m.objects x.log) next);
+      log = ran.log_is ∙ ap (λ (xs : List Step). xs ++ step ∷ []) h.log ∙ ap (λ (x : Step). w.log ++ x ∷ []) step_is ∙ sym (ap (λ (x : Simulation). x.log) next);
     }
+
+-- each step was made at one of the objects
+All-push : (P : Step → Type 0) (xs : List Step) (x : Step) → AllByRecursion P xs → P x → AllByRecursion P (xs ++ x ∷ [])
+All-push P [] x all p = (p, tt)
+All-push P (y ∷ ys) x all p = (all.0, All-push P ys x all.1 p)
+
+step_there : (m : ModelData) (states : List ObjectState) (pending : List Event) (log : List Step) → AllByRecursion (IsDue m states) pending
+    → AllByRecursion (λ (s : Step). IsObject (length m.objects) s.event.dst) log → AllByRecursion (λ (s : Step). IsObject (length m.objects) s.event.dst) (run_first m states pending log).log
+unfolding run_first
+step_there m states [] log due all = all
+step_there m states (e ∷ es) log due all = All-push (λ (s : Step). IsObject (length m.objects) s.event.dst) log (step_of m (state_of states e.dst) e) all due.0.there
+
+steps_there : (m : ModelData) (n : ℕ) → IsModel m → AllByRecursion (λ (s : Step). IsObject (length m.objects) s.event.dst) (after_events m n).log
+unfolding after_events
+steps_there m zero is = tt
+steps_there m (suc n) is = let w = after_events m n in step_there m w.states w.pending w.log (sound m n is).events (steps_there m n is)
+
+pub log_there : (m : ModelData) (r : Run) → IsModel m → Shows m r → All (λ (s : Step). IsObject (length m.objects) s.event.dst) r.log.items
+log_there m r is h =
+    subst (λ (xs : List Step). All (λ (s : Step). IsObject (length m.objects) s.event.dst) xs) (sym h.log)
+    (All-from_recursion (λ (s : Step). IsObject (length m.objects) s.event.dst) (after_events m r.made).log (steps_there m r.made is))
 
 stays_once : (m : ModelData) (states : List ObjectState) (pending : List Event) (log : List Step) → pending ≡ [] → ((run_first m states pending log).pending ≡ []) × ((run_first m states pending log).log ≡ log)
 unfolding run_first

@@ -5,6 +5,7 @@ use Rattle.std.proofs.lemmas.List.{take_more}
 use Rattle.crq_sim.specs.declared.model.Object.{Object}
 use Rattle.crq_sim.specs.declared.traces.ObjectTrace.{ObjectTrace}
 use Rattle.crq_sim.specs.declared.traces.Step.{Step}
+use Rattle.crq_sim.specs.Models.{IsObject}
 use Rattle.crq_sim.specs.Runs.{kind_of, steps_of, traces_from, traces_of}
 use Rattle.crq_sim.specs.Shown.{with_step}
 
@@ -74,3 +75,10 @@ pub trace_pushed : (objects : List Object) (i : ℕ) (o : Object) → i < length
     → traces_of (take i objects) [] ++ record { name = o.name; behaviour = kind_of o.behaviour; steps = [] } ∷ [] ≡ traces_of (take (i + 1) objects) []
 trace_pushed objects i o lt is =
     sym (traces_append 1 (take i objects) o []) ∙ sym (ap (λ xs. traces_of xs []) (take_more objects i o lt ∙ ap (λ x. take i objects ++ x ∷ []) (sym is)))
+
+-- the next step goes into the trace of its object
+pub step_gathered : (objects : List Object) (log : List Step) (i : ℕ) (e : Step) (traces : List ObjectTrace) (d : ObjectTrace) → i < length log
+    → IsObject (length objects) (get_or log i e).event.dst → traces ≡ traces_of objects (take i log)
+    → with_step traces (get_or traces ((get_or log i e).event.dst - 1) d) (get_or log i e) ≡ traces_of objects (take (i + 1) log)
+step_gathered objects log i e traces d lt there is =
+    traces_step objects (take i log) (get_or log i e) traces d there.0 there.1 is ∙ ap (traces_of objects) (sym (take_more log i e lt))

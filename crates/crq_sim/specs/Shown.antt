@@ -6,19 +6,19 @@ use Rattle.crq_sim.specs.declared.traces.ObjectTrace.{ObjectTrace}
 use Rattle.crq_sim.specs.declared.traces.Step.{Step}
 use Rattle.crq_sim.specs.EventLists.{IsFirst}
 use Rattle.crq_sim.specs.Models.{ModelData}
-use Rattle.crq_sim.specs.Runs.{after_events, traces_of}
+use Rattle.crq_sim.specs.Runs.{after_events}
 
 -- the variables are what the model has after as many events as were counted
 pub record Shows (m : ModelData) (run : Run) : Type 0 where
   pub states : run.states.items ≡ (after_events m run.made).states
   pub pending : run.pending ≡ (after_events m run.made).pending
-  pub traces : run.traces.items ≡ traces_of m.objects (after_events m run.made).log
+  pub log : run.log.items ≡ (after_events m run.made).log
 
 -- they are, but for the least pending event, which was taken
 pub record IsNext (m : ModelData) (run : Run) (e : Event) : Type 0 where
   pub states : run.states.items ≡ (after_events m run.made).states
   pub pending : (after_events m run.made).pending ≡ e ∷ run.pending
-  pub traces : run.traces.items ≡ traces_of m.objects (after_events m run.made).log
+  pub log : run.log.items ≡ (after_events m run.made).log
 
 -- the least pending event was run, which has this time; or nothing was pending
 abbrev pub Advances : ModelData → Run → Run → Option ℕ → Type 0

@@ -1,14 +1,15 @@
 //! The variables of a serial run, and its steps.
 
-ghost use Rattle.std.specs.Prelude.{◌≡◌, ℕ, ◌+◌, ◌-◌, ◌<◌, ◌≤◌, length, IfOk, OnOk, MatchOption, [], slice_index_or, vec_len};
+ghost use Rattle.std.specs.Prelude.{◌≡◌, ℕ, ◌+◌, ◌-◌, ◌<◌, ◌≤◌, length, IfOk, OnOk, MatchOption, [], slice_index_or, vec_len, All};
 ghost use Rattle.crq_base.specs.declared.event.Event.{Event};
 ghost use Rattle.crq_sim.specs.EventLists.{with_events, IsFirst};
-ghost use Rattle.crq_sim.specs.Models.{ModelData, IsModel};
+ghost use Rattle.crq_sim.specs.Models.{ModelData, IsModel, IsObject};
 ghost use Rattle.crq_sim.specs.Runs.{kind_of, after_events, first_states, scheduled_starts, traces_of};
 ghost use Rattle.crq_sim.specs.Shown.{Shows, IsNext, Advances, with_step};
 ghost use Rattle.crq_sim.specs.declared.model.Object.{Object};
 ghost use Rattle.crq_sim.specs.declared.run.Run.{Run};
 ghost use Rattle.crq_sim.specs.declared.traces.ObjectTrace.{ObjectTrace};
+ghost use Rattle.crq_sim.specs.declared.traces.Step.{Step};
 
 use crate::model::{Behaviour, BehaviourName, Model, Object, Start};
 use crate::pending::Pending;
@@ -24,7 +25,8 @@ pub struct Run {
     pub made: u32,
     pub states: Vec<ObjectState>,
     pub pending: Pending,
-    pub traces: Vec<ObjectTrace>,
+    /// The steps of all objects, in the order in which they were made.
+    pub log: Vec<Step>,
 }
 
 impl Behaviour {
@@ -107,6 +109,18 @@ fn push_step(traces: &mut Vec<ObjectTrace>, step: Step) -> Result<(), AllocError
     trace.steps.push(step)
 }
 
+/// The traces of the objects, each with its own steps of all that were made.
+fn gathered(alloc: Global, objects: &[Object], log: &[Step]) -> Result<Traces, AllocError>
+    requires { All (λ (s : Step). IsObject (length objects.now) s.event.dst) log.now }
+    ensures { IfOk result (λ t. t ≡ traces_of objects.now log.now) }
+{
+    let mut traces = traces_without_steps(alloc, objects)?;
+    for step in log {
+        push_step(&mut traces, *step)?;
+    }
+    Ok(Sequence::from_vec(traces))
+}
+
 impl Run {
     /// The run before its first event.
     pub fn begin(alloc: Global, model: &Model) -> Result<Run, AllocError>
@@ -118,7 +132,7 @@ impl Run {
             made: 0,
             states: states_of(alloc, model.objects())?,
             pending: pending_of(alloc, model.until(), model.starts())?,
-            traces: traces_without_steps(alloc, model.objects())?,
+            log: Vec::new(alloc),
         })
     }
 
@@ -144,11 +158,12 @@ impl Run {
     }
 
     /// The traces of the steps that were made.
-    pub fn into_traces(self) -> Traces
-        ensures { result ≡ self.traces.items }
+    pub fn into_traces(self, alloc: Global, model: &Model) -> Result<Traces, AllocError>
+        requires { Shows model.now self }
+        ensures { IfOk result (λ t. t ≡ traces_of model.now.objects (after_events model.now self.made).log) }
     {
-        let Run { traces, .. } = self;
-        Sequence::from_vec(traces)
+        model.is_model();
+        gathered(alloc, model.objects(), self.log.as_slice())
     }
 
     /// Runs an event that was taken from the pending ones.
@@ -167,7 +182,7 @@ impl Run {
             count: state.count,
             word: state.word,
         };
-        push_step(&mut self.traces, step)?;
+        self.log.push(step)?;
         self.pending.insert_each(sends.as_slice())?;
         self.made += 1;
         Ok(())

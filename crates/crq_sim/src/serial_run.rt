@@ -89,7 +89,7 @@ pub fn serial(alloc: Global, model: &Model, cap: u32) -> Result<Traces, SimEnd>
     for _event in 0..cap {
         match run.step(model)? {
             Some(time) => window.pass(model, time),
-            None => return Ok(run.into_traces()),
+            None => return Ok(run.into_traces(alloc, model)?),
         }
     }
     match run.next_time() {
@@ -97,6 +97,6 @@ pub fn serial(alloc: Global, model: &Model, cap: u32) -> Result<Traces, SimEnd>
             window.pass(model, time);
             Err(SimEnd::Events(window.number))
         }
-        None => Ok(run.into_traces()),
+        None => Ok(run.into_traces(alloc, model)?),
     }
 }

@@ -6,13 +6,18 @@ use Rattle.crq_sim.proofs.RunLemmas.{over_within, more_than}
 use Rattle.crq_sim.proofs.WindowLemmas.{tracked}
 use Rattle.crq_sim.proofs.serial_run.serial.Goals as goal
 
+pub into_traces-requires : goal.into_traces-requires
+into_traces-requires c =
+    let none : Advances c.args.model.now c.loop-event.run c.step.new.self None = subst (λ (o : Option ℕ). Advances c.args.model.now c.loop-event.run c.step.new.self o) c.in-None.is c.in_ok-time.ensures in
+    none.1
+
 pub returns-in-None-clause-traces : goal.returns-in-None-clause-traces
 returns-in-None-clause-traces c =
     let m = c.args.model.now in
     let old = c.loop-event.run in
     let none : Advances m old c.step.new.self None = subst (λ (o : Option ℕ). Advances m old c.step.new.self o) c.in-None.is c.in_ok-time.ensures in
     over_within m old.made c.args.cap _ (let a = c.loop-event.invariant.made in let b = c.loop-event-test.true in omega arith) none.0
-    (c.into_traces.ensures ∙ none.1.traces ∙ ap (λ n. traces_of m.objects (after_events m n).log) none.2)
+    (c.in_ok-into_traces-in-None.ensures ∙ ap (λ n. traces_of m.objects (after_events m n).log) none.2)
 
 pub returns-in-Some-next_time-clause-ends : goal.returns-in-Some-next_time-clause-ends
 returns-in-Some-next_time-clause-ends c =

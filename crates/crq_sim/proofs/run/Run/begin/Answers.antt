@@ -8,5 +8,5 @@ unfolding after_events
 returns-clause-shows c = record {
   states = c.in_ok-states_of.ensures ∙ ap first_states c.objects.ensures;
   pending = c.in_ok-pending_of.ensures ∙ ap (λ until. with_events (scheduled_starts until 0 c.starts.result.now) []) c.until.ensures ∙ ap (λ starts. with_events (scheduled_starts c.args.model.now.until 0 starts) []) c.starts.ensures;
-  traces = c.in_ok-traces_without_steps.ensures ∙ ap (λ objects. traces_of objects []) c.objects-2.ensures;
+  log = c.new.ensures.items;
 }

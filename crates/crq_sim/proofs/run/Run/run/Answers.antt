@@ -1,18 +1,12 @@
 use Rattle.std.proofs.Common.{◌≡◌, ◌∙◌, ap, arith, sym, List, subst, refl, []}
 use Rattle.crq_base.specs.declared.event.Event.{Event}
 use Rattle.crq_sim.specs.declared.reaction.ObjectState.{ObjectState}
-use Rattle.crq_sim.specs.declared.model.BehaviourName.TheVariants.{Sink}
-use Rattle.crq_sim.specs.declared.traces.ObjectTrace.{ObjectTrace}
 use Rattle.crq_sim.specs.EventLists.{with_events}
 use Rattle.crq_sim.specs.Reactions.{behaviour_at, state_after, sends_of, IsWordOf}
 use Rattle.crq_sim.specs.Runs.{state_of}
 use Rattle.crq_sim.proofs.RunLemmas.{Known, next_known, state_read, ran_shows}
 use Rattle.crq_sim.proofs.run.Run.run.Goals as goal
 use Rattle.crq_sim.proofs.run.Run.run.Goals.{After-is_model, After-index}
-
--- some trace
-no_trace : ObjectTrace
-no_trace = record { name = []; behaviour = Sink; steps = [] }
 
 known : (c : After-is_model) → Known c.args.model.now c.args.self.now c.args.event
 known c = next_known c.args.model.now c.args.self.now c.args.event c.is_model.ensures c.requires.next
@@ -53,9 +47,6 @@ react-sends-requires-clause-word c =
 pub index_mut-requires : goal.index_mut-requires
 index_mut-requires c = let k = known (goal.at.index_mut-requires c).After-is_model in let a = k.all_states in let b = k.due.there in omega arith
 
-pub push_step-requires : goal.push_step-requires
-push_step-requires c = let k = known (goal.at.push_step-requires c).After-is_model in let a = k.all_traces in let b = k.due.there in (k.due.there.0, omega arith)
-
 pub returns : goal.returns
 returns c =
     let s = read (goal.at.returns c).After-index in
@@ -65,8 +56,8 @@ returns c =
             state = c.react-sends.ensures.state ∙ ap (λ (x : ObjectState). state_after c.args.model.now c.args.event.dst x c.args.event) s;
             states_are = refl;
             pending_is = c.in_ok-insert_each.ensures ∙ ap (λ (es : List Event). with_events es c.args.self.now.pending) sends;
-            traces_are = c.in_ok-push_step.ensures;
+            log_is = c.in_ok-push.ensures.items;
           })
-          no_trace refl,
+          refl,
       refl,
     )
