@@ -1,6 +1,6 @@
 use Rattle.std.proofs.Common.{◌∙◌, ap, []}
 use Rattle.crq_sim.specs.EventLists.{with_events}
-use Rattle.crq_sim.specs.Runs.{first_states, scheduled_starts, traces_of, after_events}
+use Rattle.crq_sim.specs.Runs.{first_states, scheduled_starts, after_events}
 use Rattle.crq_sim.proofs.run.Run.begin.Goals as goal
 
 pub returns-clause-shows : goal.returns-clause-shows

@@ -1,4 +1,4 @@
-use Rattle.std.proofs.Common.{◌≡◌, ◌∙◌, ap, arith, sym, List, subst, refl, []}
+use Rattle.std.proofs.Common.{◌≡◌, ◌∙◌, ap, arith, sym, List, subst, refl}
 use Rattle.crq_base.specs.declared.event.Event.{Event}
 use Rattle.crq_sim.specs.declared.reaction.ObjectState.{ObjectState}
 use Rattle.crq_sim.specs.EventLists.{with_events}
