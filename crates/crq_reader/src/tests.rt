@@ -3,14 +3,18 @@ use std::alloc::{AllocError, Global};
 use std::test::Fail;
 
 /// Two relays that send to each other.
-const RELAYS: &str = r#"{"format":1,"lookahead":5,"until":12,"objects":[{"name":"a","kind":"relay","delay":5,"next":"b"},{"name":"b","kind":"relay","delay":7,"next":"a"}],"starts":[{"time":0,"object":"a"}]}"#;
+const RELAYS: &str =
+    r#"{"format":1,"lookahead":5,"until":12,"objects":[{"name":"a","kind":"relay","delay":5,"next":"b"},{"name":"b","kind":"relay","delay":7,"next":"a"}],"starts":[{"time":0,"object":"a"}]}"#;
 
-const RELAYS_TEXT: &str = "{\"format\":1,\"lookahead\":5,\"objects\":[{\"delay\":5,\"kind\":\"relay\",\"name\":\"a\",\"next\":\"b\"},{\"delay\":7,\"kind\":\"relay\",\"name\":\"b\",\"next\":\"a\"}],\"starts\":[{\"data\":0,\"object\":\"a\",\"time\":0}],\"until\":12}\n";
+const RELAYS_TEXT: &str =
+    "{\"format\":1,\"lookahead\":5,\"objects\":[{\"delay\":5,\"kind\":\"relay\",\"name\":\"a\",\"next\":\"b\"},{\"delay\":7,\"kind\":\"relay\",\"name\":\"b\",\"next\":\"a\"}],\"starts\":[{\"data\":0,\"object\":\"a\",\"time\":0}],\"until\":12}\n";
 
 /// All behaviours, with names that come later, members in another order, one that is passed over and one given twice.
-const KINDS: &str = r#"{"starts":[{"object":"p.1","time":4294967295,"data":18446744073709551615}],"objects":[{"name":"p.1","kind":"phold","seed":18446744073709551615,"spread":0},{"next":"f","service":9,"kind":"station","name":"s"},{"name":"f","kind":"fan","delay":3,"targets":["f","z_Z-","f","s"]},{"name":"q","name":"z_Z-","kind":"sink","colour":null}],"until":0,"lookahead":3,"format":1}"#;
+const KINDS: &str =
+    r#"{"starts":[{"object":"p.1","time":4294967295,"data":18446744073709551615}],"objects":[{"name":"p.1","kind":"phold","seed":18446744073709551615,"spread":0},{"next":"f","service":9,"kind":"station","name":"s"},{"name":"f","kind":"fan","delay":3,"targets":["f","z_Z-","f","s"]},{"name":"q","name":"z_Z-","kind":"sink","colour":null}],"until":0,"lookahead":3,"format":1}"#;
 
-const KINDS_TEXT: &str = "{\"format\":1,\"lookahead\":3,\"objects\":[{\"kind\":\"phold\",\"name\":\"p.1\",\"seed\":18446744073709551615,\"spread\":0},{\"kind\":\"station\",\"name\":\"s\",\"next\":\"f\",\"service\":9},{\"delay\":3,\"kind\":\"fan\",\"name\":\"f\",\"targets\":[\"f\",\"z_Z-\",\"f\",\"s\"]},{\"kind\":\"sink\",\"name\":\"z_Z-\"}],\"starts\":[{\"data\":18446744073709551615,\"object\":\"p.1\",\"time\":4294967295}],\"until\":0}\n";
+const KINDS_TEXT: &str =
+    "{\"format\":1,\"lookahead\":3,\"objects\":[{\"kind\":\"phold\",\"name\":\"p.1\",\"seed\":18446744073709551615,\"spread\":0},{\"kind\":\"station\",\"name\":\"s\",\"next\":\"f\",\"service\":9},{\"delay\":3,\"kind\":\"fan\",\"name\":\"f\",\"targets\":[\"f\",\"z_Z-\",\"f\",\"s\"]},{\"kind\":\"sink\",\"name\":\"z_Z-\"}],\"starts\":[{\"data\":18446744073709551615,\"object\":\"p.1\",\"time\":4294967295}],\"until\":0}\n";
 
 /// The number and the place of a text's fault, or 0 and 0 for a model.
 fn fault_of(alloc: Global, text: &[u8]) -> (u32, u32) {
@@ -71,28 +75,78 @@ fn texts_that_are_none(rt: HostRuntime) -> Result<(), Fail> {
         ("\"name\":\"b\"", "\"name\":\"a\"", 5, 2),
         ("\"name\":\"b\"", "\"name\":\"\"", 5, 2),
         ("\"name\":\"b\"", "\"name\":\"b b\"", 5, 2),
-        ("\"name\":\"b\"", "\"name\":\"123456789012345678901234567890123\"", 5, 2),
+        (
+            "\"name\":\"b\"",
+            "\"name\":\"123456789012345678901234567890123\"",
+            5,
+            2,
+        ),
         ("\"kind\":\"relay\",\"delay\":5", "\"delay\":5", 3, 1),
-        ("\"kind\":\"relay\",\"delay\":7", "\"kind\":\"relais\",\"delay\":7", 6, 2),
+        (
+            "\"kind\":\"relay\",\"delay\":7",
+            "\"kind\":\"relais\",\"delay\":7",
+            6,
+            2,
+        ),
         (b, "7", 4, 2),
-        (b, r#"{"name":"b","kind":"fan","delay":7,"targets":[]}"#, 5, 2),
-        (b, r#"{"name":"b","kind":"fan","delay":7,"targets":["a",1,"a","a","a"]}"#, 8, 2),
-        (b, r#"{"name":"b","kind":"fan","delay":7,"targets":["a",1]}"#, 4, 2),
-        (b, r#"{"name":"b","kind":"fan","delay":7,"targets":["a","c"]}"#, 6, 2),
-        (b, r#"{"name":"b","kind":"phold","seed":18446744073709551616,"spread":0}"#, 4, 2),
-        (b, r#"{"name":"b","kind":"station","service":4,"next":"a"}"#, 7, 2),
+        (
+            b,
+            r#"{"name":"b","kind":"fan","delay":7,"targets":[]}"#,
+            5,
+            2,
+        ),
+        (
+            b,
+            r#"{"name":"b","kind":"fan","delay":7,"targets":["a",1,"a","a","a"]}"#,
+            8,
+            2,
+        ),
+        (
+            b,
+            r#"{"name":"b","kind":"fan","delay":7,"targets":["a",1]}"#,
+            4,
+            2,
+        ),
+        (
+            b,
+            r#"{"name":"b","kind":"fan","delay":7,"targets":["a","c"]}"#,
+            6,
+            2,
+        ),
+        (
+            b,
+            r#"{"name":"b","kind":"phold","seed":18446744073709551616,"spread":0}"#,
+            4,
+            2,
+        ),
+        (
+            b,
+            r#"{"name":"b","kind":"station","service":4,"next":"a"}"#,
+            7,
+            2,
+        ),
         (b, r#"{"name":"b","kind":"sink"},null"#, 4, 3),
         ("\"time\":0", "\"time\":4294967296", 5, 3),
         ("\"time\":0,", "", 3, 3),
         ("\"object\":\"a\"", "\"object\":\"a\",\"data\":null", 4, 3),
-        ("\"object\":\"a\"", "\"object\":\"a\",\"data\":18446744073709551616", 4, 3),
+        (
+            "\"object\":\"a\"",
+            "\"object\":\"a\",\"data\":18446744073709551616",
+            4,
+            3,
+        ),
     ];
     for (old, new, number, at) in rows {
         let text = changed(alloc, RELAYS, old, new)?;
-        assert_eq!(rt; fault_of(alloc, text.as_bytes()), (number, at), "{new} for {old}");
+        assert_eq!(rt;
+            fault_of(alloc, text.as_bytes()),
+            (number, at),
+            "{new} for {old}"
+        );
     }
     let alone = changed(alloc, RELAYS, b, "")?;
-    let no_objects = r#"{"format":1,"lookahead":5,"until":12,"objects":[],"starts":[{"time":0,"object":"a"}]}"#;
+    let no_objects =
+        r#"{"format":1,"lookahead":5,"until":12,"objects":[],"starts":[{"time":0,"object":"a"}]}"#;
     for (text, number, at) in [(alone.as_str(), 1, 0), (no_objects, 6, 1), ("7", 4, 0)] {
         assert_eq!(rt; fault_of(alloc, text.as_bytes()), (number, at), "{text}");
     }
@@ -110,8 +164,10 @@ fn repeated(alloc: Global, piece: &str, times: u32) -> Result<String, AllocError
 
 /// A model of relays that each send to the next one, with a start at each.
 fn ring(alloc: Global, objects: u32) -> Result<String, AllocError> {
-    let mut text =
-        String::from_str(alloc, "{\"format\":1,\"lookahead\":1,\"until\":9,\"objects\":[")?;
+    let mut text = String::from_str(
+        alloc,
+        "{\"format\":1,\"lookahead\":1,\"until\":9,\"objects\":[",
+    )?;
     for k in 0..objects {
         let comma = if k == 0 { "" } else { "," };
         let next = (k + 1) % objects;
@@ -146,17 +202,36 @@ fn hostile_texts(rt: HostRuntime) -> Result<(), Fail> {
     let alloc = rt.alloc();
     for byte in *b"[{\"0 1a,:-\\\x00\xff" {
         let text = vec![in alloc; byte; 16_777_216]?;
-        assert_eq!(rt; fault_of(alloc, text.as_slice()), (1, 0), "16 MiB of byte {byte}");
+        assert_eq!(rt;
+            fault_of(alloc, text.as_slice()),
+            (1, 0),
+            "16 MiB of byte {byte}"
+        );
     }
     let deep = repeated(alloc, "[", 1000)?;
     let nested = repeated(alloc, "{\"format\":", 1_600_000)?;
     let long = repeated(alloc, "1", 16_000_000)?;
     let long_number = changed(alloc, RELAYS, "12", long.as_str())?;
-    let long_name = changed(alloc, RELAYS, "\"b\"", format!(in alloc; "\"{long}\"")?.as_str())?;
+    let long_name = changed(
+        alloc,
+        RELAYS,
+        "\"b\"",
+        format!(in alloc; "\"{long}\"")?.as_str(),
+    )?;
     let past = changed(alloc, RELAYS, "12", "18446744073709551616")?;
     let full = ring(alloc, 65_535)?;
-    let twice = changed(alloc, full.as_str(), "\"name\":\"n65534\"", "\"name\":\"n0\"")?;
-    let unknown = changed(alloc, full.as_str(), "\"object\":\"n65534\"", "\"object\":\"m\"")?;
+    let twice = changed(
+        alloc,
+        full.as_str(),
+        "\"name\":\"n65534\"",
+        "\"name\":\"n0\"",
+    )?;
+    let unknown = changed(
+        alloc,
+        full.as_str(),
+        "\"object\":\"n65534\"",
+        "\"object\":\"m\"",
+    )?;
     let more = ring(alloc, 65_536)?;
     let members = members(alloc, 1_200_000)?;
     for (text, number, at) in [
@@ -182,8 +257,16 @@ fn hostile_texts(rt: HostRuntime) -> Result<(), Fail> {
 fn faults_in_words(rt: HostRuntime) -> Result<(), Fail> {
     let alloc = rt.alloc();
     let rows = [
-        ("\"lookahead\":5", "\"lookahead\":0", "the model: the lookahead is 0, or a delay or service is below it"),
-        ("\"next\":\"a\"", "\"next\":\"c\"", "object 2: there is no such kind, or no object of that name"),
+        (
+            "\"lookahead\":5",
+            "\"lookahead\":0",
+            "the model: the lookahead is 0, or a delay or service is below it",
+        ),
+        (
+            "\"next\":\"a\"",
+            "\"next\":\"c\"",
+            "object 2: there is no such kind, or no object of that name",
+        ),
         ("\"time\":0,", "", "start 1: a member is missing"),
     ];
     for (old, new, words) in rows {
