@@ -1,11 +1,11 @@
 -- The language reads a model back from its canonical text.
-use Rattle.std.proofs.Common.{◌≡◌, ℕ, zero, suc, ◌+◌, ◌-◌, ◌^◌, ◌<◌, ◌≤◌, List, [], ◌∷◌, ◌++◌, length, get_or, map, Bool, true, false, cond, Option, Some, None, is_some, ok_or, Result, Ok, Err, ◌⊎◌, inl, inr, refl, sym, ap, ap₂, ◌∙◌, subst, arith, ◌==◌, nat_lt, length-append}
-use Rattle.std.specs.List.{All, Contains, position_from, filter_map, list_all}
+use Rattle.std.proofs.Common.{◌≡◌, ℕ, zero, suc, ◌+◌, ◌-◌, ◌^◌, ◌<◌, List, [], ◌∷◌, ◌++◌, length, get_or, map, true, false, Some, None, is_some, ok_or, Ok, refl, sym, ap, ◌∙◌, subst, arith, ◌==◌, length-append}
+use Rattle.std.specs.List.{All, position_from, filter_map, list_all}
 use Rattle.std.specs.Str.{bytes_eq}
-use Rattle.std.proofs.lemmas.Bool.{cases_Bool, lt-ltb, le-ltb, ne_eqb, false_from_ne_true}
+use Rattle.std.proofs.lemmas.Bool.{lt-ltb, le-ltb, ne_eqb, false_from_ne_true}
 use Rattle.std.proofs.lemmas.List.{length-map, map-append, map-id, get_or_at, get_or_default}
 use Rattle.std.proofs.lemmas.Slice.Eq.{bytes_eq-Decides}
-use Rattle.serde_json.specs.Data.{Data, string, object}
+use Rattle.serde_json.specs.Data.{Data, object}
 use Rattle.serde_json.specs.Find.{as_str}
 use Rattle.serde_json.specs.View.{items_of}
 use Rattle.crq_sim.specs.Names.{is_name}
@@ -14,7 +14,7 @@ use Rattle.crq_sim.specs.declared.model.Object.{Object}
 use Rattle.crq_sim.specs.declared.model.Start.{Start}
 use Rattle.crq_sim.specs.declared.model.Behaviour.{Behaviour}
 use Rattle.crq_sim.specs.declared.model.Behaviour.TheVariants.{Relay, Phold, Station, Fan, Sink}
-use Rattle.crq_reader.specs.Language.{Header, elements, each, told, in_file, in_object, in_start, header, known, known_all, number_of, names_of, targets, named_of, next_named, named_objects, behaviour_of, object_of, next_object, objects_of, start_of, next_start, starts_of, and_then, elements_then, objects_then, model_of, Sending, Named, relay, phold, station, fan, sink}
+use Rattle.crq_reader.specs.Language.{Header, elements, each, told, in_file, in_object, in_start, header, known, known_all, number_of, names_of, named_of, next_named, named_objects, behaviour_of, next_object, objects_of, start_of, next_start, starts_of, and_then, elements_then, objects_then, model_of, Sending, Named, relay, phold, station, fan, sink}
 use Rattle.crq_reader.specs.Canonical.{names_in, name_at, object_members, object_data, start_data, model_data, IsTicks}
 use Rattle.crq_reader.specs.declared.fault.Fault.TheVariants.{UnknownName}
 use Rattle.crq_reader.proofs.EachLaws.{each_all}

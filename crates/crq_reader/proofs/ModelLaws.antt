@@ -1,10 +1,10 @@
 -- A model that the language gives keeps what each model keeps.
-use Rattle.std.proofs.Common.{◌≡◌, ℕ, zero, suc, ◌+◌, ◌^◌, ◌<◌, ◌≤◌, List, [], ◌∷◌, ◌++◌, length, get_or, map, Bool, true, false, cond, Option, Some, None, Result, Ok, Err, ◌⊎◌, inl, inr, refl, sym, ap, ap₂, ◌∙◌, subst, arith, ◌==◌, nat_lt, codes, zero-add}
+use Rattle.std.proofs.Common.{◌≡◌, ℕ, zero, suc, ◌+◌, ◌^◌, ◌<◌, ◌≤◌, List, [], ◌∷◌, ◌++◌, length, get_or, map, true, Some, None, Ok, inl, inr, refl, sym, ap, ap₂, ◌∙◌, subst, arith, ◌==◌, nat_lt, codes, zero-add}
 use Rattle.std.specs.List.{All, AllZip, Contains, position_from}
 use Rattle.std.specs.Str.{bytes_eq}
 use Rattle.std.proofs.lemmas.Bool.{cases_Bool, ltb-true, ltb-false, eqb-false}
 use Rattle.std.proofs.lemmas.List.{length-map, map-append}
-use Rattle.std.proofs.lemmas.List.Elements.{All-nil, All-cons, All-head, All-tail, All-push, All-map, All-weaker, Contains-push_cases, length_all_zip}
+use Rattle.std.proofs.lemmas.List.Elements.{All-nil, All-cons, All-head, All-tail, All-push, All-map, All-weaker, Contains-push_cases}
 use Rattle.std.proofs.lemmas.Slice.Eq.{bytes_eq-Decides}
 use Rattle.serde_json.specs.Data.{Data}
 use Rattle.crq_sim.specs.Names.{is_name}
@@ -13,12 +13,12 @@ use Rattle.crq_sim.specs.declared.model.Object.{Object}
 use Rattle.crq_sim.specs.declared.model.Start.{Start}
 use Rattle.crq_sim.specs.declared.model.Behaviour.{Behaviour}
 use Rattle.crq_sim.specs.declared.model.Behaviour.TheVariants as behaviour
-use Rattle.crq_reader.specs.Language.{Header, and_then, each, told, in_file, in_object, in_start, must_be_object, format, lookahead, whole, tick, list, text, many, header, known, known_all, number_of, names_of, named_of, next_named, named_objects, behaviour_of, object_of, next_object, objects_of, start_of, next_start, load_of, starts_of, model_of, Sending, Named, relay, phold, station, fan, sink}
+use Rattle.crq_reader.specs.Language.{Header, told, in_file, must_be_object, format, lookahead, whole, tick, list, text, many, header, known, known_all, number_of, names_of, named_of, next_named, named_objects, behaviour_of, object_of, next_object, objects_of, start_of, next_start, load_of, starts_of, model_of, Sending, Named, relay, phold, station, fan, sink}
 use Rattle.crq_reader.specs.Drafts.{IsNamed}
 use Rattle.crq_reader.specs.declared.fault.Fault.TheVariants.{Range, UnknownName, Lookahead, TooMany}
 use Rattle.crq_reader.proofs.EachLaws.{and_then_ok, ok_if, err_if, told_ok, ok_or_ok, each_keeps, each_zip, length-each}
 use Rattle.crq_reader.proofs.NumberLaws.{number_of_range}
-use Rattle.crq_reader.proofs.ReadLaws.{Sends, Tells, named_tells, length-known_all}
+use Rattle.crq_reader.proofs.ReadLaws.{Sends, named_tells, length-known_all}
 
 -- ---- the file
 

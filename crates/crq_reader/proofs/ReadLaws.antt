@@ -1,20 +1,15 @@
 -- What the language tells of a model that it reads.
-use Rattle.std.proofs.Common.{◌≡◌, ℕ, zero, suc, ◌+◌, ◌<◌, ◌≤◌, List, [], ◌∷◌, ◌++◌, length, get_or, map, Bool, true, false, cond, Option, Some, None, is_some, Result, Ok, Err, ◌⊎◌, inl, inr, refl, sym, ap, ◌∙◌, subst, arith, zero-add, ◌==◌, nat_lt, codes}
+use Rattle.std.proofs.Common.{◌≡◌, ℕ, suc, ◌<◌, ◌≤◌, List, [], ◌∷◌, length, Bool, true, false, cond, Option, Some, None, is_some, Result, Ok, Err, refl, sym, ap, ◌∙◌, subst, arith, zero-add, ◌==◌, nat_lt, codes}
 use Rattle.std.specs.List.{All, Contains, position_from, filter_map, list_all}
 use Rattle.std.specs.Str.{bytes_eq}
-use Rattle.std.proofs.lemmas.Bool.{cases_Bool, both_ways, ltb-false, eqb-false, and_parts}
-use Rattle.std.proofs.lemmas.List.{length-map}
-use Rattle.std.proofs.lemmas.List.Elements.{All-push, Contains-push_cases}
-use Rattle.std.proofs.lemmas.Slice.Eq.{bytes_eq-Decides}
+use Rattle.std.proofs.lemmas.Bool.{ltb-false, eqb-false, and_parts}
 use Rattle.serde_json.specs.Data.{Data}
 use Rattle.serde_json.specs.Find.{as_str}
 use Rattle.crq_sim.specs.Names.{is_name}
-use Rattle.crq_sim.specs.Models.{AreApart, IsObject}
-use Rattle.crq_reader.specs.Language
-use Rattle.crq_reader.specs.Language.{and_then, each, told, whole, tick, delay, text, list, targets, relay_of, phold_of, station_of, fan_of, of_kind, sending_of, name, new_name, must_be_object, named_of, named_objects, in_object, known, known_all, number_of, names_of, Sending, Named, relay, phold, station, fan, sink}
+use Rattle.crq_reader.specs.Language.{whole, tick, delay, text, list, targets, relay_of, phold_of, station_of, fan_of, of_kind, sending_of, name, new_name, must_be_object, named_of, known, known_all, number_of, names_of, Sending, Named, relay, phold, station, fan, sink}
 use Rattle.crq_reader.specs.Drafts.{IsSending, IsNamed}
-use Rattle.crq_reader.specs.declared.fault.Fault.TheVariants.{Missing, WrongKind, Range, UnknownName, Lookahead, TooMany}
-use Rattle.crq_reader.proofs.EachLaws.{and_then_ok, ok_if, err_if, told_ok, ok_or_ok, each_keeps, each_zip, length-each}
+use Rattle.crq_reader.specs.declared.fault.Fault.TheVariants.{WrongKind, Range, UnknownName, Lookahead, TooMany}
+use Rattle.crq_reader.proofs.EachLaws.{and_then_ok, ok_if, err_if, length-each}
 
 -- ---- delays
 

@@ -1,5 +1,5 @@
 -- The model language: which model the value of a JSON text is, or the first thing that is wrong with it.
-use Rattle.std.specs.Prelude.{ℕ, ◌+◌, ◌^◌, List, [], ◌∷◌, ◌++◌, length, map, Bool, true, false, ◌==◌, nat_lt, nat_le, not, if◌then◌else◌, Option, Some, None, is_some, ok_or, option_map, option_and_then, Result, Ok, Err, codes}
+use Rattle.std.specs.Prelude.{ℕ, ◌+◌, ◌^◌, List, [], ◌∷◌, ◌++◌, length, map, ◌==◌, nat_lt, if◌then◌else◌, Option, Some, None, is_some, ok_or, option_map, option_and_then, Result, Ok, Err, codes}
 use Rattle.std.specs.List.{filter_map, list_all, position_from}
 use Rattle.std.specs.Str.{bytes_eq, is_utf8}
 use Rattle.serde_json.specs.Data.{Data, Items, no_items, item}

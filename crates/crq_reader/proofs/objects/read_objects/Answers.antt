@@ -1,4 +1,4 @@
-use Rattle.std.proofs.Common.{◌≡◌, ◌+◌, ◌++◌, ◌∷◌, [], length, map, Ok, Err, inr, sym, ap, ◌∙◌, arith, length-append, rules}
+use Rattle.std.proofs.Common.{◌≡◌, ◌+◌, ◌++◌, ◌∷◌, [], length, Err, inr, sym, ap, ◌∙◌, arith, length-append, rules}
 use Rattle.serde_json.specs.View.{view}
 use Rattle.crq_reader.specs.Language.{told, in_object, next_named}
 use Rattle.crq_reader.specs.Drafts.{named_of}

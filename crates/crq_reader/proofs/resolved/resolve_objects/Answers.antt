@@ -1,4 +1,4 @@
-use Rattle.std.proofs.Common.{◌≡◌, ◌+◌, ◌++◌, ◌∷◌, [], length, map, Ok, Err, ok_or, inr, sym, ap, ◌∙◌, arith, length-append, rules}
+use Rattle.std.proofs.Common.{◌≡◌, ◌+◌, ◌++◌, ◌∷◌, [], length, Err, ok_or, inr, sym, ap, ◌∙◌, arith, length-append, rules}
 use Rattle.crq_reader.specs.Language.{told, in_object, next_object, names_of}
 use Rattle.crq_reader.specs.Drafts.{named_of}
 use Rattle.crq_reader.specs.declared.fault.Fault.TheVariants.{UnknownName}

@@ -1,4 +1,4 @@
-use Rattle.std.proofs.Common.{◌≡◌, ◌+◌, length, map, arith, [], MatchOption, Some, Ok}
+use Rattle.std.proofs.Common.{◌≡◌, map, arith, Ok}
 use Rattle.std.specs.List.{filter_map}
 use Rattle.serde_json.specs.Find.{as_str}
 use Rattle.serde_json.specs.View.{view}
