@@ -69,3 +69,5 @@ pub record OwnStepped (table : Table) (op op' : OwnOp) (old new : Pass) (result 
   -- at the beginning the first free row is answered, without a step
   pub has : (row : ℕ) (rest : List ℕ) → op ≡ Load → old.free.items ≡ row ∷ rest → (new ≡ old) × (op' ≡ Load) × (result ≡ Row row)
   pub steps : (op ≡ Load → old.free.items ≡ []) → OwnFacts table.start.layout op op' (caller table old) (caller table new) result
+  -- where none was found, that is the answer
+  pub exact : (op ≡ Load → old.free.items ≡ []) → FoundNone table.start.layout (caller table new) → result ≡ Empty
