@@ -1,0 +1,4 @@
+pub mod Passes
+pub mod Ticking
+pub mod Owning
+pub mod Recovering

@@ -1,0 +1,116 @@
+-- A pass of a table, and what one step does to it.
+use Rattle.std.specs.Prelude.{◌≡◌, ℕ, ◌+◌, ◌-◌, ◌^◌, ◌<◌, ◌≤◌, List, [], ◌∷◌, ◌++◌, min, Option, Some, None, Result, Ok, Err, length, slice_get}
+use Rattle.std.specs.VecDeque.{deque_capacity}
+use Rattle.crq_base.specs.declared.kinds.StepKind.{StepKind}
+use Rattle.crq_rule.specs.declared.view.Made.{Made}
+use Rattle.crq_rule.specs.declared.view.Caller.{Caller}
+use Rattle.crq_rule.specs.declared.pass.Pass.{Pass}
+use Rattle.crq_rule.specs.declared.pass.Table.{Table}
+use Rattle.crq_rule.specs.declared.pass.Seating.{Seating}
+use Rattle.crq_rule.specs.declared.pass.Seating.TheVariants.{Here}
+use Rattle.crq_rule.specs.declared.layout.Start.{Start}
+use Rattle.crq_rule.specs.Kinds.{makes}
+use Rattle.crq_rule.specs.Rule.{fresh}
+
+-- the first part of a view
+abbrev pub first_part : Start → List Caller → Caller
+first_part start [] = fresh start 0
+first_part start (p ∷ ps) = p
+
+-- what is known of the pass's caller
+abbrev pub caller : Table → Pass → Caller
+caller table pass = first_part table.start pass.seat.me.0.parts
+
+-- the pass's seat is of the table, and carries its caller alone
+pub record IsSeated (table : Table) (pass : Pass) : Type 0 where
+  pub seated : pass.seat.table_id ≡ table.inner.shared.table_id
+  pub bare : pass.seat.me.1 ≡ []
+  pub one : pass.seat.me.0.parts ≡ caller table pass ∷ []
+  pub numbered : (caller table pass).number ≡ pass.number
+  pub inside : pass.number < table.start.layout.workers
+  pub started : (caller table pass).start ≡ table.start
+
+-- the pass is of the table: its fields agree with what is known of its caller, and its list of free rows has room for all home rows
+pub record IsPassOf (table : Table) (pass : Pass) : Type 0 where
+  pub sits : IsSeated table pass
+  pub free : pass.free.items ≡ (caller table pass).hand
+  pub room : table.start.layout.home ≤ deque_capacity pass.free
+  pub debts : pass.debts ≡ (caller table pass).debts
+
+-- the step of an exchange of the word `word` from `first` to `second`, which found `found`; of a store of `first`; or of a load
+abbrev pub step_made : StepKind → ℕ → ℕ → ℕ → ℕ → Made
+step_made kind word first second found = record { kind = kind; word = word; first = first; second = second; found = found }
+
+abbrev pub load_made : StepKind → ℕ → ℕ → Made
+load_made kind word found = step_made kind word 0 0 found
+
+abbrev pub store_made : StepKind → ℕ → ℕ → Made
+store_made kind word new = step_made kind word new 0 new
+
+-- the one step m was made with the pass, and changed what is known of its caller by f
+pub record Steps (table : Table) (old new : Pass) (m : Made) (f : Caller → Caller) : Type 0 where
+  pub sits : IsSeated table new
+  pub same : new ≡ record old { seat = new.seat }
+  pub id : new.seat.id ≡ old.seat.id
+  pub part : caller table new ≡ makes m (f (caller table old))
+
+-- the same, and the pass is of the table as before
+pub record Stepped (table : Table) (old new : Pass) (m : Made) (f : Caller → Caller) : Type 0 where
+  pub is : IsPassOf table new
+  pub same : new ≡ record old { seat = new.seat }
+  pub id : new.seat.id ≡ old.seat.id
+  pub part : caller table new ≡ makes m (f (caller table old))
+
+-- one more exchange, up to the type's end
+abbrev pub counted : ℕ → ℕ
+counted n = min (n + 1) (2 ^ 32 - 1)
+
+-- the one exchange m was made with the pass, and is counted
+pub record Exchanged (table : Table) (old new : Pass) (m : Made) (f : Caller → Caller) : Type 0 where
+  pub is : IsPassOf table new
+  pub same : new ≡ record old { seat = new.seat; turns = new.turns }
+  pub turns : new.turns ≡ counted old.turns
+  pub id : new.seat.id ≡ old.seat.id
+  pub part : caller table new ≡ makes m (f (caller table old))
+
+-- who the caller is stays, and what its pass has at run time
+pub record IsAside (f : ℕ → Caller → Caller) : Type 0 where
+  pub number : (r : ℕ) (p : Caller) → (f r p).number ≡ p.number
+  pub start : (r : ℕ) (p : Caller) → (f r p).start ≡ p.start
+  pub hand : (r : ℕ) (p : Caller) → (f r p).hand ≡ p.hand
+  pub debts : (r : ℕ) (p : Caller) → (f r p).debts ≡ p.debts
+
+-- a fact of the first part of a view
+abbrev pub told_first : (Caller → Type 0) → List Caller → Type 0
+told_first P [] = Unit {0}
+told_first P (p ∷ ps) = P p
+
+-- the word of an announcement
+abbrev pub announcement_word : Option ℕ → ℕ
+announcement_word None = 0
+announcement_word (Some a) = a + 1
+
+-- what an exchange from `from` found
+abbrev pub found_by : ℕ → Result (Unit {0}) ℕ → ℕ
+found_by from (Ok u) = from
+found_by from (Err found) = found
+
+-- the one step m was made with the pass, and the row that it claimed is the last free one
+pub record Claimed (table : Table) (old new : Pass) (row : ℕ) (m : Made) (f : Caller → Caller) : Type 0 where
+  pub is : IsPassOf table new
+  pub same : new ≡ record old { seat = new.seat; free = new.free }
+  pub free : new.free.items ≡ old.free.items ++ row ∷ []
+  pub id : new.seat.id ≡ old.seat.id
+  pub part : caller table new ≡ makes m (f (caller table old))
+
+-- the pass of the caller j, which has made no step
+pub record IsNew (table : Table) (j : ℕ) (pass : Pass) : Type 0 where
+  pub is : IsPassOf table pass
+  pub number : pass.number ≡ j
+  pub part : caller table pass ≡ fresh table.start j
+  pub turns : pass.turns ≡ 0
+
+-- all passes are in their places, and none has made a step
+pub record AreNew (table : Table) (places : List Seating) : Type 0 where
+  pub wide : length places ≡ table.start.layout.workers
+  pub each : (j : ℕ) → j < table.start.layout.workers → ((pass : Pass) × (slice_get places j ≡ Some (Here pass)) × IsNew table j pass)

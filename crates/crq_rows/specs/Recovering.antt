@@ -1,0 +1,90 @@
+-- Recovering rows: what it knows between two steps, and what each step tells.
+use Rattle.std.specs.Prelude.{◌≡◌, ◌⊎◌, ℕ, ◌+◌, ◌*◌, ◌<◌, List, [], ◌∷◌, ◌++◌}
+use Rattle.crq_base.specs.declared.kinds.StepKind.TheVariants.{Look, Claim}
+use Rattle.crq_rule.specs.declared.layout.Layout.{Layout}
+use Rattle.crq_rule.specs.declared.view.Made.{Made}
+use Rattle.crq_rule.specs.declared.view.Caller.{Caller}
+use Rattle.crq_rule.specs.declared.pass.Pass.{Pass}
+use Rattle.crq_rule.specs.declared.pass.Table.{Table}
+use Rattle.crq_rule.specs.Lists.{In}
+use Rattle.crq_rule.specs.Places.{index, stamp, IsHomeRow}
+use Rattle.crq_rule.specs.Kinds.{IsRipe}
+use Rattle.crq_rows.specs.declared.tick.TickOp.{TickOp}
+use Rattle.crq_rows.specs.declared.tick.TickOp.TheVariants.{Load}
+use Rattle.crq_rows.specs.declared.recover.RecoverOp.{RecoverOp}
+use Rattle.crq_rows.specs.declared.recover.RecoverOp.TheVariants.{Ticking, Visiting, Taking}
+use Rattle.crq_rows.specs.declared.recover.Recover.{Recover}
+use Rattle.crq_rows.specs.declared.recover.Recover.TheVariants.{More, Ready, Held, Rows}
+use Rattle.crq_rows.specs.Passes.{caller, counted, IsPassOf}
+use Rattle.crq_rows.specs.Ticking.{IsTicking, TickMakes, HasLoaded, IsHeldBy, FindsEpoch}
+use Rattle.crq_rows.specs.Owning.{NoneRipe}
+
+-- since a step that found or made the epoch e, the caller looked at its home rows before `next`, in order, and found none ripe under it
+pub record LookedSince (l : Layout) (e next : ℕ) (p : Caller) : Type 0 where
+  pub before : List Made
+  pub last : Made
+  pub since : List Made
+  pub made : p.made ≡ before ++ last ∷ since
+  pub finds : FindsEpoch last e
+  pub looks : NoneRipe l e (p.number * l.home + 1) since next
+
+-- what the recovery knows: so many ticks have moved, and one is made; or three have moved, the last one to the epoch e, and the row is the next to look at, or ripe. As long as no row was claimed, none
+-- was found ripe
+abbrev pub IsRecovering : Layout → RecoverOp → Caller → Type 0
+IsRecovering l (Ticking n tick) p = (n < 3) × IsTicking l tick p
+IsRecovering l (Visiting e row) p = In e p.epochs × IsHomeRow l p.number row × (p.hand ≡ [] → LookedSince l e row p)
+IsRecovering l (Taking e row) p = In e p.epochs × IsHomeRow l p.number row × IsRipe p.ripening row e
+
+-- the step that it makes: one of the tick, a look at the next home row, or the claim of a ripe one
+abbrev pub RecoverMakes : Layout → RecoverOp → Made → Type 0
+RecoverMakes l (Ticking n tick) m = TickMakes l tick m
+RecoverMakes l (Visiting e row) m = (m.kind ≡ Look) × (m.word ≡ index l (stamp row))
+RecoverMakes l (Taking e row) m = (m.kind ≡ Claim) × (m.word ≡ index l (stamp row))
+
+-- the tick moved to the epoch g: that is one tick more, and after the third one the home rows are looked at
+abbrev pub MovesOn : Layout → ℕ → TickOp → RecoverOp → Made → Caller → Caller → Type 0
+MovesOn l n tick op' m p q = (e : ℕ) × (g : ℕ) × HasLoaded tick e × (e < g) × In g q.epochs × FindsEpoch m g
+    × (((n + 1 < 3) × (op' ≡ Ticking (n + 1) Load)) ⊎ ((n + 1 ≡ 3) × (op' ≡ Visiting g (p.number * l.home + 1))))
+
+-- How it goes on. It has no answer but `Held` before three ticks have moved, and all rows are looked at under the epoch to which the third one moved
+abbrev pub RecoverNext : Layout → RecoverOp → RecoverOp → Made → Caller → Caller → Recover → Type 0
+RecoverNext l (Ticking n tick) op' m p q More = ((tick' : TickOp) × (op' ≡ Ticking n tick')) ⊎ MovesOn l n tick op' m p q
+RecoverNext l (Ticking n tick) op' m p q (Held h) = Unit {0}
+RecoverNext l (Ticking n tick) op' m p q Ready = ⊥
+RecoverNext l (Ticking n tick) op' m p q Rows = ⊥
+RecoverNext l (Visiting e row) op' m p q More = (op' ≡ Visiting e (row + 1)) ⊎ (op' ≡ Taking e row)
+RecoverNext l (Visiting e row) op' m p q (Held h) = ⊥
+RecoverNext l (Visiting e row) op' m p q _ = row ≡ p.number * l.home + l.home
+RecoverNext l (Taking e row) op' m p q More = op' ≡ Visiting e (row + 1)
+RecoverNext l (Taking e row) op' m p q (Held h) = ⊥
+RecoverNext l (Taking e row) op' m p q _ = row ≡ p.number * l.home + l.home
+
+-- what an answer means: there is a free row; or the epoch is held; or there is no free row, and no home row was found ripe
+abbrev pub RecoverAnswer : Layout → RecoverOp → Caller → Recover → Type 0
+RecoverAnswer l op q More = IsRecovering l op q
+RecoverAnswer l op q Ready = (row : ℕ) × (rest : List ℕ) × (q.hand ≡ row ∷ rest)
+RecoverAnswer l op q (Held h) = IsHeldBy h q
+RecoverAnswer l op q Rows = (q.hand ≡ []) × ((e : ℕ) × In e q.epochs × LookedSince l e (q.number * l.home + l.home + 1) q)
+
+-- one step: what else the caller knows stays
+pub record RecoverFacts (l : Layout) (op op' : RecoverOp) (p q : Caller) (result : Recover) : Type 0 where
+  pub made : Made
+  pub one : q.made ≡ p.made ++ made ∷ []
+  pub makes : RecoverMakes l op made
+  pub stays : q ≡ record p { made = q.made; epochs = q.epochs; tick = q.tick; cut = q.cut; hand = q.hand; ripening = q.ripening }
+  pub grows : (e : ℕ) → In e p.epochs → In e q.epochs
+  pub next : RecoverNext l op op' made p q result
+  pub answer : RecoverAnswer l op' q result
+
+pub record RecoverStepped (table : Table) (op op' : RecoverOp) (old new : Pass) (result : Recover) : Type 0 where
+  pub is : IsPassOf table new
+  pub same : new ≡ record old { seat = new.seat; free = new.free; turns = new.turns }
+  pub turns : (new.turns ≡ old.turns) ⊎ (new.turns ≡ counted old.turns)
+  pub facts : RecoverFacts table.start.layout op op' (caller table old) (caller table new) result
+
+-- what follows once the row was looked at: the next one, or an answer after the last one
+abbrev pub IsAfterRow : Layout → ℕ → ℕ → Caller → RecoverOp → Recover → Type 0
+IsAfterRow l e row q op' More = (row < q.number * l.home + l.home) × (op' ≡ Visiting e (row + 1)) × IsRecovering l op' q
+IsAfterRow l e row q op' (Held h) = ⊥
+IsAfterRow l e row q op' Ready = (row ≡ q.number * l.home + l.home) × RecoverAnswer l op' q Ready
+IsAfterRow l e row q op' Rows = (row ≡ q.number * l.home + l.home) × RecoverAnswer l op' q Rows

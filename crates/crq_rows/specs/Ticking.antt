@@ -1,0 +1,71 @@
+-- An attempt to raise the epoch: what it knows between two steps, and what each step tells.
+use Rattle.std.specs.Prelude.{◌≡◌, ◌≢◌, ◌⊎◌, ℕ, ◌+◌, ◌<◌, ◌≤◌, ◌^◌, List, [], ◌∷◌, ◌++◌}
+use Rattle.crq_base.specs.declared.kinds.StepKind.TheVariants.{EpochLoad, Scan, Tick}
+use Rattle.crq_base.specs.declared.holder.Holder.{Holder}
+use Rattle.crq_base.specs.declared.holder.Holder.TheVariants.{Seat, Last}
+use Rattle.crq_rule.specs.declared.layout.Layout.{Layout}
+use Rattle.crq_rule.specs.declared.view.Guard.TheVariants.{Off}
+use Rattle.crq_rule.specs.declared.view.Made.{Made}
+use Rattle.crq_rule.specs.declared.view.Caller.{Caller}
+use Rattle.crq_rule.specs.declared.pass.Pass.{Pass}
+use Rattle.crq_rule.specs.declared.pass.Table.{Table}
+use Rattle.crq_rule.specs.Lists.{In}
+use Rattle.crq_rule.specs.Places.{index, epoch, announced}
+use Rattle.crq_rule.specs.Parts.{LetsRise}
+use Rattle.crq_rows.specs.declared.tick.TickOp.{TickOp}
+use Rattle.crq_rows.specs.declared.tick.TickOp.TheVariants.{Load, Scanning, Passed}
+use Rattle.crq_rows.specs.declared.tick.Tick.{Tick as Reply}
+use Rattle.crq_rows.specs.declared.tick.Tick.TheVariants.{More, Moved, Held}
+use Rattle.crq_rows.specs.Passes.{caller, counted, IsPassOf}
+
+-- the callers below n but the own one, j, were found out or at the epoch e
+abbrev pub HasScannedTo : ℕ → ℕ → ℕ → List (ℕ × ℕ) → Type 0
+HasScannedTo n j e found = (k : ℕ) → k < n → k ≢ j → (a : ℕ) × In (k, a) found × LetsRise e a
+
+-- what the attempt knows: its guard is off, and it loaded the epoch e. It scanned all callers below `next`, or found an announcement above e
+abbrev pub IsTicking : Layout → TickOp → Caller → Type 0
+IsTicking l Load p = p.guard ≡ Off
+IsTicking l (Scanning e next) p = (p.guard ≡ Off) × (e < 2 ^ 62) × In e p.epochs × (p.tick.loaded ≡ e) × (next ≤ l.workers) × (next ≢ p.number) × HasScannedTo next p.number e p.tick.found
+IsTicking l (Passed e) p = (p.guard ≡ Off) × In e p.epochs × ((k : ℕ) × (a : ℕ) × In (k, a) p.tick.found × (e + 1 < a))
+
+-- the step that it makes: a load of the epoch; a scan of the next caller, or after the last one an exchange of the epoch
+abbrev pub TickMakes : Layout → TickOp → Made → Type 0
+TickMakes l Load m = (m.kind ≡ EpochLoad) × (m.word ≡ index l epoch)
+TickMakes l (Scanning e next) m = ((next < l.workers) × (m.kind ≡ Scan) × (m.word ≡ index l (announced next))) ⊎ ((next ≡ l.workers) × (m.kind ≡ Tick) × (m.word ≡ index l epoch) × (m.first ≡ e) × (m.second ≡ e + 1))
+TickMakes l (Passed e) m = (m.kind ≡ EpochLoad) × (m.word ≡ index l epoch)
+
+-- the epoch that it loaded first
+abbrev pub HasLoaded : TickOp → ℕ → Type 0
+HasLoaded Load e = ⊥
+HasLoaded (Scanning x next) e = x ≡ e
+HasLoaded (Passed x) e = x ≡ e
+
+-- what keeps the epoch: the last epoch there is was loaded, or another caller's announcement was scanned and found below the epoch loaded before
+abbrev pub IsHeldBy : Holder → Caller → Type 0
+IsHeldBy Last p = p.tick.loaded ≡ 2 ^ 62
+IsHeldBy (Seat j a) p = (j ≢ p.number) × In (j, a + 1) p.tick.found × (a < p.tick.loaded)
+
+-- the step found the epoch g, or made it by an exchange
+abbrev pub FindsEpoch : Made → ℕ → Type 0
+FindsEpoch m g = (m.found ≡ g) ⊎ ((m.kind ≡ Tick) × (m.found ≡ m.first) × (m.second ≡ g))
+
+-- what an answer means, for the step made, and what the caller knew before and knows now
+abbrev pub TickAnswer : TickOp → TickOp → Layout → Made → Caller → Caller → Reply → Type 0
+TickAnswer op op' l m p q More = IsTicking l op' q
+TickAnswer op op' l m p q (Moved g) = (e : ℕ) × HasLoaded op e × In e p.epochs × (e < g) × In g q.epochs × FindsEpoch m g
+TickAnswer op op' l m p q (Held h) = IsHeldBy h q
+
+-- one step of the attempt: what else the caller knows stays
+pub record TickFacts (l : Layout) (op op' : TickOp) (p q : Caller) (result : Reply) : Type 0 where
+  pub made : Made
+  pub one : q.made ≡ p.made ++ made ∷ []
+  pub makes : TickMakes l op made
+  pub stays : q ≡ record p { made = q.made; epochs = q.epochs; tick = q.tick; cut = q.cut }
+  pub grows : (e : ℕ) → In e p.epochs → In e q.epochs
+  pub answer : TickAnswer op op' l made p q result
+
+pub record TickStepped (table : Table) (op op' : TickOp) (old new : Pass) (result : Reply) : Type 0 where
+  pub is : IsPassOf table new
+  pub same : new ≡ record old { seat = new.seat; turns = new.turns }
+  pub turns : (new.turns ≡ old.turns) ⊎ (new.turns ≡ counted old.turns)
+  pub facts : TickFacts table.start.layout op op' (caller table old) (caller table new) result

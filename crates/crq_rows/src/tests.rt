@@ -1,0 +1,100 @@
+//! Worked examples of the passes of a small table.
+ghost use Rattle.std.specs.Prelude.{◌≡◌, ◌<◌, ◌≤◌, ◌^◌, IfOk, None};
+ghost use Rattle.crq_rule.specs.declared.view.Guard.TheVariants.{Off};
+ghost use Rattle.crq_rows.specs.Passes.{caller, IsNew, IsPassOf};
+ghost use Rattle.crq_rows.specs.Ticking.{IsTicking};
+ghost use Rattle.crq_rows.specs.Recovering.{IsRecovering};
+
+use crate::{
+    Holder, Owes, Own, OwnOp, Pass, Recover, RecoverOp, Stamp, Table, Tick, TickOp, confirm_step,
+    enter_step, epoch_step, leave_step, look_step, passes, scan_step,
+};
+use crq_base::First;
+use crq_rule::{Layout, open_table};
+use std::alloc::{AllocError, Global};
+use std::test::Fail;
+
+/// A table of two callers, and their passes.
+fn pair(alloc: Global, guard: u64) -> Result<(Table, Pass, Pass), AllocError>
+    requires { guard ≤ 2 ^ 62 }
+    ensures first { IfOk result (λ r. IsNew r.0 0 r.1) }
+    ensures second { IfOk result (λ r. IsNew r.0 1 r.2) }
+    ensures rows { IfOk result (λ r. r.0.start.layout.home ≡ 8) }
+{
+    let layout = Layout::of(2, 4);
+    let first = First {
+        epoch: 0,
+        generation: 1,
+        guard,
+    };
+    let (table, mut all) = passes(open_table(alloc, &layout, first)?);
+    let zero = all.lift(0);
+    let one = all.lift(1);
+    all.lower(zero);
+    let zero = all.lift(0);
+    Ok((table, zero, one))
+}
+
+/// Makes a whole attempt to raise the epoch.
+fn tick(table: &Table, pass: &mut Pass) -> Tick
+    requires of { IsPassOf table.now pass.old }
+    requires off { (caller table.now pass.old).guard ≡ Off }
+    ensures of { IsPassOf table.now pass.new }
+    ensures off { (caller table.now pass.new).guard ≡ Off }
+{
+    let mut op = TickOp::new();
+    for i in 0..8 {
+        match op.step(table, pass) {
+            Tick::More => {}
+            end => return end,
+        }
+    }
+    Tick::More
+}
+
+#[test]
+fn raises_the_epoch(rt: HostRuntime) -> Result<(), Fail> {
+    let (table, mut zero, mut one) = pair(rt.alloc(), 0)?;
+    let epoch = epoch_step(&table, &mut zero);
+    enter_step(&table, &mut zero, epoch);
+    assert_eq!(rt; confirm_step(&table, &mut zero), 0);
+    assert_eq!(rt; scan_step(&table, &mut one, 0), Some(0));
+    assert_eq!(rt; tick(&table, &mut one), Tick::Moved(1));
+    assert_eq!(rt; tick(&table, &mut one), Tick::Held(Holder::Seat(0, 0)));
+    leave_step(&table, &mut zero);
+    assert_eq!(rt; scan_step(&table, &mut one, 0), None);
+    assert_eq!(rt; tick(&table, &mut one), Tick::Moved(2));
+    let (table, _zero, mut one) = pair(rt.alloc(), 1 << 62)?;
+    assert_eq!(rt; tick(&table, &mut one), Tick::Held(Holder::Last));
+    Ok(())
+}
+
+/// Makes a whole recovery.
+fn recover(table: &Table, pass: &mut Pass) -> Recover
+    requires of { IsPassOf table.now pass.old }
+    requires off { (caller table.now pass.old).guard ≡ Off }
+    ensures { IsPassOf table.now pass.new }
+{
+    let mut op = RecoverOp::new();
+    for i in 0..64 {
+        match op.step(table, pass) {
+            Recover::More => {}
+            end => return end,
+        }
+    }
+    Recover::More
+}
+
+#[test]
+fn finds_free_rows(rt: HostRuntime) -> Result<(), Fail> {
+    let (table, zero, mut one) = pair(rt.alloc(), 5)?;
+    assert_eq!(rt;
+        (zero.number(), one.number(), one.owes()),
+        (0, 1, Owes::Nothing)
+    );
+    assert_eq!(rt; OwnOp::new().step(&table, &mut one), Own::Row(9));
+    assert_eq!(rt; look_step(&table, &mut one, 9), Stamp::Kept);
+    assert_eq!(rt; recover(&table, &mut one), Recover::Ready);
+    assert_eq!(rt; epoch_step(&table, &mut one), 8);
+    Ok(())
+}

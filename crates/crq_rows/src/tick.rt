@@ -1,0 +1,135 @@
+//! An attempt to raise the epoch.
+ghost use Rattle.std.specs.Prelude.{◌≡◌, ◌⊎◌, ◌+◌, ◌<◌, ◌≤◌, ◌≢◌, ◌^◌};
+ghost use Rattle.crq_rule.specs.declared.view.Guard.TheVariants.{Off};
+ghost use Rattle.crq_rows.specs.Passes.{caller, IsPassOf};
+ghost use Rattle.crq_rows.specs.declared.tick.TickOp.TheVariants.{Load, Scanning, Passed};
+ghost use Rattle.crq_rows.specs.Ticking.{IsTicking, TickStepped};
+
+use crate::steps::{epoch_step, scan_step, tick_step};
+use crq_base::Holder;
+use crq_rule::{Pass, Table};
+
+/// The last epoch.
+const LAST: u64 = 1 << 62;
+
+/// An attempt to raise the epoch by 1, one atomic step at a time.
+///
+/// It loads the epoch and scans the announcements of all other callers, in order of their numbers. Where each of them is
+/// out or at that epoch, it exchanges the epoch for the next one. After it has ended it begins anew.
+#[derive(Clone, Copy, Debug, PartialEq, Eq)]
+pub enum TickOp {
+    /// The epoch is to be loaded.
+    Load,
+    /// The epoch that was loaded, and the next caller to scan; with no caller left, the epoch is to be exchanged.
+    Scanning(u64, u32),
+    /// The epoch that was loaded. An announcement above it was found, and the epoch is to be loaded again.
+    Passed(u64),
+}
+
+/// What one step of a `TickOp` answers.
+#[derive(Clone, Copy, Debug, PartialEq, Eq)]
+pub enum Tick {
+    /// There is more to do.
+    More,
+    /// The epoch was found or made this, which is greater than the epoch that the attempt loaded first.
+    Moved(u64),
+    /// The epoch can't rise. It is the last one, or it is above this announcement.
+    Held(Holder),
+}
+
+/// The caller to scan at `next` or after it, which isn't the caller `own` itself.
+fn other(next: u32, own: u32) -> u32
+    requires { next < 2 ^ 31 }
+    ensures other { result ≢ own }
+    ensures skips { (result ≡ next) ⊎ ((next ≡ own) × (result ≡ next + 1)) }
+{
+    if next == own { next + 1 } else { next }
+}
+
+/// Loads the epoch.
+fn load(table: &Table, pass: &mut Pass) -> (TickOp, Tick)
+    requires of { IsPassOf table.now pass.old }
+    requires off { (caller table.now pass.old).guard ≡ Off }
+    ensures { TickStepped table.now Load result.0 pass.old pass.new result.1 }
+{
+    let epoch = epoch_step(table, pass);
+    if epoch == LAST {
+        return (TickOp::Load, Tick::Held(Holder::Last));
+    }
+    (TickOp::Scanning(epoch, other(0, pass.number)), Tick::More)
+}
+
+/// Scans the caller `next`.
+fn scan(table: &Table, pass: &mut Pass, epoch: u64, next: u32) -> (TickOp, Tick)
+    requires of { IsPassOf table.now pass.old }
+    requires op { IsTicking table.now.start.layout (Scanning epoch next) (caller table.now pass.old) }
+    requires inside { next < table.now.start.layout.workers }
+    ensures { TickStepped table.now (Scanning epoch next) result.0 pass.old pass.new result.1 }
+{
+    let found = scan_step(table, pass, next);
+    if let Some(announced) = found {
+        if announced < epoch {
+            return (TickOp::Load, Tick::Held(Holder::Seat(next, announced)));
+        }
+        if announced > epoch {
+            return (TickOp::Passed(epoch), Tick::More);
+        }
+    }
+    (
+        TickOp::Scanning(epoch, other(next + 1, pass.number)),
+        Tick::More,
+    )
+}
+
+/// Exchanges the epoch for the next one.
+fn raise(table: &Table, pass: &mut Pass, epoch: u64, _next: u32) -> (TickOp, Tick)
+    requires of { IsPassOf table.now pass.old }
+    requires op { IsTicking table.now.start.layout (Scanning epoch _next) (caller table.now pass.old) }
+    requires last { _next ≡ table.now.start.layout.workers }
+    ensures { TickStepped table.now (Scanning epoch _next) result.0 pass.old pass.new result.1 }
+{
+    match tick_step(table, pass, epoch) {
+        Ok(()) => (TickOp::Load, Tick::Moved(epoch + 1)),
+        Err(found) => (TickOp::Load, Tick::Moved(found)),
+    }
+}
+
+/// Loads the epoch again, which an announcement above it has shown to have moved.
+fn reload(table: &Table, pass: &mut Pass, _epoch: u64) -> (TickOp, Tick)
+    requires of { IsPassOf table.now pass.old }
+    requires op { IsTicking table.now.start.layout (Passed _epoch) (caller table.now pass.old) }
+    ensures { TickStepped table.now (Passed _epoch) result.0 pass.old pass.new result.1 }
+{
+    let found = epoch_step(table, pass);
+    (TickOp::Load, Tick::Moved(found))
+}
+
+impl TickOp {
+    /// An attempt that has made no step. The guard of its pass has to be off.
+    pub fn new() -> TickOp
+        ensures { result ≡ Load }
+    {
+        TickOp::Load
+    }
+
+    /// Makes one atomic step.
+    pub fn step(&mut self, table: &Table, pass: &mut Pass) -> Tick
+        requires of { IsPassOf table.now pass.old }
+        requires op { IsTicking table.now.start.layout self.old (caller table.now pass.old) }
+        ensures { TickStepped table.now self.old self.new pass.old pass.new result }
+    {
+        let (op, answer) = match *self {
+            TickOp::Load => load(table, pass),
+            TickOp::Scanning(epoch, next) => {
+                if next < table.start.layout.workers {
+                    scan(table, pass, epoch, next)
+                } else {
+                    raise(table, pass, epoch, next)
+                }
+            }
+            TickOp::Passed(epoch) => reload(table, pass, epoch),
+        };
+        *self = op;
+        answer
+    }
+}

@@ -1,0 +1,47 @@
+-- The frame laws. A step that changes only the components of one concern keeps all parts that read none of them as they stand.
+use Rattle.std.proofs.Common.{ℕ, List, Option}
+use Rattle.crq_rule.specs.declared.view.Guard.{Guard}
+use Rattle.crq_rule.specs.declared.view.Tick.{Tick}
+use Rattle.crq_rule.specs.declared.view.CutRow.{CutRow}
+use Rattle.crq_rule.specs.declared.view.Position.{Position}
+use Rattle.crq_rule.specs.declared.view.Made.{Made}
+use Rattle.crq_rule.specs.Core.{Core, Holding}
+use Rattle.crq_rule.specs.Parts.{Reading, Guards, Holders, Cutting, Stamps, Cover}
+use Rattle.crq_rule.specs.Invariant.{Inv}
+use Rattle.crq_rule.specs.Kinds.{after_made}
+
+-- the epoch word, announcements, guards, ticks, epochs read, tags and positions
+pub frame_guards : (c : Core) (e : ℕ) (announced : ℕ → ℕ) (epochs : ℕ → List ℕ) (guard : ℕ → Guard) (tick : ℕ → Tick) (cut : ℕ → Option CutRow) (position : ℕ → Position) → Inv c
+    → Reading c.start.layout.workers e c.words.current c.words.control epochs tick cut c.found
+    → Guards c.start.layout.workers e announced guard tick
+    → Holders c.start.layout c.hand cut c.chain c.holding
+    → Cutting c.start.layout.workers guard cut
+    → Stamps c.start.layout e c.words.stamp c.ripening c.holding
+    → Cover c.start.layout.workers c.words.link c.words.twin guard position c.debts cut c.holding
+    → Inv (record c { words = record c.words { epoch = e; announced = announced }; epochs = epochs; guard = guard; tick = tick; cut = cut; position = position })
+frame_guards c e announced epochs guard tick cut position inv reading guards holders cutting stamps cover =
+    record { spelled = inv.spelled; reading = reading; guards = guards; holders = holders; cutting = cutting; stamps = stamps; chains = inv.chains; cover = cover }
+
+-- stamps, rows in hand, rows looked at, cut rows and holders
+pub frame_rows : (c : Core) (stamp : ℕ → ℕ) (hand : ℕ → List ℕ) (ripening : ℕ → List (ℕ × ℕ)) (cut : ℕ → Option CutRow) (holding : ℕ → Holding) → Inv c
+    → Reading c.start.layout.workers c.words.epoch c.words.current c.words.control c.epochs c.tick cut c.found
+    → Holders c.start.layout hand cut c.chain holding
+    → Cutting c.start.layout.workers c.guard cut
+    → Stamps c.start.layout c.words.epoch stamp ripening holding
+    → Cover c.start.layout.workers c.words.link c.words.twin c.guard c.position c.debts cut holding
+    → Inv (record c { words = record c.words { stamp = stamp }; hand = hand; ripening = ripening; cut = cut; holding = holding })
+frame_rows c stamp hand ripening cut holding inv reading holders cutting stamps cover =
+    record { spelled = inv.spelled; reading = reading; guards = inv.guards; holders = holders; cutting = cutting; stamps = stamps; chains = inv.chains; cover = cover }
+
+-- the list of steps made, which no part reads
+pub frame_made : (c : Core) (j : ℕ) (m : Made) → Inv c → Inv (after_made c j m)
+frame_made c j m inv = record {
+  spelled = inv.spelled;
+  reading = inv.reading;
+  guards = inv.guards;
+  holders = inv.holders;
+  cutting = inv.cutting;
+  stamps = inv.stamps;
+  chains = inv.chains;
+  cover = inv.cover;
+}

@@ -1,0 +1,16 @@
+pub mod Puts
+pub mod Placing
+pub mod PartLaws
+pub mod HolderLaws
+pub mod CoverLaws
+pub mod Frames
+pub mod GuardLaws
+pub mod RowLaws
+pub mod Keeps
+pub mod Glue
+pub mod GuardSteps
+pub mod Counting
+pub mod RowSteps
+pub mod Openings
+pub mod Stating
+pub mod Witnessing

@@ -1,0 +1,39 @@
+-- Each kind of step on retired rows keeps the invariant. A row that may be claimed is covered by no guard.
+use Rattle.std.proofs.Common.{◌≡◌, inl, inr, ℕ, ◌<◌, None, sym, ap, ◌∙◌, subst, arith}
+use Rattle.crq_rule.specs.Lists.{In}
+use Rattle.crq_rule.specs.Places.{IsHomeRow}
+use Rattle.crq_rule.specs.Core.{Core, cut_by}
+use Rattle.crq_rule.specs.Parts.{Covers}
+use Rattle.crq_rule.specs.Invariant.{Inv}
+use Rattle.crq_rule.specs.Kinds.{retired_at, looked, claimed, MayRetire, IsRipe}
+use Rattle.crq_rule.proofs.PartLaws.{read_cut, cutting_cut, stamps_look, stamps_retire, stamps_claim, sort}
+use Rattle.crq_rule.proofs.HolderLaws.{none_some, holders_retire, holders_claim}
+use Rattle.crq_rule.proofs.CoverLaws.{cover_retire, cover_claim, uncovered}
+use Rattle.crq_rule.proofs.Frames.{frame_rows}
+use Rattle.crq_rule.proofs.GuardLaws.{on_low}
+
+pub retire_keeps : (c : Core) (j r t : ℕ) → j < c.start.layout.workers → MayRetire (c.cut j) r t → Inv c → Inv (retired_at c j r t)
+retire_keeps c j r t b may inv = let x = may.0 in let at = inv.holders.is_cut j x b may.1 in let held : c.holding r ≡ cut_by j = subst (λ z. c.holding z ≡ cut_by j) may.2 at.1 in
+    frame_rows c _ _ _ _ _ inv
+    (read_cut _ _ _ _ _ _ _ _ j None (λ s y _ is _. absurd (none_some y is)) inv.reading)
+    (holders_retire _ _ _ _ _ j r t x b may.1 may.2 inv.holders)
+    (cutting_cut _ _ _ j None (λ y _ is. absurd (none_some y is)) inv.cutting)
+    (stamps_retire _ _ _ _ _ r t (λ e. let z : 2 ≡ 3 = sym (ap sort held) ∙ e in absurd (omega arith)) (inv.reading.tags j t x b may.1 may.3) inv.stamps)
+    (cover_retire _ _ _ _ _ _ _ _ j r t (inr (j, x, b, may.1, may.2, may.3)) inv.cover)
+
+pub look_keeps : (c : Core) (j r : ℕ) → j < c.start.layout.workers → IsHomeRow c.start.layout j r → Inv c → Inv (looked c j r)
+look_keeps c j r b home inv = frame_rows c _ _ _ _ _ inv inv.reading inv.holders inv.cutting (stamps_look _ _ _ _ _ j r b home inv.stamps) inv.cover
+
+-- A row that a caller may claim is covered by no guard
+pub claimable_uncovered : (c : Core) (j r e : ℕ) → j < c.start.layout.workers → In e (c.epochs j) → IsRipe (c.ripening j) r e → Inv c
+    → (k g : ℕ) → Covers c.start.layout.workers c.words.link c.words.twin c.guard c.position c.debts k g r → ⊥
+claimable_uncovered c j r e b read ripe inv k g v = let low = inv.reading.read j e b read in let late = ripe.2 in let held = (inv.stamps.ripe j r ripe.0 b ripe.1).1 in
+    uncovered _ _ _ _ _ _ _ _ c.words.epoch k g r ripe.0 (λ k g b is. (on_low c inv k g b is).1) (inl held) (omega arith) inv.cover v
+
+pub claim_keeps : (c : Core) (j r e : ℕ) → j < c.start.layout.workers → In e (c.epochs j) → IsRipe (c.ripening j) r e → Inv c → Inv (claimed c j r)
+claim_keeps c j r e b read ripe inv = let at = inv.stamps.ripe j r ripe.0 b ripe.1 in
+    frame_rows c _ _ _ _ _ inv inv.reading
+    (holders_claim _ _ _ _ _ j r ripe.0 b at.0 at.1 inv.holders)
+    inv.cutting
+    (stamps_claim _ _ _ _ _ j r b at.0 inv.stamps)
+    (cover_claim _ _ _ _ _ _ _ _ j r (claimable_uncovered c j r e b read ripe inv) inv.cover)

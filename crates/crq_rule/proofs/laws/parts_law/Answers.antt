@@ -1,0 +1,5 @@
+use Rattle.crq_rule.proofs.Stating.{words_hold, holders_hold, guards_hold, cover_holds}
+use Rattle.crq_rule.proofs.laws.parts_law.Goals as goal
+
+pub returns : goal.returns
+returns c = record { words = words_hold; holders = holders_hold; guards = guards_hold; cover = cover_holds }

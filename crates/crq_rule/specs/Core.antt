@@ -1,0 +1,82 @@
+-- The core state: what the words say, the one history, and what each caller knows, as plain data. It is given as separate functions by caller, by row and by head, so that a part of
+-- the invariant can be stated over those alone that it reads.
+use Rattle.std.specs.Prelude.{ℕ, List, Option, Bool}
+use Rattle.crq_base.specs.declared.event.Event.{Event}
+use Rattle.crq_base.specs.declared.entry.Entry.{Entry}
+use Rattle.crq_rule.specs.declared.debts.Debts.{Debts}
+use Rattle.crq_rule.specs.declared.layout.Start.{Start}
+use Rattle.crq_rule.specs.declared.view.Guard.{Guard}
+use Rattle.crq_rule.specs.declared.view.Tick.{Tick}
+use Rattle.crq_rule.specs.declared.view.CutRow.{CutRow}
+use Rattle.crq_rule.specs.declared.view.Deal.{Deal}
+use Rattle.crq_rule.specs.declared.view.Position.{Position}
+use Rattle.crq_rule.specs.declared.view.Found.{Found}
+use Rattle.crq_rule.specs.declared.view.Linking.{Linking}
+use Rattle.crq_rule.specs.declared.view.Help.{Help}
+use Rattle.crq_rule.specs.declared.view.Told.{Told}
+use Rattle.crq_rule.specs.declared.view.Made.{Made}
+use Rattle.crq_rule.specs.declared.view.Caller.{Caller}
+use Rattle.crq_rule.specs.Places.{Words}
+
+-- who holds a row: a caller that has it in hand, the list of a head, the caller that cut it, or nobody, since it was retired with a tag
+pub data Holding : Type 0 where
+  in_hand : ℕ → Holding
+  listed : ℕ → Holding
+  cut_by : ℕ → Holding
+  retired : ℕ → Holding
+
+pub record Core : Type 0 where
+  pub start : Start
+  pub words : Words
+  pub history : List Entry
+  pub deal : Deal
+  -- by head, the rows of its list in order
+  pub chain : ℕ → List ℕ
+  -- by row
+  pub holding : ℕ → Holding
+  -- by caller: the lengths of the history at its last Begin, and when it last read current or began a search
+  pub begun : ℕ → ℕ
+  pub read : ℕ → ℕ
+  -- by caller, what its view has
+  pub own : ℕ → List Entry
+  pub made : ℕ → List Made
+  pub epochs : ℕ → List ℕ
+  pub guard : ℕ → Guard
+  pub tick : ℕ → Tick
+  pub hand : ℕ → List ℕ
+  pub ripening : ℕ → List (ℕ × ℕ)
+  pub cut : ℕ → Option CutRow
+  pub debts : ℕ → Debts
+  pub permit : ℕ → Bool
+  pub position : ℕ → Position
+  pub found : ℕ → Found
+  pub linking : ℕ → Option Linking
+  pub help : ℕ → Option Help
+  pub clean : ℕ → List ℕ
+  pub refused : ℕ → List Event
+  pub told : ℕ → Told
+
+-- what the caller j knows
+abbrev pub caller_of : Core → ℕ → Caller
+caller_of c j = record {
+  number = j;
+  start = c.start;
+  deal = c.deal;
+  own = c.own j;
+  made = c.made j;
+  epochs = c.epochs j;
+  guard = c.guard j;
+  tick = c.tick j;
+  hand = c.hand j;
+  ripening = c.ripening j;
+  cut = c.cut j;
+  debts = c.debts j;
+  permit = c.permit j;
+  position = c.position j;
+  found = c.found j;
+  linking = c.linking j;
+  help = c.help j;
+  clean = c.clean j;
+  refused = c.refused j;
+  told = c.told j;
+}

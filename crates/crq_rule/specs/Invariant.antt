@@ -1,0 +1,13 @@
+-- The invariant that every step keeps.
+use Rattle.crq_rule.specs.Core.{Core}
+use Rattle.crq_rule.specs.Parts.{Spelled, Reading, Guards, Holders, Cutting, Stamps, Chains, Cover}
+
+pub record Inv (c : Core) : Type 0 where
+  pub spelled : Spelled c.start.layout c.words.control c.words.current c.words.pin c.words.head c.words.link c.words.twin c.words.event
+  pub reading : Reading c.start.layout.workers c.words.epoch c.words.current c.words.control c.epochs c.tick c.cut c.found
+  pub guards : Guards c.start.layout.workers c.words.epoch c.words.announced c.guard c.tick
+  pub holders : Holders c.start.layout c.hand c.cut c.chain c.holding
+  pub cutting : Cutting c.start.layout.workers c.guard c.cut
+  pub stamps : Stamps c.start.layout c.words.epoch c.words.stamp c.ripening c.holding
+  pub chains : Chains c.words.head c.words.link c.words.twin c.chain
+  pub cover : Cover c.start.layout.workers c.words.link c.words.twin c.guard c.position c.debts c.cut c.holding

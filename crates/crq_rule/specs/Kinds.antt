@@ -1,0 +1,127 @@
+-- What each kind of step does to what its caller knows, and to the core state.
+use Rattle.std.specs.Prelude.{cond, ◌==◌, ◌≡◌, ◌≢◌, ℕ, zero, suc, ◌+◌, ◌<◌, ◌≤◌, List, [], ◌∷◌, ◌++◌, Option, Some, None}
+use Rattle.crq_rule.specs.declared.view.Guard.{Guard}
+use Rattle.crq_rule.specs.declared.view.Guard.TheVariants.{Off, Entering, On}
+use Rattle.crq_rule.specs.declared.view.Tick.{Tick}
+use Rattle.crq_rule.specs.declared.view.CutRow.{CutRow}
+use Rattle.crq_rule.specs.declared.view.Made.{Made}
+use Rattle.crq_rule.specs.declared.view.Position.{Position}
+use Rattle.crq_rule.specs.declared.view.Caller.{Caller}
+use Rattle.crq_rule.specs.declared.view.View.{View}
+use Rattle.crq_rule.specs.Lists.{put, In, without}
+use Rattle.crq_rule.specs.Core.{Core, in_hand, retired}
+use Rattle.crq_rule.specs.Parts.{LetsRise}
+
+abbrev pub on_first : (Caller → Caller) → List Caller → List Caller
+on_first f [] = []
+on_first f (p ∷ ps) = f p ∷ ps
+
+-- the view, with its first part changed
+abbrev pub alters : (Caller → Caller) → View → View
+alters f v = record v { parts = on_first f v.parts }
+
+-- the step m was made
+abbrev pub makes : Made → Caller → Caller
+makes m p = record p { made = p.made ++ m ∷ [] }
+
+abbrev pub after_made : Core → ℕ → Made → Core
+after_made c j m = record c { made = put c.made j (c.made j ++ m ∷ []) }
+
+abbrev pub new_tick : ℕ → Tick
+new_tick e = record { loaded = e; found = [] }
+
+abbrev pub nowhere : Position
+nowhere = record { rows = []; old = None }
+
+-- the epoch e was loaded after the cut
+abbrev pub tagged : ℕ → Option CutRow → Option CutRow
+tagged e None = None
+tagged e (Some x) = Some (record x { tags = e ∷ x.tags })
+
+-- EpochLoad: the epoch r was found
+abbrev pub loads_epoch : ℕ → Caller → Caller
+loads_epoch r p = record p { epochs = r ∷ p.epochs; tick = new_tick r; cut = tagged r p.cut }
+
+abbrev pub epoch_loaded : Core → ℕ → Core
+epoch_loaded c j = record c { epochs = put c.epochs j (c.words.epoch ∷ c.epochs j); tick = put c.tick j (new_tick c.words.epoch); cut = put c.cut j (tagged c.words.epoch (c.cut j)) }
+
+-- Enter
+abbrev pub enters : ℕ → Caller → Caller
+enters e p = record p { guard = Entering e }
+
+abbrev pub entered : Core → ℕ → ℕ → Core
+entered c j e = record c { words = record c.words { announced = put c.words.announced j (e + 1) }; guard = put c.guard j (Entering e) }
+
+-- Confirm: the epoch r was found
+abbrev pub confirms : ℕ → Caller → Caller
+confirms r p = record p { epochs = r ∷ p.epochs; guard = On r }
+
+abbrev pub confirmed : Core → ℕ → Core
+confirmed c j = record c { epochs = put c.epochs j (c.words.epoch ∷ c.epochs j); guard = put c.guard j (On c.words.epoch) }
+
+-- Leave
+abbrev pub leaves : Caller → Caller
+leaves p = record p { guard = Off; position = nowhere }
+
+abbrev pub left : Core → ℕ → Core
+left c j = record c { words = record c.words { announced = put c.words.announced j 0 }; guard = put c.guard j Off; position = put c.position j nowhere }
+
+-- Scan: the announcement of caller k was found to be the word r
+abbrev pub scans : ℕ → ℕ → Caller → Caller
+scans k r p = record p { tick = record { loaded = p.tick.loaded; found = (k, r) ∷ p.tick.found } }
+
+abbrev pub scanned : Core → ℕ → ℕ → Core
+scanned c j k = record c { tick = put c.tick j (record { loaded = (c.tick j).loaded; found = (k, c.words.announced k) ∷ (c.tick j).found }) }
+
+-- Tick from x: the epoch r was found, which became x + 1 where it was x
+abbrev pub ticks : ℕ → ℕ → Caller → Caller
+ticks x r p = record p { epochs = (cond (r == x) (x + 1) r) ∷ p.epochs; tick = new_tick 0 }
+
+abbrev pub ticked : Core → ℕ → ℕ → Core
+ticked c j x = record c { words = record c.words { epoch = x + 1 }; epochs = put c.epochs j ((x + 1) ∷ c.epochs j); tick = put c.tick j (new_tick 0) }
+
+-- a tick that found another epoch
+abbrev pub tick_failed : Core → ℕ → Core
+tick_failed c j = record c { epochs = put c.epochs j (c.words.epoch ∷ c.epochs j); tick = put c.tick j (new_tick 0) }
+
+-- Retire
+abbrev pub retires : Caller → Caller
+retires p = record p { cut = None }
+
+abbrev pub retired_at : Core → ℕ → ℕ → ℕ → Core
+retired_at c j r t = record c { words = record c.words { stamp = put c.words.stamp r (t + 1) }; cut = put c.cut j None; holding = put c.holding r (retired t) }
+
+-- Look: the stamp of the row r was found to be the word w, where 0 is 'kept'
+abbrev pub seen_stamp : ℕ → ℕ → List (ℕ × ℕ) → List (ℕ × ℕ)
+seen_stamp r zero xs = xs
+seen_stamp r (suc t) xs = (r, t) ∷ xs
+
+abbrev pub looks : ℕ → ℕ → Caller → Caller
+looks r w p = record p { ripening = seen_stamp r w p.ripening }
+
+abbrev pub looked : Core → ℕ → ℕ → Core
+looked c j r = record c { ripening = put c.ripening j (seen_stamp r (c.words.stamp r) (c.ripening j)) }
+
+-- Claim
+abbrev pub claims : ℕ → Caller → Caller
+claims r p = record p { hand = p.hand ++ r ∷ []; ripening = without r p.ripening }
+
+abbrev pub claimed : Core → ℕ → ℕ → Core
+claimed c j r = record c { words = record c.words { stamp = put c.words.stamp r 0 }; hand = put c.hand j (c.hand j ++ r ∷ []); ripening = put c.ripening j (without r (c.ripening j)); holding = put c.holding r (in_hand j) }
+
+-- Conditions
+
+-- the tick scanned every other caller, and found it out or at the epoch loaded
+abbrev pub HasScanned : ℕ → ℕ → Tick → Type 0
+HasScanned n j t = (k : ℕ) → k < n → k ≢ j → (a : ℕ) × In (k, a) t.found × LetsRise t.loaded a
+
+abbrev pub IsEntering : Guard → Type 0
+IsEntering g = (x : ℕ) × (g ≡ Entering x)
+
+-- the row r was cut, and the epoch t loaded since
+abbrev pub MayRetire : Option CutRow → ℕ → ℕ → Type 0
+MayRetire cut r t = (x : CutRow) × (cut ≡ Some x) × (x.row ≡ r) × In t x.tags
+
+-- the row r was found retired, and e is two epochs after its tag
+abbrev pub IsRipe : List (ℕ × ℕ) → ℕ → ℕ → Type 0
+IsRipe ripening r e = (t : ℕ) × In (r, t) ripening × (t + 2 ≤ e)

@@ -1,0 +1,12 @@
+pub mod Widths
+pub mod Lists
+pub mod Places
+pub mod Core
+pub mod Parts
+pub mod Invariant
+pub mod Kinds
+pub mod Steps
+pub mod Rule
+pub mod Opening
+pub mod Stated
+pub mod Owing

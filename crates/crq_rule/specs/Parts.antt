@@ -1,0 +1,162 @@
+-- The parts of the invariant. Each is a record over the components that it reads, and no others: a step that leaves these leaves the part as it stands.
+use Rattle.std.specs.Prelude.{◌≡◌, ◌⊎◌, ℕ, ◌+◌, ◌^◌, ◌<◌, ◌≤◌, List, [], ◌∷◌, ◌++◌, Option, Some, None}
+use Rattle.crq_base.specs.declared.event.Event.{Event}
+use Rattle.crq_base.specs.declared.words.Link.{Link}
+use Rattle.crq_base.specs.declared.words.Control.{Control}
+use Rattle.crq_base.specs.declared.words.Current.{Current}
+use Rattle.crq_base.specs.declared.words.Pin.{Pin}
+use Rattle.crq_base.specs.Words.{IsLink, IsControl, IsCurrent, IsPin}
+use Rattle.crq_rule.specs.declared.debts.CopyDebt.{CopyDebt}
+use Rattle.crq_rule.specs.declared.debts.Debts.{Debts}
+use Rattle.crq_rule.specs.declared.layout.Layout.{Layout}
+use Rattle.crq_rule.specs.declared.view.Guard.{Guard}
+use Rattle.crq_rule.specs.declared.view.Guard.TheVariants.{Off, Entering, On}
+use Rattle.crq_rule.specs.declared.view.Tick.{Tick}
+use Rattle.crq_rule.specs.declared.view.CutRow.{CutRow}
+use Rattle.crq_rule.specs.declared.view.Position.{Position}
+use Rattle.crq_rule.specs.declared.view.Found.{Found}
+use Rattle.crq_rule.specs.Lists.{In, IsOnce}
+use Rattle.crq_rule.specs.Places.{IsRow, IsHomeRow, IsHead}
+use Rattle.crq_rule.specs.Core.{Holding, in_hand, listed, cut_by, retired}
+
+-- 1. Spelling: each word has a value
+
+pub record IsEvent (e : Event) : Type 0 where
+  pub time : e.time < 2 ^ 32
+  pub dst : e.dst < 2 ^ 32
+  pub src : e.src < 2 ^ 32
+  pub seq : e.seq < 2 ^ 64
+  pub load : e.load < 2 ^ 64
+
+pub record Spelled (l : Layout) (control : Control) (current : Current) (pin : Pin) (head link : ℕ → Link) (twin : ℕ → ℕ) (event : ℕ → Event) : Type 0 where
+  pub is_control : IsControl control
+  pub is_current : IsCurrent current
+  pub is_pin : IsPin pin
+  pub heads : (q : ℕ) → IsHead q → IsLink (head q)
+  pub links : (r : ℕ) → IsRow l r → IsLink (link r)
+  pub twins : (r : ℕ) → IsRow l r → twin r ≤ l.all
+  pub events : (r : ℕ) → IsRow l r → IsEvent (event r)
+
+-- 2. Reading: what a caller read of the epoch, of current and of the generation isn't above what the word has now
+
+-- the position a isn't after the position b
+abbrev pub NotAfter : Current → Current → Type 0
+NotAfter a b = (a.epoch < b.epoch) ⊎ ((a.epoch ≡ b.epoch) × (a.tick ≤ b.tick))
+
+pub record Reading (n epoch : ℕ) (current : Current) (control : Control) (epochs : ℕ → List ℕ) (tick : ℕ → Tick) (cut : ℕ → Option CutRow) (found : ℕ → Found) : Type 0 where
+  pub limit : epoch ≤ 2 ^ 62
+  pub read : (j e : ℕ) → j < n → In e (epochs j) → e ≤ epoch
+  pub loaded : (j : ℕ) → j < n → (tick j).loaded ≤ epoch
+  pub scanned : (j k a : ℕ) → j < n → In (k, a) (tick j).found → a ≤ epoch + 1
+  pub tags : (j t : ℕ) (x : CutRow) → j < n → cut j ≡ Some x → In t x.tags → t ≤ epoch
+  pub read_current : (j : ℕ) (x : Current) → j < n → (found j).current ≡ Some x → NotAfter x current
+  pub read_control : (j : ℕ) (x : Control) → j < n → (found j).control ≡ Some x → x.generation ≤ control.generation
+
+-- 3. Guards
+
+-- what a guard says of the epoch e and of the word a of its announcement
+abbrev pub GuardIs : ℕ → ℕ → Guard → Type 0
+GuardIs e a Off = a ≡ 0
+GuardIs e a (Entering x) = (a ≡ x + 1) × (x ≤ e)
+GuardIs e a (On g) = (0 < a) × (a ≤ g + 1) × (g ≤ e) × (e ≤ g + 1)
+
+-- a guard that is on found at least x
+abbrev pub OnSince : ℕ → Guard → Type 0
+OnSince x Off = Unit {0}
+OnSince x (Entering y) = Unit {0}
+OnSince x (On g) = x ≤ g
+
+abbrev pub IsOn : Guard → Type 0
+IsOn Off = ⊥
+IsOn (Entering x) = ⊥
+IsOn (On g) = Unit {0}
+
+-- the word a of an announcement lets the epoch rise from e
+abbrev pub LetsRise : ℕ → ℕ → Type 0
+LetsRise e a = (a ≡ 0) ⊎ (a ≡ e + 1)
+
+pub record Guards (n epoch : ℕ) (announced : ℕ → ℕ) (guard : ℕ → Guard) (tick : ℕ → Tick) : Type 0 where
+  pub each : (j : ℕ) → j < n → GuardIs epoch (announced j) (guard j)
+  pub passed : (k j a : ℕ) → k < n → j < n → In (j, a) (tick k).found → LetsRise (tick k).loaded a → OnSince (tick k).loaded (guard j)
+
+-- 4. Holders: each row is held by one
+
+pub record Holders (l : Layout) (hand : ℕ → List ℕ) (cut : ℕ → Option CutRow) (chain : ℕ → List ℕ) (holding : ℕ → Holding) : Type 0 where
+  pub once : (j : ℕ) → j < l.workers → IsOnce (hand j)
+  pub held : (j r : ℕ) → j < l.workers → In r (hand j) → IsHomeRow l j r × (holding r ≡ in_hand j)
+  pub of_hand : (j r : ℕ) → IsRow l r → holding r ≡ in_hand j → (j < l.workers) × In r (hand j)
+  pub in_chain : (q r : ℕ) → IsHead q → In r (chain q) → IsRow l r × (holding r ≡ listed q)
+  pub of_chain : (q r : ℕ) → IsRow l r → holding r ≡ listed q → IsHead q × In r (chain q)
+  pub is_cut : (j : ℕ) (x : CutRow) → j < l.workers → cut j ≡ Some x → IsRow l x.row × (holding x.row ≡ cut_by j)
+  pub of_cut : (j r : ℕ) → IsRow l r → holding r ≡ cut_by j → (j < l.workers) × ((x : CutRow) × (cut j ≡ Some x) × (x.row ≡ r))
+
+-- a caller that cut a row and hasn't retired it has its guard on
+pub record Cutting (n : ℕ) (guard : ℕ → Guard) (cut : ℕ → Option CutRow) : Type 0 where
+  pub on : (j : ℕ) (x : CutRow) → j < n → cut j ≡ Some x → IsOn (guard j)
+
+-- the stamp of a row
+abbrev pub stamp_of : Holding → ℕ
+stamp_of (in_hand j) = 0
+stamp_of (listed q) = 0
+stamp_of (cut_by j) = 0
+stamp_of (retired t) = t + 1
+
+pub record Stamps (l : Layout) (epoch : ℕ) (stamp : ℕ → ℕ) (ripening : ℕ → List (ℕ × ℕ)) (holding : ℕ → Holding) : Type 0 where
+  pub shown : (r : ℕ) → IsRow l r → stamp r ≡ stamp_of (holding r)
+  pub tag : (r t : ℕ) → IsRow l r → holding r ≡ retired t → t ≤ epoch
+  pub ripe : (j r t : ℕ) → j < l.workers → In (r, t) (ripening j) → IsHomeRow l j r × (holding r ≡ retired t)
+
+-- 5. Lists: links lead from each head through its rows to row 0, and the twin of a listed row is 0 or listed
+
+abbrev pub Leads : (ℕ → Link) → ℕ → List ℕ → Type 0
+Leads link a [] = a ≡ 0
+Leads link a (r ∷ rs) = (a ≡ r) × Leads link (link r).row rs
+
+pub record Chains (head link : ℕ → Link) (twin : ℕ → ℕ) (chain : ℕ → List ℕ) : Type 0 where
+  pub leads : (q : ℕ) → IsHead q → Leads link (head q).row (chain q)
+  pub twins : (q r : ℕ) → IsHead q → In r (chain q) → (twin r ≡ 0) ⊎ ((p : ℕ) × IsHead p × In (twin r) (chain p))
+
+-- 6. Cover: what the guards keep from being given again
+
+-- the row b is named by the link or the twin word of the row a
+abbrev pub Names : (ℕ → Link) → (ℕ → ℕ) → ℕ → ℕ → Type 0
+Names link twin a b = (0 < b) × (((link a).row ≡ b) ⊎ (twin a ≡ b))
+
+-- names lead from the row a through the rows xs to b
+abbrev pub IsPath : (ℕ → Link) → (ℕ → ℕ) → ℕ → List ℕ → ℕ → Type 0
+IsPath link twin a [] b = a ≡ b
+IsPath link twin a (x ∷ xs) b = Names link twin a x × IsPath link twin x xs b
+
+pub record Reaches (link : ℕ → Link) (twin : ℕ → ℕ) (a b : ℕ) : Type 0 where
+  pub through : List ℕ
+  pub path : IsPath link twin a through b
+
+abbrev pub rows_of_copy : Option CopyDebt → List ℕ
+rows_of_copy None = []
+rows_of_copy (Some d) = d.old ∷ d.copy ∷ []
+
+abbrev pub rows_of_old : Option ℕ → List ℕ
+rows_of_old None = []
+rows_of_old (Some r) = r ∷ []
+
+-- the rows that a caller stands on: of a list, the frozen row whose copy isn't linked yet, and both rows of a copy that it owes
+abbrev pub standing : Position → Debts → List ℕ
+standing p d = p.rows ++ (rows_of_old p.old ++ rows_of_copy d.copy)
+
+-- the guard of caller k, which is on and found g, covers the row r
+pub record Covers (n : ℕ) (link : ℕ → Link) (twin : ℕ → ℕ) (guard : ℕ → Guard) (position : ℕ → Position) (debts : ℕ → Debts) (k g r : ℕ) : Type 0 where
+  pub inside : k < n
+  pub on : guard k ≡ On g
+  pub at : ℕ
+  pub stands : In at (standing (position k) (debts k))
+  pub reaches : Reaches link twin at r
+
+-- the row r was retired with the tag t, or its cutter loaded the epoch t since the cut
+abbrev pub HasTag : ℕ → (ℕ → Option CutRow) → (ℕ → Holding) → ℕ → ℕ → Type 0
+HasTag n cut holding r t = (holding r ≡ retired t) ⊎ ((j : ℕ) × (x : CutRow) × (j < n) × (cut j ≡ Some x) × (x.row ≡ r) × In t x.tags)
+
+pub record Cover (n : ℕ) (link : ℕ → Link) (twin : ℕ → ℕ) (guard : ℕ → Guard) (position : ℕ → Position) (debts : ℕ → Debts) (cut : ℕ → Option CutRow) (holding : ℕ → Holding) : Type 0 where
+  pub free : (k g r j : ℕ) → Covers n link twin guard position debts k g r → holding r ≡ in_hand j → ⊥
+  pub tags : (k g r t : ℕ) → Covers n link twin guard position debts k g r → HasTag n cut holding r t → g ≤ t
+  -- a caller stands on rows only while its guard is on
+  pub resting : (k : ℕ) → k < n → (IsOn (guard k) → ⊥) → standing (position k) (debts k) ≡ []

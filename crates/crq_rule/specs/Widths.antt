@@ -1,0 +1,6 @@
+-- How many words a table has.
+use Rattle.std.specs.Prelude.{ℕ, ◌+◌, ◌*◌}
+use Rattle.crq_rule.specs.declared.layout.Layout.{Layout}
+
+abbrev pub width : Layout → ℕ
+width l = 65541 + l.workers + 7 * l.all

@@ -1,0 +1,49 @@
+//! What a pass may owe between two calls.
+
+use crq_base::Event;
+
+/// An event that this pass linked, and that isn't settled yet.
+#[derive(Clone, Copy, Debug, PartialEq, Eq)]
+pub struct SettleDebt {
+    /// The event.
+    pub event: Event,
+    /// The generation of the table in which it was linked.
+    pub generation: u32,
+}
+
+/// A dead row that this pass still has to cut, named by its place in a list.
+#[derive(Clone, Copy, Debug, PartialEq, Eq)]
+pub struct CutDebt {
+    /// The generation of the list's table.
+    pub generation: u32,
+    /// The list's head, numbered from 0 within its bank.
+    pub head: u32,
+    /// The event that the row held; the list is sorted by its key, and then by row.
+    pub event: Event,
+    /// The row.
+    pub row: u32,
+}
+
+/// A copy that this pass linked into the new table, and that isn't bound yet.
+#[derive(Clone, Copy, Debug, PartialEq, Eq)]
+pub struct CopyDebt {
+    /// The frozen row of the old table.
+    pub old: u32,
+    /// The copy.
+    pub copy: u32,
+    /// The generation of the new table.
+    pub generation: u32,
+}
+
+/// All that a pass owes. It never names more than two dead rows.
+#[derive(Clone, Copy, Debug, PartialEq, Eq)]
+pub struct Debts {
+    /// The event to settle.
+    pub settle: Option<SettleDebt>,
+    /// The copy to bind or to discard.
+    pub copy: Option<CopyDebt>,
+    /// The dead row that was named first.
+    pub cut: Option<CutDebt>,
+    /// The dead row that was named after it.
+    pub second_cut: Option<CutDebt>,
+}

@@ -1,0 +1,98 @@
+//! The number of each word.
+
+ghost use Rattle.std.specs.Prelude.{◌≡◌, ◌+◌, ◌*◌, ◌<◌, ◌≤◌};
+ghost use Rattle.crq_rule.specs.Places.{index, IsRow, epoch, announced, control, current, head, stamp};
+ghost use Rattle.crq_rule.specs.Widths.{width};
+
+use crate::layout::Layout;
+
+/// The number of the first word of row 0, which there isn't, in a table of no callers.
+const ROWS: usize = 65534;
+
+/// The number of words of a table of no callers and no rows.
+const LEAST: usize = 65541;
+
+impl Layout {
+    /// The layout for this many callers, and so many rows for each.
+    pub fn of(workers: u32, rows: u32) -> Layout
+        requires workers { (1 ≤ workers) × (workers ≤ 16) }
+        requires rows { (4 ≤ rows) × (rows ≤ 131072) }
+        ensures { (result.workers ≡ workers) × (result.rows ≡ rows) }
+    {
+        let home = rows + 2 * workers;
+        Layout {
+            workers,
+            rows,
+            home,
+            all: workers * home,
+        }
+    }
+
+    /// The epoch word.
+    pub fn epoch(&self) -> usize
+        ensures { result ≡ index self.now epoch }
+    {
+        1
+    }
+
+    /// The announcement of a caller.
+    pub fn announced(&self, number: u32) -> usize
+        requires { number < self.now.workers }
+        ensures { result ≡ index self.now (announced number) }
+    {
+        number as usize + 2
+    }
+
+    /// How many words there are.
+    pub fn width(&self) -> usize
+        ensures { result ≡ width self.now }
+    {
+        LEAST + self.workers as usize + 7 * self.all as usize
+    }
+
+    /// The control word.
+    pub fn control(&self) -> usize
+        ensures { result ≡ index self.now control }
+    {
+        self.workers as usize + 2
+    }
+
+    /// The current word.
+    pub fn current(&self) -> usize
+        ensures { result ≡ index self.now current }
+    {
+        self.workers as usize + 3
+    }
+
+    /// A head, numbered over both banks.
+    pub fn head(&self, number: usize) -> usize
+        requires { number < 65536 }
+        ensures { result ≡ index self.now (head number) }
+    {
+        self.workers as usize + 5 + number
+    }
+
+    /// The stamp of a row.
+    pub fn stamp(&self, row: u32) -> usize
+        requires { IsRow self.now row }
+        ensures { result ≡ index self.now (stamp row) }
+    {
+        ROWS + self.workers as usize + 7 * row as usize + 1
+    }
+
+    /// The first home row of a caller.
+    pub fn first_home(&self, number: u32) -> u32
+        requires { number < self.now.workers }
+        ensures { result ≡ number * self.now.home + 1 }
+    {
+        number * self.home + 1
+    }
+
+    /// The last home row of a caller.
+    pub fn last_home(&self, number: u32) -> u32
+        requires { number < self.now.workers }
+        ensures { result ≡ number * self.now.home + self.now.home }
+    {
+        number * self.home + self.home
+    }
+}

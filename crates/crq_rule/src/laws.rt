@@ -1,0 +1,64 @@
+//! Laws of the rule: facts about every state that meets the invariant, and about every step. They hold by proof, and
+//! running them does nothing.
+ghost use Rattle.std.specs.Prelude.{◌≡◌, ◌≢◌, ℕ, ◌+◌, ◌<◌, ◌≤◌, List, []};
+ghost use Rattle.atomic_table.specs.Table.{opening, Joins, Splits};
+ghost use Rattle.crq_base.specs.Starts.{IsFirst};
+ghost use Rattle.crq_rule.specs.declared.layout.Start.{Start};
+ghost use Rattle.crq_rule.specs.declared.view.Guard.TheVariants.{On};
+ghost use Rattle.crq_rule.specs.declared.view.Made.{Made};
+ghost use Rattle.crq_rule.specs.declared.view.View.{View};
+ghost use Rattle.crq_rule.specs.Lists.{In};
+ghost use Rattle.crq_rule.specs.Places.{Place, word_of, Shows};
+ghost use Rattle.crq_rule.specs.Core.{Core, caller_of};
+ghost use Rattle.crq_rule.specs.Invariant.{Inv};
+ghost use Rattle.crq_rule.specs.Kinds.{after_made, IsRipe};
+ghost use Rattle.crq_rule.specs.Steps.{Kind, IsStep, place_of};
+ghost use Rattle.crq_rule.specs.Rule.{Stands, first_view, joined, spent, head_view, tail_view, IsFirstApart};
+ghost use Rattle.crq_rule.specs.Opening.{opening_core, opening_words};
+ghost use Rattle.crq_rule.specs.Stated.{WordsHold, HoldersHold, GuardsHold, CoverHolds, IsCovered, Witness};
+
+/// Each kind of step keeps the invariant, from every state that meets it. It changes the word of its kind alone, if any,
+/// and what its own caller knows alone, and it leaves the history and the places in it as they are.
+pub fn step_law()
+    ensures keeps { (k : Kind) (c c' : Core) (j : ℕ) → j < c.start.layout.workers → IsStep k c j c' → Inv c → Inv c' }
+    ensures words { (k : Kind) (c c' : Core) (j : ℕ) → IsStep k c j c' → (p : Place) → p ≢ place_of k j → word_of c'.words p ≡ word_of c.words p }
+    ensures others { (k : Kind) (c c' : Core) (j : ℕ) → IsStep k c j c' → (i : ℕ) → i ≢ j → caller_of c' i ≡ caller_of c i }
+    ensures history { (k : Kind) (c c' : Core) (j : ℕ) → IsStep k c j c' → (c'.start ≡ c.start) × (c'.history ≡ c.history) × (c'.begun ≡ c.begun) × (c'.read ≡ c.read) }
+    ensures made { (c : Core) (j : ℕ) (m : Made) → Inv c → Inv (after_made c j m) }
+{}
+
+/// Cutting a seat in two keeps the rule, and so does joining two seats.
+pub fn seat_law()
+    ensures splits { (key : Start) (id : ℕ) (v : View) → IsFirstApart v → Splits (Stands key) id v (head_view v) (tail_view v) }
+    ensures joins { (key : Start) (id other : ℕ) (v w : View) → Joins (Stands key) id v other w (joined v w) spent }
+{}
+
+/// A row that a caller may claim is covered by no guard, in every state that meets the invariant.
+pub fn claim_law()
+    ensures { (c : Core) (j r e : ℕ) → j < c.start.layout.workers → In e (c.epochs j) → IsRipe (c.ripening j) r e → Inv c → (k g : ℕ) → IsCovered c k g r → ⊥ }
+{}
+
+/// While a guard is on that found the epoch g, the epoch is at most g + 1.
+pub fn guard_law()
+    ensures { (c : Core) (k g : ℕ) → Inv c → k < c.start.layout.workers → c.guard k ≡ On g → (g ≤ c.words.epoch) × (c.words.epoch ≤ g + 1) }
+{}
+
+/// A new table stands for a state that meets the invariant.
+pub fn opening_law()
+    ensures keeps { (start : Start) → IsFirst start.first → Inv (opening_core start) }
+    ensures stands { (start : Start) (ws : List ℕ) → IsFirst start.first → Shows start.layout (opening_words start) ws → Stands start (opening ws [] (first_view start)) }
+{}
+
+/// The invariant that is kept implies each of its parts as it is stated: on words, on the holders of rows, on guards, and
+/// on covered rows.
+pub fn parts_law()
+    ensures words { (c : Core) → Inv c → WordsHold c }
+    ensures holders { (c : Core) → Inv c → HoldersHold c }
+    ensures guards { (c : Core) → Inv c → GuardsHold c }
+    ensures cover { (c : Core) → Inv c → CoverHolds c }
+{}
+
+/// Some state with a listed row that a guard covers, a cut row that has a tag, and a retired row meets the invariant.
+pub fn witness_law()
+    ensures { (c : Core) × Inv c × Witness c }
+{}

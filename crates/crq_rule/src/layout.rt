@@ -1,0 +1,35 @@
+//! The place of each word of the table.
+
+ghost use Rattle.std.specs.Prelude.{◌≡◌, ◌+◌, ◌*◌, ◌<◌, ◌≤◌};
+
+use crq_base::First;
+
+/// How many callers and rows a table has.
+///
+/// Word 0 is spare. Then come the epoch, an announcement for each caller, the control word, current, the pin, two banks
+/// of 32,768 heads, and the rows, of seven words each: link, stamp, twin, and the four words of an event.
+#[derive(Clone, Copy, Debug, PartialEq, Eq)]
+pub struct Layout {
+    /// The number of callers, 1 to 16.
+    pub workers: u32,
+    /// How many rows each caller may use, 4 to 131,072.
+    pub rows: u32,
+    /// How many rows have their home with each caller. Those beyond `rows` make up for rows that others have yet to cut.
+    pub home: u32,
+    /// How many rows there are.
+    pub all: u32,
+    ghost few: { (1 ≤ workers) × (workers ≤ 16) },
+    ghost some_rows: { (4 ≤ rows) × (rows ≤ 131072) },
+    ghost home_is: { home ≡ rows + 2 * workers },
+    ghost all_is: { all ≡ workers * home },
+    ghost all_fit: { all ≤ 2097664 },
+}
+
+/// What a table starts with.
+#[derive(Clone, Copy, Debug, PartialEq, Eq)]
+pub struct Start {
+    /// The places of its words.
+    pub layout: Layout,
+    /// Where its counters begin.
+    pub first: First,
+}

@@ -1,0 +1,26 @@
+//! The rule of the shared table: where each word lies, what each caller knows, and the invariant that every atomic
+//! step of every caller keeps.
+//!
+//! The table holds the rows of a lock-free calendar queue. Rows are given again by epochs, after Fraser, "Practical
+//! lock-freedom" (2004): a row that was cut out of its list is taken again only once no guard can cover it.
+#![tactic(auto)]
+
+mod debts;
+mod indices;
+mod laws;
+mod layout;
+mod opening;
+mod pass;
+mod rule;
+mod view;
+
+pub use crq_base::{First, StepKind};
+pub use debts::{CopyDebt, CutDebt, Debts, SettleDebt};
+pub use laws::{claim_law, guard_law, opening_law, parts_law, seat_law, step_law, witness_law};
+pub use layout::{Layout, Start};
+pub use opening::{Opened, open_table};
+pub use pass::{Owes, Pass, Rest, Seating, Table};
+pub use rule::{FirstPart, JoinedParts, TableLaw};
+pub use view::{
+    Caller, CutRow, Deal, Found, Guard, Help, Linking, Made, Position, Tick, Told, View,
+};

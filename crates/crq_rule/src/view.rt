@@ -1,0 +1,125 @@
+//! What each caller knows of the table, as far as proofs follow it. No value of these types is made.
+
+use crate::debts::Debts;
+use crate::layout::Start;
+use crq_base::{Control, Current, Entry, Event, Link, Pin, StepKind};
+use std::collections::LinkedList;
+
+/// A caller's guard. While it is on, it covers the rows that the caller stands on, and all that they lead to.
+pub enum Guard {
+    Off,
+    /// The epoch was announced, and not yet loaded again.
+    Entering(u64),
+    /// The load that turned the guard on found this epoch.
+    On(u64),
+}
+
+/// What an attempt to raise the epoch has found.
+pub struct Tick {
+    /// The epoch that it loaded.
+    pub loaded: u64,
+    /// The callers scanned since then, each with the word of its announcement.
+    pub found: LinkedList<(u64, u64)>,
+}
+
+/// A row that the caller cut out of its list and hasn't retired.
+pub struct CutRow {
+    pub row: u64,
+    /// The epochs loaded since the cut. Each may be the tag.
+    pub tags: LinkedList<u64>,
+}
+
+/// What all callers were dealt alike: the history so far, and how many sources in a row belong to each caller.
+pub struct Deal {
+    pub history: LinkedList<Entry>,
+    pub span: u64,
+}
+
+/// The rows of a list that a caller stands on, and the frozen row whose copy it hasn't linked yet.
+pub struct Position {
+    pub rows: LinkedList<u64>,
+    pub old: Option<u64>,
+}
+
+/// Words that the present call has read, and that it may rely on: the last control word and current, the links of dead
+/// or frozen rows, which never change again, and twin words that aren't 0.
+pub struct Found {
+    pub control: Option<Control>,
+    pub current: Option<Current>,
+    pub links: LinkedList<(u64, Link)>,
+    pub twins: LinkedList<(u64, u64)>,
+}
+
+/// A row in hand whose words are written, and that is about to be linked before the row `next`.
+pub struct Linking {
+    pub row: u64,
+    pub event: Event,
+    pub next: u64,
+}
+
+/// What a helper of a migration has passed: the new heads that it found prepared, the old heads that it found frozen and
+/// that it found empty, the pin, and current's epoch that it loaded for the pin.
+pub struct Help {
+    pub generation: u64,
+    pub prepared: LinkedList<u64>,
+    pub frozen: LinkedList<u64>,
+    pub emptied: LinkedList<u64>,
+    pub pin: Option<Pin>,
+    pub epoch: Option<u64>,
+}
+
+/// The least numbers of entries that the caller's answers since the deal told the history to have: of new tables, and
+/// of new tables and settled events together.
+pub struct Told {
+    pub tables: u64,
+    pub settled: u64,
+}
+
+/// One atomic step that the caller made: its kind, the number of its word, its operands (of a store the word stored, of
+/// an exchange the word expected and the new one, else 0), and the word that it found.
+pub struct Made {
+    pub kind: StepKind,
+    pub word: u64,
+    pub first: u64,
+    pub second: u64,
+    pub found: u64,
+}
+
+/// All that is known of one caller.
+pub struct Caller {
+    /// The caller's number, from 0.
+    pub number: u64,
+    /// What the table started with.
+    pub start: Start,
+    pub deal: Deal,
+    /// The entries that the caller added to the history since the deal.
+    pub own: LinkedList<Entry>,
+    /// The atomic steps that the caller made, in order.
+    pub made: LinkedList<Made>,
+    /// The epochs that the caller loaded, or made by a tick of its own; the last one first.
+    pub epochs: LinkedList<u64>,
+    pub guard: Guard,
+    pub tick: Tick,
+    /// The free home rows, and those being written.
+    pub hand: LinkedList<u64>,
+    /// The home rows that were looked at and not claimed since, each with its tag.
+    pub ripening: LinkedList<(u64, u64)>,
+    pub cut: Option<CutRow>,
+    pub debts: Debts,
+    /// Whether the caller may raise current's epoch once.
+    pub permit: bool,
+    pub position: Position,
+    pub found: Found,
+    pub linking: Option<Linking>,
+    pub help: Option<Help>,
+    /// The heads whose lists the caller's sweep found without a dead row since its last Begin.
+    pub clean: LinkedList<u64>,
+    /// The events that the last refusal for want of rows counted.
+    pub refused: LinkedList<Event>,
+    pub told: Told,
+}
+
+/// What a seat knows: the callers whose parts it carries. A seat that was joined into another carries none.
+pub struct View {
+    pub parts: LinkedList<Caller>,
+}
