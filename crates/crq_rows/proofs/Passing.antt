@@ -2,6 +2,7 @@
 use Rattle.std.proofs.Common.{◌≡◌, ℕ, [], ◌∷◌, get_or, sym, refl, ap, ◌∙◌, subst}
 use Rattle.atomic_table.specs.declared.shared.Seat.{Seat}
 use Rattle.atomic_table.specs.Table.{Allows}
+use Rattle.crq_base.specs.declared.kinds.StepKind.{StepKind}
 use Rattle.crq_rule.specs.declared.layout.Start.{Start}
 use Rattle.crq_rule.specs.declared.view.Made.{Made}
 use Rattle.crq_rule.specs.declared.view.Caller.{Caller}
@@ -48,11 +49,11 @@ module _ (table : Table) (old : Pass) (seat : Seat (Unit {0}) View) (m : Made) (
   }
 
 -- what `atomic_table` asks of a step of the pass
-pub seated_allows : (table : Table) (pass : Pass) (w : ℕ) (g : ℕ → ℕ) (m : ℕ → Made) (f : ℕ → Caller → Caller) (tells : ℕ → Caller → Type 0) → IsSeated table pass → ((r : ℕ) (p : Caller) → (f r p).number ≡ p.number)
-    → Moves table.start (caller table pass) w g f tells
+pub seated_allows : (kind : StepKind) (table : Table) (pass : Pass) (w : ℕ) (g : ℕ → ℕ) (m : ℕ → Made) (f : ℕ → Caller → Caller) (tells : ℕ → Caller → Type 0) → IsSeated table pass → ((r : ℕ) (p : Caller) → (f r p).number ≡ p.number)
+    → Moves kind table.start (caller table pass) w g f tells
     → Allows (Stands table.inner.shared.key) table.inner.shared.table_id.slots pass.seat.id pass.seat.me w g (λ r n. (n ≡ (alters (λ q. makes (m r) (f r q)) pass.seat.me.0, pass.seat.me.1)) × told_first (tells r) pass.seat.me.0.parts)
-seated_allows table pass w g m f tells of number moves = subst (λ (key : Start). Allows (Stands key) table.inner.shared.table_id.slots pass.seat.id pass.seat.me w g (λ r n. (n ≡ (alters (λ q. makes (m r) (f r q)) pass.seat.me.0, pass.seat.me.1)) × told_first (tells r) pass.seat.me.0.parts))
-    (sym table.keyed) (λ s h x at y. let t = allows table.start table.inner.shared.table_id.slots pass.seat.id pass.seat.me (caller table pass) w g m f tells of.one (λ r. number r (caller table pass)) moves s h x at y in
+seated_allows kind table pass w g m f tells of number moves = subst (λ (key : Start). Allows (Stands key) table.inner.shared.table_id.slots pass.seat.id pass.seat.me w g (λ r n. (n ≡ (alters (λ q. makes (m r) (f r q)) pass.seat.me.0, pass.seat.me.1)) × told_first (tells r) pass.seat.me.0.parts))
+    (sym table.keyed) (λ s h x at y. let t = allows table.start kind table.inner.shared.table_id.slots pass.seat.id pass.seat.me (caller table pass) w g m f tells of.one (λ r. number r (caller table pass)) moves s h x at y in
     (t.0, t.1, t.2, t.3, (t.4.0, subst (told_first (tells (get_or s.words w 0))) (sym of.one) t.4.1)))
 
 -- what it tells of the pass's caller

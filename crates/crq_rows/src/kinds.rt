@@ -44,7 +44,7 @@ pub fn load_as<F: Change, T>(table: &Table, pass: &mut Pass, word: usize, _said:
     requires of { IsPassOf table.now pass.old }
     requires word { word < table.now.inner.shared.table_id.words }
     requires aside { IsAside F.change }
-    requires moves { Moves table.now.start (caller table.now pass.old) word (λ n. n) F.change F.tells }
+    requires moves { Moves F.kind table.now.start (caller table.now pass.old) word (λ n. n) F.change F.tells }
     ensures stepped { Stepped table.now pass.old pass.new (load_made F.kind word result) (F.change result) }
     ensures told { F.tells result (caller table.now pass.old) }
 {
@@ -56,7 +56,7 @@ pub fn store_as<F: Change, T>(table: &Table, pass: &mut Pass, word: usize, new: 
     requires of { IsPassOf table.now pass.old }
     requires word { word < table.now.inner.shared.table_id.words }
     requires aside { IsAside F.change }
-    requires moves { Moves table.now.start (caller table.now pass.old) word (λ _. new) (λ _. F.change new) (λ _. F.tells new) }
+    requires moves { Moves F.kind table.now.start (caller table.now pass.old) word (λ _. new) (λ _. F.change new) (λ _. F.tells new) }
     ensures stepped { Stepped table.now pass.old pass.new (store_made F.kind word new) (F.change new) }
     ensures told { F.tells new (caller table.now pass.old) }
 {
@@ -72,7 +72,7 @@ pub fn store_seated<F: Change, T>(table: &Table, pass: &mut Pass, word: usize, n
     requires word { word < table.now.inner.shared.table_id.words }
     requires number { (r : ℕ) (p : Caller) → (F.change r p).number ≡ p.number }
     requires start { (r : ℕ) (p : Caller) → (F.change r p).start ≡ p.start }
-    requires moves { Moves table.now.start (caller table.now pass.old) word (λ _. new) (λ _. F.change new) (λ _. F.tells new) }
+    requires moves { Moves F.kind table.now.start (caller table.now pass.old) word (λ _. new) (λ _. F.change new) (λ _. F.tells new) }
     ensures steps { Steps table.now pass.old pass.new (store_made F.kind word new) (F.change new) }
     ensures told { F.tells new (caller table.now pass.old) }
 {
@@ -94,7 +94,7 @@ pub fn exchange_as<F: Change, T>(
     requires of { IsPassOf table.now pass.old }
     requires word { word < table.now.inner.shared.table_id.words }
     requires aside { IsAside F.change }
-    requires moves { Moves table.now.start (caller table.now pass.old) word (λ n. either (n == old) new n) F.change F.tells }
+    requires moves { Moves F.kind table.now.start (caller table.now pass.old) word (λ n. either (n == old) new n) F.change F.tells }
     ensures exchanged { Exchanged table.now pass.old pass.new (step_made F.kind word old new result) (F.change result) }
     ensures told { F.tells result (caller table.now pass.old) }
 {

@@ -6,6 +6,7 @@ use native.Mathlib.Decide.{ℕ_discrete}
 use lib.ListN.{get_elem?}
 use Rattle.atomic_table.specs.Table.{State, Me, keeps, Allows, Joins, Splits}
 use Rattle.atomic_table.proofs.Lists.{at_set}
+use Rattle.crq_base.specs.declared.kinds.StepKind.{StepKind}
 use Rattle.crq_rule.specs.declared.layout.Start.{Start}
 use Rattle.crq_rule.specs.declared.view.Made.{Made}
 use Rattle.crq_rule.specs.declared.view.Caller.{Caller}
@@ -67,19 +68,19 @@ module _ (key : Start) where
   }
 
   -- a step that is described by m, of the word found
-  pub allows : (slots id : ℕ) (me : Me (Unit {0}) View) (p : Caller) (w : ℕ) (g : ℕ → ℕ) (m : ℕ → Made) (f : ℕ → Caller → Caller) (tells : ℕ → Caller → Type 0) → me.0.parts ≡ p ∷ []
-      → ((r : ℕ) → (f r p).number ≡ p.number) → Moves key p w g f tells
+  pub allows : (kind : StepKind) (slots id : ℕ) (me : Me (Unit {0}) View) (p : Caller) (w : ℕ) (g : ℕ → ℕ) (m : ℕ → Made) (f : ℕ → Caller → Caller) (tells : ℕ → Caller → Type 0) → me.0.parts ≡ p ∷ []
+      → ((r : ℕ) → (f r p).number ≡ p.number) → Moves kind key p w g f tells
       → Allows (Stands key) slots id me w g (λ r n. (n ≡ (alters (λ q. makes (m r) (f r q)) me.0, me.1)) × tells r p)
-  allows slots id me p w g m f tells is same moves s h _ at _ =
+  allows kind slots id me p w g m f tells is same moves s h _ at _ =
       let r : ℕ = get_or s.words w 0 in let own = carried s h id me.0 p at is in
       let t = moves h.core s.words h.kept h.words own.inside own.is in
       let p' : Caller = makes (m r) (f r p) in let c' : Core = After t.0 h.core p.number in
-      let kept = step_kept t.0 h.core p.number (f r p) own.inside t.1 h.kept t.3 in (
+      let kept = step_kept t.0 h.core p.number (f r p) own.inside t.2 h.kept t.4 in (
         record me.0 { parts = p' ∷ [] },
         keeps,
         tt,
-        stands s h id me.0 p p' (after_made c' p.number (m r)) (set s.words w (g r)) at is (same r) (record { start = t.2.start; shows = t.2.shows }) (kept_made h.core c' p.number (f r p) (m r) kept),
-        (λ i. (record me.0 { parts = on_first (λ q. makes (m r) (f r q)) (sym is i) }, me.1), t.4),
+        stands s h id me.0 p p' (after_made c' p.number (m r)) (set s.words w (g r)) at is (same r) (record { start = t.3.start; shows = t.3.shows }) (kept_made h.core c' p.number (f r p) (m r) kept),
+        (λ i. (record me.0 { parts = on_first (λ q. makes (m r) (f r q)) (sym is i) }, me.1), t.5),
       )
 
 -- Joining: the callers of the seat `from` move to `to`

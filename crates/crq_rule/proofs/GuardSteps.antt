@@ -4,6 +4,7 @@ use mathlib.Core.Logic.{dite}
 use native.Mathlib.Decide.{ℕ_discrete}
 use lib.Seq.{set-get_or}
 use prog.Atomic.{either}
+use Rattle.crq_base.specs.declared.kinds.StepKind.TheVariants.{EpochLoad, Enter, Confirm, Leave, Scan, Tick as TickKind}
 use Rattle.crq_rule.specs.declared.layout.Start.{Start}
 use Rattle.crq_rule.specs.declared.view.Guard.TheVariants.{Off, Entering, On}
 use Rattle.crq_rule.specs.declared.view.Tick.{Tick}
@@ -12,7 +13,7 @@ use Rattle.crq_rule.specs.Lists.{In}
 use Rattle.crq_rule.specs.Places.{index, epoch, announced, Shows}
 use Rattle.crq_rule.specs.Core.{Core, caller_of}
 use Rattle.crq_rule.specs.Invariant.{Inv}
-use Rattle.crq_rule.specs.Kinds.{loads_epoch, enters, confirms, leaves, scans, ticks, epoch_loaded, entered, confirmed, left, scanned, ticked, tick_failed, tagged, new_tick, nowhere, HasScanned}
+use Rattle.crq_rule.specs.Kinds.{loads_epoch, enters, confirms, leaves, scans, ticks, tagged, new_tick, nowhere, HasScanned}
 use Rattle.crq_rule.specs.Rule.{IsWords, Moves, quiet, TellsEpoch, TellsLow, word_after}
 use Rattle.crq_rule.proofs.Puts.{put_here}
 use Rattle.crq_rule.proofs.Placing.{epoch_set, announced_set}
@@ -36,9 +37,10 @@ module _ (key : Start) (p : Caller) where
     scanned = λ k a. inv.reading.scanned j k a b;
   }
 
-  pub load_moves : Moves key p (index key.layout epoch) (λ n. n) loads_epoch TellsEpoch
+  pub load_moves : Moves EpochLoad key p (index key.layout epoch) (λ n. n) loads_epoch TellsEpoch
   load_moves c ws inv words b is = let e = c.words.epoch in let at = words.shows.each epoch tt in (
     epoch_load,
+    refl,
     tt,
     same_words key c (After epoch_load c j) ws (index key.layout epoch) refl refl words,
     (λ i. loads_epoch (at i) (is i))
@@ -46,10 +48,11 @@ module _ (key : Start) (p : Caller) where
     told c ws inv words b is,
   )
 
-  pub enter_moves : (e : ℕ) → p.guard ≡ Off → In e p.epochs → Moves key p (index key.layout (announced j)) (λ _. word_after e) (λ _. enters e) (λ _. TellsLow e 0)
+  pub enter_moves : (e : ℕ) → p.guard ≡ Off → In e p.epochs → Moves Enter key p (index key.layout (announced j)) (λ _. word_after e) (λ _. enters e) (λ _. TellsLow e 0)
   enter_moves e off read c ws inv words b is = let in' : In e (c.epochs j) = subst (λ (q : Caller). In e q.epochs) is read in let low = inv.reading.read j e b in' in let top = inv.reading.limit in
       let word : e + 1 ≡ word_after e = omega arith in (
         enter e,
+        refl,
         (ap (λ (q : Caller). q.guard) (sym is) ∙ off, in'),
         record {
           start = words.start;
@@ -60,37 +63,41 @@ module _ (key : Start) (p : Caller) where
         omega arith,
       )
 
-  pub confirm_moves : (x : ℕ) → p.guard ≡ Entering x → Moves key p (index key.layout epoch) (λ n. n) confirms TellsEpoch
+  pub confirm_moves : (x : ℕ) → p.guard ≡ Entering x → Moves Confirm key p (index key.layout epoch) (λ n. n) confirms TellsEpoch
   confirm_moves x entering c ws inv words b is = let e = c.words.epoch in let at = words.shows.each epoch tt in (
     confirm,
+    refl,
     (x, ap (λ (q : Caller). q.guard) (sym is) ∙ entering),
     same_words key c (After confirm c j) ws (index key.layout epoch) refl refl words,
     (λ i. confirms (at i) (is i)) ∙ (λ i. record (caller_of c j) { epochs = sym (put_here c.epochs j (e ∷ c.epochs j)) i; guard = sym (put_here c.guard j (On e)) i }),
     told c ws inv words b is,
   )
 
-  pub leave_moves : p.cut ≡ None → p.debts.copy ≡ None → Moves key p (index key.layout (announced j)) (λ _. 0) (λ _. leaves) quiet
+  pub leave_moves : p.cut ≡ None → p.debts.copy ≡ None → Moves Leave key p (index key.layout (announced j)) (λ _. 0) (λ _. leaves) quiet
   leave_moves uncut none c ws inv words b is = (
     leave,
+    refl,
     (ap (λ (q : Caller). q.cut) (sym is) ∙ uncut, ap (λ (q : Caller). q.debts.copy) (sym is) ∙ none),
     record { start = words.start; shows = announced_set key.layout c.words ws j 0 (subst (λ (z : Start). j < z.layout.workers) words.start b) words.shows },
     ap leaves is ∙ (λ i. record (caller_of c j) { guard = sym (put_here c.guard j Off) i; position = sym (put_here c.position j nowhere) i }),
     tt,
   )
 
-  pub scan_moves : (k : ℕ) → k < key.layout.workers → Moves key p (index key.layout (announced k)) (λ n. n) (scans k) quiet
+  pub scan_moves : (k : ℕ) → k < key.layout.workers → Moves Scan key p (index key.layout (announced k)) (λ n. n) (scans k) quiet
   scan_moves k inside c ws inv words b is = let at = words.shows.each (announced k) inside in let t : Tick = record { loaded = (c.tick j).loaded; found = (k, c.words.announced k) ∷ (c.tick j).found } in (
     scan k,
+    refl,
     subst (λ (z : Start). k < z.layout.workers) (sym words.start) inside,
     same_words key c (After (scan k) c j) ws (index key.layout (announced k)) refl refl words,
     (λ i. scans k (at i) (is i)) ∙ (λ i. record (caller_of c j) { tick = sym (put_here c.tick j t) i }),
     tt,
   )
 
-  pub tick_moves : (x : ℕ) → x < 2 ^ 62 → p.tick.loaded ≡ x → p.guard ≡ Off → HasScanned key.layout.workers j p.tick → Moves key p (index key.layout epoch) (λ n. either (eqb n x) (x + 1) n) (ticks x) TellsEpoch
+  pub tick_moves : (x : ℕ) → x < 2 ^ 62 → p.tick.loaded ≡ x → p.guard ≡ Off → HasScanned key.layout.workers j p.tick → Moves TickKind key p (index key.layout epoch) (λ n. either (eqb n x) (x + 1) n) (ticks x) TellsEpoch
   tick_moves x limit loaded off all c ws inv words b is = let w = index key.layout epoch in let at = words.shows.each epoch tt in dite (ℕ_discrete (get_or ws w 0) x)
       (λ hit. let c' : Core = After (tick x) c j in let b' = eq-eqb (get_or ws w 0) x hit in (
         tick x,
+        refl,
         (
           sym at ∙ hit,
           limit,
@@ -105,6 +112,7 @@ module _ (key : Start) (p : Caller) where
       ))
       (λ miss. let c' : Core = After (tick_fails x) c j in let b' = ne_eqb (get_or ws w 0) x miss in let e = c.words.epoch in (
         tick_fails x,
+        refl,
         tt,
         subst (λ t. IsWords key c' (set ws w (either t (x + 1) (get_or ws w 0)))) (sym b') (same_words key c c' ws w refl refl words),
         (λ i. record (is i) { epochs = cond (b' i) (x + 1) (get_or ws w 0) ∷ (is i).epochs; tick = new_tick 0 }) ∙ (λ i. record (caller_of c j) { epochs = at i ∷ c.epochs j; tick = new_tick 0 })

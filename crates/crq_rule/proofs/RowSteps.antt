@@ -1,13 +1,14 @@
 -- What a step function asks of each kind on retired rows.
 use Rattle.std.proofs.Common.{◌≡◌, ℕ, ◌+◌, ◌*◌, ◌<◌, List, [], ◌∷◌, ◌++◌, length, set, None, sym, refl, ap, ◌∙◌, subst, arith}
 use Rattle.std.proofs.lemmas.List.{length-append}
+use Rattle.crq_base.specs.declared.kinds.StepKind.TheVariants.{Retire, Look, Claim}
 use Rattle.crq_rule.specs.declared.layout.Start.{Start}
 use Rattle.crq_rule.specs.declared.view.Caller.{Caller}
 use Rattle.crq_rule.specs.Lists.{put, In, without}
 use Rattle.crq_rule.specs.Places.{index, stamp, IsRow, IsHomeRow, Shows}
 use Rattle.crq_rule.specs.Core.{Core, caller_of}
 use Rattle.crq_rule.specs.Invariant.{Inv}
-use Rattle.crq_rule.specs.Kinds.{retires, looks, claims, retired_at, looked, claimed, seen_stamp, MayRetire, IsRipe}
+use Rattle.crq_rule.specs.Kinds.{retires, looks, claims, claimed, seen_stamp, MayRetire, IsRipe}
 use Rattle.crq_rule.specs.Rule.{Moves, quiet, TellsRoom, TellsLow, word_after}
 use Rattle.crq_rule.proofs.Puts.{put_here}
 use Rattle.crq_rule.proofs.Placing.{stamp_set}
@@ -20,29 +21,32 @@ module _ (key : Start) (p : Caller) where
   abbrev j : ℕ
   j = p.number
 
-  pub retire_moves : (r t : ℕ) → IsRow key.layout r → MayRetire p.cut r t → Moves key p (index key.layout (stamp r)) (λ _. word_after t) (λ _. retires) (λ _. TellsLow t 0)
+  pub retire_moves : (r t : ℕ) → IsRow key.layout r → MayRetire p.cut r t → Moves Retire key p (index key.layout (stamp r)) (λ _. word_after t) (λ _. retires) (λ _. TellsLow t 0)
   retire_moves r t row may c ws inv words b is = let may' : MayRetire (c.cut j) r t = subst (λ (q : Caller). MayRetire q.cut r t) is may in
       let low = inv.reading.tags j t may'.0 b may'.1 may'.3 in let top = inv.reading.limit in let word : t + 1 ≡ word_after t = omega arith in (
         retire r t,
+        refl,
         may',
         record { start = words.start; shows = subst (λ a. Shows key.layout (After (retire r t) c j).words (set ws (index key.layout (stamp r)) a)) word (stamp_set key.layout c.words ws r (t + 1) row words.shows) },
         ap retires is ∙ (λ i. record (caller_of c j) { cut = sym (put_here c.cut j None) i }),
         omega arith,
       )
 
-  pub look_moves : (r : ℕ) → IsRow key.layout r → IsHomeRow key.layout j r → Moves key p (index key.layout (stamp r)) (λ n. n) (looks r) quiet
+  pub look_moves : (r : ℕ) → IsRow key.layout r → IsHomeRow key.layout j r → Moves Look key p (index key.layout (stamp r)) (λ n. n) (looks r) quiet
   look_moves r row home c ws inv words b is = let at = words.shows.each (stamp r) row in let more : List (ℕ × ℕ) = seen_stamp r (c.words.stamp r) (c.ripening j) in (
     look r,
+    refl,
     subst (λ (z : Start). IsHomeRow z.layout j r) (sym words.start) home,
     same_words key c (After (look r) c j) ws (index key.layout (stamp r)) refl refl words,
     (λ i. looks r (at i) (is i)) ∙ (λ i. record (caller_of c j) { ripening = sym (put_here c.ripening j more) i }),
     tt,
   )
 
-  pub claim_moves : (r e : ℕ) → IsRow key.layout r → In e p.epochs → IsRipe p.ripening r e → Moves key p (index key.layout (stamp r)) (λ _. 0) (λ _. claims r) TellsRoom
+  pub claim_moves : (r e : ℕ) → IsRow key.layout r → In e p.epochs → IsRipe p.ripening r e → Moves Claim key p (index key.layout (stamp r)) (λ _. 0) (λ _. claims r) TellsRoom
   claim_moves r e row read ripe c ws inv words b is = let more : List ℕ = c.hand j ++ r ∷ [] in let less : List (ℕ × ℕ) = without r (c.ripening j) in
       let may : May (claim r e) c j = (subst (λ (q : Caller). In e q.epochs) is read, subst (λ (q : Caller). IsRipe q.ripening r e) is ripe) in (
         claim r e,
+        refl,
         may,
         record { start = words.start; shows = stamp_set key.layout c.words ws r 0 row words.shows },
         ap (claims r) is ∙ (λ i. record (caller_of c j) { hand = sym (put_here c.hand j more) i; ripening = sym (put_here c.ripening j less) i }),

@@ -3,6 +3,7 @@ use Rattle.std.specs.Prelude.{◌≡◌, ◌≢◌, ℕ, zero, suc, ◌+◌, ◌
 use mathlib.Core.Option.{some}
 use lib.ListN.{get_elem?}
 use Rattle.atomic_table.specs.Table.{State}
+use Rattle.crq_base.specs.declared.kinds.StepKind.{StepKind}
 use Rattle.crq_rule.specs.declared.layout.Start.{Start}
 use Rattle.crq_rule.specs.declared.view.Guard.TheVariants.{Off}
 use Rattle.crq_rule.specs.declared.view.Caller.{Caller}
@@ -12,7 +13,7 @@ use Rattle.crq_rule.specs.Places.{Shows}
 use Rattle.crq_rule.specs.Core.{Core, caller_of}
 use Rattle.crq_rule.specs.Invariant.{Inv}
 use Rattle.crq_rule.specs.Kinds.{nowhere, new_tick}
-use Rattle.crq_rule.specs.Steps.{Kind, May, After}
+use Rattle.crq_rule.specs.Steps.{Kind, May, After, kind_of}
 
 pub record IsWords (key : Start) (c : Core) (ws : List ℕ) : Type 0 where
   pub start : c.start ≡ key
@@ -70,10 +71,10 @@ fresh_from key j (suc n) = fresh key j ∷ fresh_from key (j + 1) n
 abbrev pub first_view : Start → View
 first_view key = record { parts = fresh_from key 0 key.layout.workers }
 
--- A step of the caller whose part is p, on the word w, which goes to g of what it was, and p to f of it. From each state that meets the invariant it is a step of some kind that may come there, and it tells this
-abbrev pub Moves : Start → Caller → ℕ → (ℕ → ℕ) → (ℕ → Caller → Caller) → (ℕ → Caller → Type 0) → Type 0
-Moves key p w g f tells = (c : Core) (ws : List ℕ) → Inv c → IsWords key c ws → p.number < c.start.layout.workers → p ≡ caller_of c p.number
-    → (k : Kind) × May k c p.number × IsWords key (After k c p.number) (slice_set ws w (g (slice_index ws w))) × (f (slice_index ws w) p ≡ caller_of (After k c p.number) p.number) × tells (slice_index ws w) p
+-- A step of the caller whose part is p, on the word w, which goes to g of what it was, and p to f of it. From each state that meets the invariant it is a step of the named kind that may come there, and it tells this
+abbrev pub Moves : StepKind → Start → Caller → ℕ → (ℕ → ℕ) → (ℕ → Caller → Caller) → (ℕ → Caller → Type 0) → Type 0
+Moves kind key p w g f tells = (c : Core) (ws : List ℕ) → Inv c → IsWords key c ws → p.number < c.start.layout.workers → p ≡ caller_of c p.number
+    → (k : Kind) × (kind_of k ≡ kind) × May k c p.number × IsWords key (After k c p.number) (slice_set ws w (g (slice_index ws w))) × (f (slice_index ws w) p ≡ caller_of (After k c p.number) p.number) × tells (slice_index ws w) p
 
 -- a kind that tells nothing
 abbrev pub quiet : ℕ → Caller → Type 0

@@ -1,5 +1,7 @@
 -- One step of any kind, on core states: when it may come, and what it leaves.
 use Rattle.std.specs.Prelude.{◌≡◌, ℕ, ◌<◌, ◌^◌, None}
+use Rattle.crq_base.specs.declared.kinds.StepKind.{StepKind}
+use Rattle.crq_base.specs.declared.kinds.StepKind.TheVariants.{Split, Join, EpochLoad, Enter, Confirm, Leave, Scan, Tick, Retire, Look, Claim}
 use Rattle.crq_rule.specs.declared.view.Guard.TheVariants.{Off}
 use Rattle.crq_rule.specs.Lists.{In}
 use Rattle.crq_rule.specs.Places.{IsHomeRow, Place, spare, epoch, announced, stamp}
@@ -65,6 +67,21 @@ place_of (tick_fails x) j = epoch
 place_of (retire r t) j = stamp r
 place_of (look r) j = stamp r
 place_of (claim r e) j = stamp r
+
+-- its name
+abbrev pub kind_of : Kind → StepKind
+kind_of split = Split
+kind_of join = Join
+kind_of epoch_load = EpochLoad
+kind_of (enter e) = Enter
+kind_of confirm = Confirm
+kind_of leave = Leave
+kind_of (scan k) = Scan
+kind_of (tick x) = Tick
+kind_of (tick_fails x) = Tick
+kind_of (retire r t) = Retire
+kind_of (look r) = Look
+kind_of (claim r e) = Claim
 
 -- the step of kind k of the caller j leads from c to c'
 pub record IsStep (k : Kind) (c : Core) (j : ℕ) (c' : Core) : Type 0 where

@@ -1,4 +1,5 @@
 use Rattle.std.proofs.Common.{sym, subst}
+use Rattle.crq_base.specs.declared.kinds.StepKind.TheVariants.{Claim}
 use Rattle.crq_rule.specs.Kinds.{claims}
 use Rattle.crq_rule.specs.Rule.{Moves, TellsRoom}
 use Rattle.crq_rule.proofs.RowSteps.{claim_moves}
@@ -7,4 +8,4 @@ use Rattle.crq_rows.proofs.steps.claim_step.Goals as goal
 
 pub store_seated-requires-clause-moves : goal.store_seated-requires-clause-moves
 store_seated-requires-clause-moves c = let table = c.args.table.now in let key = table.start in let p = caller table c.args.pass.now in let r = c.args.row in
-    subst (λ w. Moves key p w (λ _. 0) (λ _. claims r) (λ _. TellsRoom 0)) (sym c.stamp-word.ensures) (claim_moves key p r c.args.epoch c.requires.row c.requires.read c.requires.ripe)
+    subst (λ w. Moves Claim key p w (λ _. 0) (λ _. claims r) (λ _. TellsRoom 0)) (sym c.stamp-word.ensures) (claim_moves key p r c.args.epoch c.requires.row c.requires.read c.requires.ripe)

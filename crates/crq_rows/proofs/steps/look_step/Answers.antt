@@ -10,7 +10,7 @@ use Rattle.crq_rows.proofs.steps.look_step.Goals as goal
 
 pub load_as-word-requires-clause-moves : goal.load_as-word-requires-clause-moves
 load_as-word-requires-clause-moves c = let table = c.args.table.now in let key = table.start in let p = caller table c.args.pass.now in let r = c.args.row in
-    subst (λ w. Moves key p w (λ n. n) (looks r) quiet) (sym c.stamp.ensures) (look_moves key p r c.requires.row (subst (λ j. IsHomeRow key.layout j r) (sym c.requires.of.sits.numbered) c.requires.home))
+    subst (λ w. Moves Look key p w (λ n. n) (looks r) quiet) (sym c.stamp.ensures) (look_moves key p r c.requires.row (subst (λ j. IsHomeRow key.layout j r) (sym c.requires.of.sits.numbered) c.requires.home))
 
 pub returns-else-word-eq0 : goal.returns-else-word-eq0
 returns-else-word-eq0 c = let table = c.args.table.now in let r = c.args.row in let w = c.load_as-word.result in
