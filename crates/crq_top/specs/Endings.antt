@@ -1,7 +1,6 @@
 -- How a top call ends: the number of each status, and the line that each ending writes.
 use Rattle.std.specs.Prelude.{ℕ, List, [], ◌∷◌}
-use Rattle.crq_reader.specs.declared.fault.Fault.{Fault}
-use Rattle.crq_reader.specs.declared.fault.Fault.TheVariants as faults
+use Rattle.crq_reader.specs.Language.{fault_number}
 use Rattle.crq_top.specs.declared.ending.Status.{Status}
 use Rattle.crq_top.specs.declared.ending.Status.TheVariants as statuses
 use Rattle.crq_top.specs.declared.ending.Ending.{Ending}
@@ -30,22 +29,11 @@ status_of endings.Write = statuses.Write
 status_of endings.Long = statuses.Long
 status_of (endings.Events window) = statuses.Events
 
--- the number of a fault of the model language
-abbrev pub number_of : Fault → ℕ
-number_of faults.NotJson = 1
-number_of faults.Memory = 2
-number_of faults.Missing = 3
-number_of faults.WrongKind = 4
-number_of faults.Range = 5
-number_of faults.UnknownName = 6
-number_of faults.Lookahead = 7
-number_of faults.TooMany = 8
-
 -- the line that tells of an ending other than Ok
 abbrev pub line_of : Ending → List ℕ
 line_of endings.Ok = []
 line_of endings.Usage = fault_line (1 ∷ [])
-line_of (endings.Model fault) = fault_line (2 ∷ number_of fault.number ∷ fault.at ∷ [])
+line_of (endings.Model fault) = fault_line (2 ∷ fault_number fault.number ∷ fault.at ∷ [])
 line_of endings.Memory = []
 line_of endings.Read = fault_line (4 ∷ [])
 line_of endings.Write = []

@@ -10,7 +10,7 @@ use Rattle.crq_printer.specs.Texts.{trace_text_of}
 use Rattle.crq_reader.specs.declared.fault.Fault.TheVariants as faults
 use Rattle.crq_reader.specs.declared.fault.ModelFault.{ModelFault}
 use Rattle.crq_reader.specs.Canonical.{canonical}
-use Rattle.crq_reader.specs.Language.{language}
+use Rattle.crq_reader.specs.Language.{language, fault_number}
 use Rattle.crq_sim.specs.Generated.{generated}
 use Rattle.crq_sim.specs.Models.{ModelData}
 use Rattle.crq_sim.specs.Runs.{IsOverWithin, traces_within}
@@ -20,7 +20,7 @@ use Rattle.crq_top.specs.declared.ending.Ending.{Ending}
 use Rattle.crq_top.specs.declared.ending.Ending.TheVariants as endings
 use Rattle.crq_top.specs.declared.ending.Status.{Status}
 use Rattle.crq_top.specs.declared.ending.Status.TheVariants as statuses
-use Rattle.crq_top.specs.Endings.{line_of, number_of}
+use Rattle.crq_top.specs.Endings.{line_of}
 use Rattle.crq_top.specs.Lines.{check_line, fault_line}
 
 -- what the files tell of each name
@@ -173,7 +173,7 @@ abbrev pub Means : (Asked → Type 0) → Found → ℕ → ℕ → Option (List
 Means asks found before now old new faults_before faults_now statuses.Ok = Prints asks found old new
 Means asks found before now old new faults_before faults_now statuses.Usage = ((a : Asked) → asks a → ⊥) × Appends old new (fault_line (1 ∷ []))
 Means asks found before now old new faults_before faults_now statuses.Model =
-    (f : ModelFault) × Tells asks (λ a. IsFaultOf found a f) old new (fault_line (2 ∷ number_of f.number ∷ f.at ∷ []))
+    (f : ModelFault) × Tells asks (λ a. IsFaultOf found a f) old new (fault_line (2 ∷ fault_number f.number ∷ f.at ∷ []))
 Means asks found before now old new faults_before faults_now statuses.Memory = new ≡ old
 Means asks found before now old new faults_before faults_now statuses.Read = Tells asks (CannotRead found before now) old new (fault_line (4 ∷ []))
 Means asks found before now old new faults_before faults_now statuses.Write = IsCutShort asks found before now old new faults_before faults_now

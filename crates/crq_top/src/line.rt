@@ -1,11 +1,10 @@
 //! Fault lines, which take no memory.
 
 ghost use Rattle.std.specs.Prelude.{◌≡◌, ◌+◌, ◌<◌, ◌≤◌, ◌^◌, ◌∷◌, ◌++◌, [], length, decimal, codes};
-ghost use Rattle.crq_top.specs.Endings.{line_of, number_of};
+ghost use Rattle.crq_top.specs.Endings.{line_of};
 ghost use Rattle.crq_top.specs.Lines.{fault_line, numbers_after};
 
 use crate::ending::Ending;
-use crq_reader::Fault;
 use itoa::Buffer;
 use std::marker;
 
@@ -58,22 +57,6 @@ impl Line {
     }
 }
 
-/// The number of a fault of the model language.
-fn number_of(fault: Fault) -> u64
-    ensures { result ≡ number_of fault }
-{
-    match fault {
-        Fault::NotJson => 1,
-        Fault::Memory => 2,
-        Fault::Missing => 3,
-        Fault::WrongKind => 4,
-        Fault::Range => 5,
-        Fault::UnknownName => 6,
-        Fault::Lookahead => 7,
-        Fault::TooMany => 8,
-    }
-}
-
 /// The line of a fault with at most three numbers.
 fn fault_line(numbers: &[u64]) -> Line
     requires { length numbers.now ≤ 3 }
@@ -97,7 +80,11 @@ pub(crate) fn line_of(ending: &Ending) -> Line
     match ending {
         Ending::Ok | Ending::Memory | Ending::Write => Line::empty(),
         Ending::Usage => fault_line(&[1]),
-        Ending::Model(fault) => fault_line(&[2, number_of(fault.number), u64::from(fault.at)]),
+        Ending::Model(fault) => fault_line(&[
+            2,
+            u64::from(fault.number.number()),
+            u64::from(fault.at),
+        ]),
         Ending::Read => fault_line(&[4]),
         Ending::Long => fault_line(&[6]),
         Ending::Events(window) => fault_line(&[7, u64::from(*window)]),

@@ -4,11 +4,10 @@ ghost use Rattle.std.specs.Prelude.{◌≡◌, ℕ, ◌⊎◌, ◌<◌, ◌≤�
 ghost use Rattle.crq_io.specs.Faults.{Rose, NoFault};
 ghost use Rattle.crq_io.specs.Told.{Appends};
 ghost use Rattle.crq_top.specs.Commands.{Asked, AsksRun, AsksInspect, asked_of};
-ghost use Rattle.crq_reader.specs.Language.{language};
+ghost use Rattle.crq_reader.specs.Language.{language, fault_number};
 ghost use Rattle.crq_reader.specs.declared.fault.ModelFault.{ModelFault};
 ghost use Rattle.crq_sim.specs.Models.{ModelData};
 ghost use Rattle.crq_sim.specs.Runs.{IsOverWithin};
-ghost use Rattle.crq_top.specs.Endings.{number_of};
 ghost use Rattle.crq_top.specs.Lines.{fault_line};
 ghost use Rattle.crq_top.specs.Meanings.{EndsAs, Prints, Tells, IsCutShort, IsFaultOf, CannotRead, IsTooLong, HasMoreEvents, IsToldOf, IsCap};
 
@@ -56,7 +55,7 @@ pub fn run<F: Files, S: Sink, R: Threads + Sync>(
     ensures usage_exactly { ((a : Asked) → AsksRun (map string_bytes words.now) a → ⊥) → (result ≡ Status.Usage) ⊎ (result ≡ Status.Write) }
 
     // 2: exactly where the file's bytes are no model, with the first fault and its place.
-    ensures model { result ≡ Status.Model → (f : ModelFault) × Tells (AsksRun (map string_bytes words.now)) (λ a. IsFaultOf (F.found files.old) a f) (S.written out.old) (S.written out.new) (fault_line (2 ∷ number_of f.number ∷ f.at ∷ [])) }
+    ensures model { result ≡ Status.Model → (f : ModelFault) × Tells (AsksRun (map string_bytes words.now)) (λ a. IsFaultOf (F.found files.old) a f) (S.written out.old) (S.written out.new) (fault_line (2 ∷ fault_number f.number ∷ f.at ∷ [])) }
     ensures model_exactly { (a : Asked) (bytes : List ℕ) (f : ModelFault) → AsksRun (map string_bytes words.now) a → IsToldOf (F.found files.old) a bytes → length bytes ≤ 16777216
         → language bytes ≡ Err f → NoFault (F.faults files.old) (F.faults files.new) → (result ≡ Status.Model) ⊎ (result ≡ Status.Memory) ⊎ (result ≡ Status.Write) }
 
