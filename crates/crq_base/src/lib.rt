@@ -2,6 +2,7 @@
 //! table, the kinds of its steps, and the entries of a set's history.
 #![tactic(auto)]
 
+mod answers;
 mod entry;
 mod event;
 mod first;
@@ -10,6 +11,7 @@ mod kinds;
 mod legality;
 mod words;
 
+pub use answers::{Announce, PutEnd, Refusal, Route, Short, TakeEnd};
 pub use entry::Entry;
 pub use event::{Event, order_law};
 pub use first::First;
