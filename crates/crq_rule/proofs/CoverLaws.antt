@@ -17,31 +17,33 @@ use Rattle.crq_rule.proofs.PartLaws.{sort, of_whom, tagged_some}
 use Rattle.crq_rule.proofs.HolderLaws.{none_some}
 
 module _ (n : ℕ) (link : ℕ → Link) (twin : ℕ → ℕ) (guard : ℕ → Guard) (position : ℕ → Position) (debts : ℕ → Debts) (cut : ℕ → Option CutRow) (holding : ℕ → Holding) where
+  -- what is covered where a caller that stands nowhere changes its guard
+  pub covered_guard : (j : ℕ) (g : Guard) → (j < n → standing (position j) (debts j) ≡ []) → (k x r : ℕ) → Covers n link twin (put guard j g) position debts k x r → Covers n link twin guard position debts k x r
+  covered_guard j g none k x r v = dite (ℕ_discrete k j)
+      (λ (e : k ≡ j). absurd (subst (In v.at) (subst (λ z. standing (position z) (debts z) ≡ []) (sym e) (none (subst (λ z. z < n) e v.inside))) v.stands))
+      (λ ne. record { inside = v.inside; on = sym (put_else guard j g k ne) ∙ v.on; at = v.at; stands = v.stands; reaches = v.reaches })
+
   -- a caller that stands nowhere changes its guard
   pub cover_guard : (j : ℕ) (g : Guard) → (j < n → standing (position j) (debts j) ≡ []) → Cover n link twin guard position debts cut holding → Cover n link twin (put guard j g) position debts cut holding
   cover_guard j g none old = record {
-    free = λ k x r i v. old.free k x r i (before k x r v);
-    tags = λ k x r t v. old.tags k x r t (before k x r v);
+    free = λ k x r i v. old.free k x r i (covered_guard j g none k x r v);
+    tags = λ k x r t v. old.tags k x r t (covered_guard j g none k x r v);
     resting = λ k b. put_all guard j g (λ i h. i < n → (IsOn h → ⊥) → standing (position i) (debts i) ≡ []) (λ c _. none c) (λ i _. old.resting i) k b;
   }
-    where
-      before : (k x r : ℕ) → Covers n link twin (put guard j g) position debts k x r → Covers n link twin guard position debts k x r
-      before k x r v = dite (ℕ_discrete k j)
-          (λ (e : k ≡ j). absurd (subst (In v.at) (subst (λ z. standing (position z) (debts z) ≡ []) (sym e) (none (subst (λ z. z < n) e v.inside))) v.stands))
-          (λ ne. record { inside = v.inside; on = sym (put_else guard j g k ne) ∙ v.on; at = v.at; stands = v.stands; reaches = v.reaches })
+
+  -- what is covered where a caller comes to stand nowhere
+  pub covered_nowhere : (j : ℕ) → standing nowhere (debts j) ≡ [] → (k x r : ℕ) → Covers n link twin guard (put position j nowhere) debts k x r → Covers n link twin guard position debts k x r
+  covered_nowhere j none k x r v = dite (ℕ_discrete k j)
+      (λ (e : k ≡ j). absurd (subst (In v.at) none (subst (λ z. In v.at (standing z (debts j))) (put_here position j nowhere) (subst (λ z. In v.at (standing (put position j nowhere z) (debts z))) e v.stands))))
+      (λ ne. record { inside = v.inside; on = v.on; at = v.at; stands = subst (λ z. In v.at (standing z (debts k))) (put_else position j nowhere k ne) v.stands; reaches = v.reaches })
 
   -- a caller comes to stand nowhere
   pub cover_nowhere : (j : ℕ) → standing nowhere (debts j) ≡ [] → Cover n link twin guard position debts cut holding → Cover n link twin guard (put position j nowhere) debts cut holding
   cover_nowhere j none old = record {
-    free = λ k x r i v. old.free k x r i (before k x r v);
-    tags = λ k x r t v. old.tags k x r t (before k x r v);
+    free = λ k x r i v. old.free k x r i (covered_nowhere j none k x r v);
+    tags = λ k x r t v. old.tags k x r t (covered_nowhere j none k x r v);
     resting = λ k b. put_all position j nowhere (λ i p. i < n → (IsOn (guard i) → ⊥) → standing p (debts i) ≡ []) (λ _ _. none) (λ i _. old.resting i) k b;
   }
-    where
-      before : (k x r : ℕ) → Covers n link twin guard (put position j nowhere) debts k x r → Covers n link twin guard position debts k x r
-      before k x r v = dite (ℕ_discrete k j)
-          (λ (e : k ≡ j). absurd (subst (In v.at) none (subst (λ z. In v.at (standing z (debts j))) (put_here position j nowhere) (subst (λ z. In v.at (standing (put position j nowhere z) (debts z))) e v.stands))))
-          (λ ne. record { inside = v.inside; on = v.on; at = v.at; stands = subst (λ z. In v.at (standing z (debts k))) (put_else position j nowhere k ne) v.stands; reaches = v.reaches })
 
   -- the caller j loaded the epoch e, which no guard that is on found to be higher
   pub cover_tagged : (j e : ℕ) → ((k g : ℕ) → k < n → guard k ≡ On g → g ≤ e) → Cover n link twin guard position debts cut holding → Cover n link twin guard position debts (put cut j (tagged e (cut j))) holding

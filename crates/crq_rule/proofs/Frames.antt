@@ -5,22 +5,46 @@ use Rattle.crq_rule.specs.declared.view.Tick.{Tick}
 use Rattle.crq_rule.specs.declared.view.CutRow.{CutRow}
 use Rattle.crq_rule.specs.declared.view.Position.{Position}
 use Rattle.crq_rule.specs.declared.view.Made.{Made}
+use Rattle.crq_rule.specs.declared.view.Walk.{Walk}
 use Rattle.crq_rule.specs.Core.{Core, Holding}
 use Rattle.crq_rule.specs.Parts.{Reading, Guards, Holders, Cutting, Stamps, Cover}
+use Rattle.crq_rule.specs.ListParts.{Marks, Standing, Lanes, Writing, Naming}
+use Rattle.crq_rule.specs.HistoryParts.{Carriers, Walkers}
 use Rattle.crq_rule.specs.Invariant.{Inv}
 use Rattle.crq_rule.specs.Kinds.{after_made}
 
--- the epoch word, announcements, guards, ticks, epochs read, tags and positions
-pub frame_guards : (c : Core) (e : ℕ) (announced : ℕ → ℕ) (epochs : ℕ → List ℕ) (guard : ℕ → Guard) (tick : ℕ → Tick) (cut : ℕ → Option CutRow) (position : ℕ → Position) → Inv c
+-- the epoch word, announcements, guards, ticks, epochs read, tags, positions and walks
+pub frame_guards : (c : Core) (e : ℕ) (announced : ℕ → ℕ) (epochs : ℕ → List ℕ) (guard : ℕ → Guard) (tick : ℕ → Tick) (cut : ℕ → Option CutRow) (position : ℕ → Position) (walk : ℕ → Option Walk) → Inv c
     → Reading c.start.layout.workers e c.words.current c.words.control epochs tick cut c.found
     → Guards c.start.layout.workers e announced guard tick
     → Holders c.start.layout c.hand cut c.chain c.holding
     → Cutting c.start.layout.workers guard cut
     → Stamps c.start.layout e c.words.stamp c.ripening c.holding
     → Cover c.start.layout.workers c.words.link c.words.twin guard position c.debts cut c.holding
-    → Inv (record c { words = record c.words { epoch = e; announced = announced }; epochs = epochs; guard = guard; tick = tick; cut = cut; position = position })
-frame_guards c e announced epochs guard tick cut position inv reading guards holders cutting stamps cover =
-    record { spelled = inv.spelled; reading = reading; guards = guards; holders = holders; cutting = cutting; stamps = stamps; chains = inv.chains; cover = cover }
+    → Standing c.start.layout.workers c.words.link c.words.event position
+    → Lanes c.start.layout c.words.control c.words.link c.words.twin c.words.event guard position c.debts
+    → Walkers c.start.layout c.words.control c.history c.begun c.words.link c.words.twin c.words.event c.holding position walk
+    → Inv (record c { words = record c.words { epoch = e; announced = announced }; epochs = epochs; guard = guard; tick = tick; cut = cut; position = position; walk = walk })
+frame_guards c e announced epochs guard tick cut position walk inv reading guards holders cutting stamps cover standing lanes walkers = record {
+  spelled = inv.spelled;
+  reading = reading;
+  guards = guards;
+  holders = holders;
+  cutting = cutting;
+  stamps = stamps;
+  chains = inv.chains;
+  cover = cover;
+  heads = inv.heads;
+  sorted = inv.sorted;
+  marks = inv.marks;
+  standing = standing;
+  lanes = lanes;
+  writing = inv.writing;
+  naming = inv.naming;
+  carriers = inv.carriers;
+  told = inv.told;
+  walkers = walkers;
+}
 
 -- stamps, rows in hand, rows looked at, cut rows and holders
 pub frame_rows : (c : Core) (stamp : ℕ → ℕ) (hand : ℕ → List ℕ) (ripening : ℕ → List (ℕ × ℕ)) (cut : ℕ → Option CutRow) (holding : ℕ → Holding) → Inv c
@@ -29,9 +53,32 @@ pub frame_rows : (c : Core) (stamp : ℕ → ℕ) (hand : ℕ → List ℕ) (rip
     → Cutting c.start.layout.workers c.guard cut
     → Stamps c.start.layout c.words.epoch stamp ripening holding
     → Cover c.start.layout.workers c.words.link c.words.twin c.guard c.position c.debts cut holding
+    → Marks c.start.layout c.words.link c.words.twin holding
+    → Writing c.start.layout.workers c.words.link c.words.twin c.words.event hand c.written
+    → Naming c.start.layout c.words.control c.words.link c.words.event c.debts holding
+    → Carriers c.start.layout c.history c.words.link c.words.event holding
+    → Walkers c.start.layout c.words.control c.history c.begun c.words.link c.words.twin c.words.event holding c.position c.walk
     → Inv (record c { words = record c.words { stamp = stamp }; hand = hand; ripening = ripening; cut = cut; holding = holding })
-frame_rows c stamp hand ripening cut holding inv reading holders cutting stamps cover =
-    record { spelled = inv.spelled; reading = reading; guards = inv.guards; holders = holders; cutting = cutting; stamps = stamps; chains = inv.chains; cover = cover }
+frame_rows c stamp hand ripening cut holding inv reading holders cutting stamps cover marks writing naming carriers walkers = record {
+  spelled = inv.spelled;
+  reading = reading;
+  guards = inv.guards;
+  holders = holders;
+  cutting = cutting;
+  stamps = stamps;
+  chains = inv.chains;
+  cover = cover;
+  heads = inv.heads;
+  sorted = inv.sorted;
+  marks = marks;
+  standing = inv.standing;
+  lanes = inv.lanes;
+  writing = writing;
+  naming = naming;
+  carriers = carriers;
+  told = inv.told;
+  walkers = walkers;
+}
 
 -- the list of steps made, which no part reads
 pub frame_made : (c : Core) (j : ℕ) (m : Made) → Inv c → Inv (after_made c j m)
@@ -44,4 +91,14 @@ frame_made c j m inv = record {
   stamps = inv.stamps;
   chains = inv.chains;
   cover = inv.cover;
+  heads = inv.heads;
+  sorted = inv.sorted;
+  marks = inv.marks;
+  standing = inv.standing;
+  lanes = inv.lanes;
+  writing = inv.writing;
+  naming = inv.naming;
+  carriers = inv.carriers;
+  told = inv.told;
+  walkers = inv.walkers;
 }

@@ -12,12 +12,13 @@ use Rattle.crq_rule.specs.declared.view.Made.{Made}
 use Rattle.crq_rule.specs.declared.view.Caller.{Caller}
 use Rattle.crq_rule.specs.declared.view.View.{View}
 use Rattle.crq_rule.specs.Core.{Core, caller_of}
-use Rattle.crq_rule.specs.Kinds.{on_first, alters, makes, after_made}
-use Rattle.crq_rule.specs.Rule.{IsWords, Carries, Stands, Moves, joined, spent, first_of, rest_of, head_view, tail_view, IsFirstApart}
+use Rattle.crq_rule.specs.Kinds.{makes, after_made}
+use Rattle.crq_rule.specs.Rule.{IsWords, Carries, Stands, Moves, MovesBy, By, FirstTurns, joined, spent, first_of, rest_of, head_view, tail_view, IsFirstApart}
 use Rattle.crq_rule.proofs.Puts.{put_here, put_else}
 use Rattle.crq_rule.specs.Steps.{After}
 use Rattle.crq_rule.proofs.Frames.{frame_made}
 use Rattle.crq_rule.proofs.Keeps.{Kept, step_kept}
+use Rattle.crq_rule.proofs.Lawfuls.{lawful}
 
 abbrev St : Type 0
 St = State (Unit {0}) View
@@ -34,6 +35,12 @@ kept_made c c' j p m kept = let more : List Made = c'.made j ++ m ∷ [] in reco
   others = λ k ne. (λ i. record (caller_of c' k) { made = put_else c'.made j more k ne i }) ∙ kept.others k ne;
   inv = frame_made c' j m kept.inv;
 }
+
+pub moves_by : (kind : StepKind) (key : Start) (p : Caller) (w : ℕ) (g : ℕ → ℕ) (f : ℕ → Caller → Caller) (tells : ℕ → Caller → Type 0) → Moves kind key p w g f tells → MovesBy kind key p w g (By f tells)
+moves_by kind key p w g f tells moves c ws inv words b is = let t = moves c ws inv words b is in (t.0, t.1, t.2, t.3, (t.4, t.5))
+
+pub moves_flat : (kind : StepKind) (key : Start) (p : Caller) (w : ℕ) (g : ℕ → ℕ) (f : ℕ → Caller → Caller) (tells : ℕ → Caller → Type 0) → MovesBy kind key p w g (By f tells) → Moves kind key p w g f tells
+moves_flat kind key p w g f tells moves c ws inv words b is = let t = moves c ws inv words b is in (t.0, t.1, t.2, t.3, t.4.0, t.4.1)
 
 module _ (key : Start) where
   pub carried : (s : St) (h : Stands key s) (id : ℕ) (v : View) (p : Caller) → get_elem? s.views id ≡ some v → v.parts ≡ p ∷ [] → Carries h.core h.seat id p
@@ -68,19 +75,18 @@ module _ (key : Start) where
   }
 
   -- a step that is described by m, of the word found
-  pub allows : (kind : StepKind) (slots id : ℕ) (me : Me (Unit {0}) View) (p : Caller) (w : ℕ) (g : ℕ → ℕ) (m : ℕ → Made) (f : ℕ → Caller → Caller) (tells : ℕ → Caller → Type 0) → me.0.parts ≡ p ∷ []
-      → ((r : ℕ) → (f r p).number ≡ p.number) → Moves kind key p w g f tells
-      → Allows (Stands key) slots id me w g (λ r n. (n ≡ (alters (λ q. makes (m r) (f r q)) me.0, me.1)) × tells r p)
-  allows kind slots id me p w g m f tells is same moves s h _ at _ =
+  pub allows : (kind : StepKind) (slots id : ℕ) (me : Me (Unit {0}) View) (p : Caller) (w : ℕ) (g : ℕ → ℕ) (m : ℕ → Made) (R : ℕ → Caller → Caller → Type 0) → me.0.parts ≡ p ∷ [] → MovesBy kind key p w g R
+      → Allows (Stands key) slots id me w g (λ r n. FirstTurns (R r) (m r) me.0.parts n.0 × (n.1 ≡ me.1))
+  allows kind slots id me p w g m R is moves s h _ at _ =
       let r : ℕ = get_or s.words w 0 in let own = carried s h id me.0 p at is in
       let t = moves h.core s.words h.kept h.words own.inside own.is in
-      let p' : Caller = makes (m r) (f r p) in let c' : Core = After t.0 h.core p.number in
-      let kept = step_kept t.0 h.core p.number (f r p) own.inside t.2 h.kept t.4 in (
-        record me.0 { parts = p' ∷ [] },
+      let c' : Core = After t.0 h.core p.number in let q : Caller = caller_of c' p.number in
+      let kept = step_kept t.0 h.core p.number own.inside t.2 h.kept in (
+        record me.0 { parts = makes (m r) q ∷ [] },
         keeps,
         tt,
-        stands s h id me.0 p p' (after_made c' p.number (m r)) (set s.words w (g r)) at is (same r) (record { start = t.3.start; shows = t.3.shows }) (kept_made h.core c' p.number (f r p) (m r) kept),
-        (λ i. (record me.0 { parts = on_first (λ q. makes (m r) (f r q)) (sym is i) }, me.1), t.5),
+        stands s h id me.0 p (makes (m r) q) (after_made c' p.number (m r)) (set s.words w (g r)) at is refl (record { start = t.3.start; shows = t.3.shows }) (kept_made h.core c' p.number q (m r) kept),
+        (subst (λ ps. FirstTurns (R r) (m r) ps (record me.0 { parts = makes (m r) q ∷ [] })) (sym is) (q, t.4, refl, kept.start ∙ ap (λ (p : Caller). p.start) (sym own.is), lawful c' p.number (subst (λ (z : Start). p.number < z.layout.workers) (sym kept.start) own.inside) kept.inv, refl), refl),
       )
 
 -- Joining: the callers of the seat `from` move to `to`

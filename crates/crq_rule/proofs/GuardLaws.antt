@@ -15,6 +15,7 @@ use Rattle.crq_rule.proofs.Puts.{put_here, put_else}
 use Rattle.crq_rule.proofs.PartLaws.{read_epoch, read_tick, read_cut, read_risen, tagged_some, guard_set, tick_set, guards_risen, found_at, announced_low, cutting_guard, cutting_cut, stamps_risen}
 use Rattle.crq_rule.proofs.HolderLaws.{holders_tagged, none_some}
 use Rattle.crq_rule.proofs.CoverLaws.{cover_guard, cover_nowhere, cover_tagged}
+use Rattle.crq_rule.proofs.StandLaws.{lanes_guard, lanes_nowhere, standing_nowhere, walkers_none}
 use Rattle.crq_rule.proofs.Frames.{frame_guards}
 
 -- what the epoch says of a guard that is on
@@ -29,13 +30,14 @@ no_scan : (t : ℕ) (guard : ℕ → Guard) (i a : ℕ) → In {A = ℕ × ℕ} 
 no_scan t guard i a n l = absurd n
 
 pub load_keeps : (c : Core) (j : ℕ) → j < c.start.layout.workers → Inv c → Inv (epoch_loaded c j)
-load_keeps c j b inv = let e = c.words.epoch in let t = new_tick e in let o = tagged e (c.cut j) in frame_guards c _ _ _ _ _ _ _ inv
+load_keeps c j b inv = let e = c.words.epoch in let t = new_tick e in let o = tagged e (c.cut j) in frame_guards c _ _ _ _ _ _ _ _ inv
     (read_epoch _ _ _ _ _ _ _ _ j e (le_refl e) (read_tick _ _ _ _ _ _ _ _ j t (le_refl e) (λ k a n. absurd n) (read_cut _ _ _ _ _ _ _ _ j o low inv.reading)))
     (tick_set _ _ _ _ _ j t (λ i a _ n l. no_scan e c.guard i a n l) inv.guards)
     (holders_tagged _ _ _ _ _ j e inv.holders)
     (cutting_cut _ _ _ j o (λ x b' is. let y = tagged_some e (c.cut j) x is in inv.cutting.on j y.0 b' y.1) inv.cutting)
     inv.stamps
     (cover_tagged _ _ _ _ _ _ _ _ j e (λ k g b' is. (on_low c inv k g b' is).0) inv.cover)
+    inv.standing inv.lanes inv.walkers
   where
     low : (t : ℕ) (x : CutRow) → j < c.start.layout.workers → tagged c.words.epoch (c.cut j) ≡ Some x → In t x.tags → t ≤ c.words.epoch
     low t x b' is i = let y = tagged_some c.words.epoch (c.cut j) x is in ⊎_elim (λ (q : t ≡ c.words.epoch). omega arith) (inv.reading.tags j t y.0 b' y.1) (y.3 t i)
@@ -47,41 +49,51 @@ entering_not_on : (g : Guard) (x : ℕ) → g ≡ Entering x → IsOn g → ⊥
 entering_not_on g x is on = subst IsOn is on
 
 pub enter_keeps : (c : Core) (j e : ℕ) → j < c.start.layout.workers → c.guard j ≡ Off → In e (c.epochs j) → Inv c → Inv (entered c j e)
-enter_keeps c j e b off read inv = frame_guards c _ _ _ _ _ _ _ inv inv.reading
+enter_keeps c j e b off read inv = frame_guards c _ _ _ _ _ _ _ _ inv inv.reading
     (guard_set _ _ _ _ _ (put c.words.announced j (e + 1)) j (Entering e) (put_else _ _ _) (put_here _ _ _, inv.reading.read j e b read) (λ _ _. tt) inv.guards)
     inv.holders
     (cutting_guard _ _ _ j (Entering e) (λ x b' is. off_not_on (c.guard j) off (inv.cutting.on j x b' is)) inv.cutting)
     inv.stamps
     (cover_guard _ _ _ _ _ _ _ _ j (Entering e) (not_on c inv j (off_not_on (c.guard j) off)) inv.cover)
+    inv.standing
+    (lanes_guard _ _ _ _ _ _ _ _ j (Entering e) (not_on c inv j (off_not_on (c.guard j) off)) inv.lanes)
+    inv.walkers
 
 pub confirm_keeps : (c : Core) (j x : ℕ) → j < c.start.layout.workers → c.guard j ≡ Entering x → Inv c → Inv (confirmed c j)
 confirm_keeps c j x b is inv = let old : GuardIs c.words.epoch (c.words.announced j) (Entering x) = subst (GuardIs c.words.epoch (c.words.announced j)) is (inv.guards.each j b) in
-    let a = old.0 in let low = old.1 in let e = c.words.epoch in frame_guards c _ _ _ _ _ _ _ inv
+    let a = old.0 in let low = old.1 in let e = c.words.epoch in frame_guards c _ _ _ _ _ _ _ _ inv
     (read_epoch _ _ _ _ _ _ _ _ j e (le_refl e) inv.reading)
     (guard_set _ _ _ _ _ c.words.announced j (On e) (λ _ _. refl) (omega arith, omega arith, le_refl e, omega arith) inv.reading.loaded inv.guards)
     inv.holders
     (cutting_guard _ _ _ j (On e) (λ _ _ _. tt) inv.cutting)
     inv.stamps
     (cover_guard _ _ _ _ _ _ _ _ j (On e) (not_on c inv j (entering_not_on (c.guard j) x is)) inv.cover)
+    inv.standing
+    (lanes_guard _ _ _ _ _ _ _ _ j (On e) (not_on c inv j (entering_not_on (c.guard j) x is)) inv.lanes)
+    inv.walkers
 
 -- a caller that owes no copy may come to stand nowhere
 owes_none : (c : Core) (j : ℕ) → (c.debts j).copy ≡ None → standing nowhere (c.debts j) ≡ []
 owes_none c j none = ap rows_of_copy none
 
 pub leave_keeps : (c : Core) (j : ℕ) → j < c.start.layout.workers → c.cut j ≡ None → (c.debts j).copy ≡ None → Inv c → Inv (left c j)
-leave_keeps c j b uncut none inv = frame_guards c _ _ _ _ _ _ _ inv inv.reading
+leave_keeps c j b uncut none inv = frame_guards c _ _ _ _ _ _ _ _ inv inv.reading
     (guard_set _ _ _ _ _ (put c.words.announced j 0) j Off (put_else _ _ _) (put_here _ _ _) (λ _ _. tt) inv.guards)
     inv.holders
     (cutting_guard _ _ _ j Off (λ x _ is. absurd (none_some x (sym uncut ∙ is))) inv.cutting)
     inv.stamps
     (cover_guard _ _ _ _ (put c.position j nowhere) _ _ _ j Off (λ _. subst (λ p. standing p (c.debts j) ≡ []) (sym (put_here c.position j nowhere)) (owes_none c j none))
     (cover_nowhere _ _ _ _ _ _ _ _ j (owes_none c j none) inv.cover))
+    (standing_nowhere _ _ _ _ j inv.standing)
+    (lanes_guard _ _ _ _ _ _ (put c.position j nowhere) _ j Off (λ _. subst (λ p. standing p (c.debts j) ≡ []) (sym (put_here c.position j nowhere)) (owes_none c j none))
+    (lanes_nowhere _ _ _ _ _ _ _ _ j (owes_none c j none) inv.lanes))
+    (walkers_none _ _ _ _ _ _ _ _ _ _ j nowhere inv.walkers)
 
 pub scan_keeps : (c : Core) (j k : ℕ) → j < c.start.layout.workers → k < c.start.layout.workers → Inv c → Inv (scanned c j k)
-scan_keeps c j k b d inv = let t = c.tick j in let t' : Tick = record { loaded = t.loaded; found = (k, c.words.announced k) ∷ t.found } in frame_guards c _ _ _ _ _ _ _ inv
+scan_keeps c j k b d inv = let t = c.tick j in let t' : Tick = record { loaded = t.loaded; found = (k, c.words.announced k) ∷ t.found } in frame_guards c _ _ _ _ _ _ _ _ inv
     (read_tick _ _ _ _ _ _ _ _ j t' (inv.reading.loaded j b) low inv.reading)
     (tick_set _ _ _ _ _ j t' new inv.guards)
-    inv.holders inv.cutting inv.stamps inv.cover
+    inv.holders inv.cutting inv.stamps inv.cover inv.standing inv.lanes inv.walkers
   where
     low : (i a : ℕ) → In {A = ℕ × ℕ} (i, a) ((k, c.words.announced k) ∷ (c.tick j).found) → a ≤ c.words.epoch + 1
     low i a h = ⊎_elim (λ (is : (i, a) ≡ (k, c.words.announced k)). subst (λ (z : ℕ). z ≤ c.words.epoch + 1) (sym (ap (λ (z : ℕ × ℕ). z.1) is)) (announced_low c.words.epoch (c.words.announced k) (c.guard k) (inv.guards.each k d)))
@@ -95,12 +107,12 @@ scan_keeps c j k b d inv = let t = c.tick j in let t' : Tick = record { loaded =
 
 pub tick_keeps : (c : Core) (j x : ℕ) → j < c.start.layout.workers → c.words.epoch ≡ x → x < 2 ^ 62 → (c.tick j).loaded ≡ x → c.guard j ≡ Off → HasScanned c.start.layout.workers j (c.tick j) → Inv c → Inv (ticked c j x)
 tick_keeps c j x b now limit is off all inv = let n = c.start.layout.workers in let t = new_tick 0 in
-    let reading = subst (λ z. Reading n z c.words.current c.words.control c.epochs c.tick c.cut c.found) now inv.reading in frame_guards c _ _ _ _ _ _ _ inv
+    let reading = subst (λ z. Reading n z c.words.current c.words.control c.epochs c.tick c.cut c.found) now inv.reading in frame_guards c _ _ _ _ _ _ _ _ inv
     (read_epoch _ _ _ _ _ _ _ _ j (x + 1) (le_refl (x + 1)) (read_tick _ _ _ _ _ _ _ _ j t (omega arith) (λ k a h. absurd h) (read_risen _ _ _ _ _ _ _ _ (omega arith) reading)))
     (tick_set _ _ _ _ _ j t (λ i a _ h l. no_scan 0 c.guard i a h l) (guards_risen _ _ _ _ _ low (subst (λ z. Guards n z c.words.announced c.guard c.tick) now inv.guards)))
     inv.holders inv.cutting
     (stamps_risen _ _ _ _ _ (subst (λ z. Stamps c.start.layout z c.words.stamp c.ripening c.holding) now inv.stamps))
-    inv.cover
+    inv.cover inv.standing inv.lanes inv.walkers
   where
     low : (k : ℕ) → k < c.start.layout.workers → OnSince x (c.guard k)
     low k l = dite (ℕ_discrete k j) (λ e. subst (OnSince x) (sym (ap c.guard e ∙ off)) tt)
@@ -108,7 +120,7 @@ tick_keeps c j x b now limit is off all inv = let n = c.start.layout.workers in 
 
 -- the exchange found another epoch, and the caller knows it
 pub tick_fails_keeps : (c : Core) (j : ℕ) → j < c.start.layout.workers → Inv c → Inv (tick_failed c j)
-tick_fails_keeps c j b inv = let t = new_tick 0 in let e = c.words.epoch in frame_guards c _ _ _ _ _ _ _ inv
+tick_fails_keeps c j b inv = let t = new_tick 0 in let e = c.words.epoch in frame_guards c _ _ _ _ _ _ _ _ inv
     (read_epoch _ _ _ _ _ _ _ _ j e (le_refl e) (read_tick _ _ _ _ _ _ _ _ j t (omega arith) (λ k a h. absurd h) inv.reading))
     (tick_set _ _ _ _ _ j t (λ i a _ h l. no_scan 0 c.guard i a h l) inv.guards)
-    inv.holders inv.cutting inv.stamps inv.cover
+    inv.holders inv.cutting inv.stamps inv.cover inv.standing inv.lanes inv.walkers

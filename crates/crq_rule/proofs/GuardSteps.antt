@@ -79,7 +79,7 @@ module _ (key : Start) (p : Caller) where
     refl,
     (ap (λ (q : Caller). q.cut) (sym is) ∙ uncut, ap (λ (q : Caller). q.debts.copy) (sym is) ∙ none),
     record { start = words.start; shows = announced_set key.layout c.words ws j 0 (subst (λ (z : Start). j < z.layout.workers) words.start b) words.shows },
-    ap leaves is ∙ (λ i. record (caller_of c j) { guard = sym (put_here c.guard j Off) i; position = sym (put_here c.position j nowhere) i }),
+    ap leaves is ∙ (λ i. record (caller_of c j) { guard = sym (put_here c.guard j Off) i; position = sym (put_here c.position j nowhere) i; walk = sym (put_here c.walk j None) i }),
     tt,
   )
 

@@ -1,16 +1,32 @@
 -- Each step of each kind keeps the invariant, changes what its own caller knows alone, and one word at most.
-use Rattle.std.proofs.Common.{◌≡◌, ◌≢◌, ℕ, ◌+◌, ◌<◌, [], ◌∷◌, ◌++◌, None, refl, ap}
+use Rattle.std.proofs.Common.{◌≡◌, ◌≢◌, ℕ, ◌+◌, ◌*◌, ◌^◌, ◌<◌, Bool, [], ◌∷◌, ◌++◌, Option, None, Some, sym, refl, ap, append-nil}
+use Rattle.crq_base.specs.declared.event.Event.{Event}
+use Rattle.crq_base.specs.declared.entry.Entry.TheVariants.{Begin, Take, Miss}
+use Rattle.crq_base.specs.declared.words.Link.{Link}
+use Rattle.crq_base.specs.declared.words.Mark.TheVariants.{Del}
+use Rattle.crq_base.specs.Words.{link_word}
 use Rattle.crq_rule.specs.declared.view.Guard.TheVariants.{Off, Entering, On}
+use Rattle.crq_rule.specs.declared.debts.Debts.{Debts}
+use Rattle.crq_rule.specs.declared.view.Position.{Position}
+use Rattle.crq_rule.specs.declared.view.Walk.{Walk}
 use Rattle.crq_rule.specs.declared.view.Caller.{Caller}
-use Rattle.crq_rule.specs.Lists.{without}
-use Rattle.crq_rule.specs.Places.{Place, epoch, announced, stamp, word_of}
+use Rattle.crq_rule.specs.Lists.{put, without}
+use Rattle.crq_rule.specs.Places.{Words, Place, epoch, announced, head, link as link_place, stamp, twin, time, source, sequence, load, word_of}
 use Rattle.crq_rule.specs.Core.{Core, caller_of}
 use Rattle.crq_rule.specs.Invariant.{Inv}
 use Rattle.crq_rule.specs.Kinds.{tagged, new_tick, nowhere, seen_stamp}
-use Rattle.crq_rule.specs.Steps.{Kind, split, join, epoch_load, enter, confirm, leave, scan, tick, tick_fails, retire, look, claim, May, After, place_of}
-use Rattle.crq_rule.proofs.Puts.{put_else}
+use Rattle.crq_rule.specs.Ranks.{Cell, at_head, at_row, cell_place, link_at, heads_set, links_set}
+use Rattle.crq_rule.specs.ListKinds.{Content, new_link, no_twin, new_time, new_source, new_sequence, new_load, content_number, content_word, row_place, wrote, link_after, twin_after, event_after, put_entries, cut_debt, unhanded, forgotten, without_stand, unnamed, stands_after, walk_after, relieved}
+use Rattle.crq_rule.specs.Steps.{Kind, split, join, epoch_load, enter, confirm, leave, scan, tick, tick_fails, retire, look, claim, write, read, walk, link, link_fails, control_load, begin, mark, mark_fails, cut, cut_fails, miss, May, After, place_of, entries_of}
+use Rattle.crq_rule.proofs.Puts.{put_else, put_through}
 use Rattle.crq_rule.proofs.GuardLaws.{load_keeps, enter_keeps, confirm_keeps, leave_keeps, scan_keeps, tick_keeps, tick_fails_keeps}
 use Rattle.crq_rule.proofs.RowLaws.{retire_keeps, look_keeps, claim_keeps}
+use Rattle.crq_rule.proofs.WriteLaws.{write_keeps}
+use Rattle.crq_rule.proofs.WalkLaws.{walk_keeps}
+use Rattle.crq_rule.proofs.LinkLaws.{link_keeps}
+use Rattle.crq_rule.proofs.CutLaws.{cut_keeps}
+use Rattle.crq_rule.proofs.MarkLaws.{mark_keeps}
+use Rattle.crq_rule.proofs.CallLaws.{control_keeps, begin_keeps, miss_keeps}
 
 pub keeps : (k : Kind) (c : Core) (j : ℕ) → j < c.start.layout.workers → May k c j → Inv c → Inv (After k c j)
 keeps split c j b may inv = inv
@@ -25,6 +41,28 @@ keeps (tick_fails x) c j b may inv = tick_fails_keeps c j b inv
 keeps (retire r t) c j b may inv = retire_keeps c j r t b may inv
 keeps (look r) c j b may inv = look_keeps c j r b may inv
 keeps (claim r e) c j b may inv = claim_keeps c j r e b may.0 may.1 inv
+keeps (write r x) c j b may inv = write_keeps c j r x b may.0 may.1 inv
+keeps (read r p) c j b may inv = inv
+keeps (walk cell seeks) c j b may inv = walk_keeps c j cell seeks b may.0 may.1 may.2 inv
+keeps (link cell l r e) c j b may inv = link_keeps c j cell l r e b may.0 may.1 inv
+keeps (link_fails cell) c j b may inv = inv
+keeps control_load c j b may inv = control_keeps c j b inv
+keeps begin c j b may inv = begin_keeps c j b inv
+keeps (mark r e) c j b may inv = mark_keeps c j r e b may.0 may.1 inv
+keeps (mark_fails r) c j b may inv = inv
+keeps (cut cell x l) c j b may inv = cut_keeps c j cell x l b may.0 may.1.0 may.1.1 inv
+keeps (cut_fails cell) c j b may inv = inv
+keeps (miss limit) c j b may inv = miss_keeps c j limit b may inv
+
+-- what a walk changes
+abbrev new_position : Core → ℕ → Cell → Bool → Position
+new_position c j cell seeks = let l = link_at c.words.head c.words.link cell in record { rows = stands_after cell seeks l (c.words.event l.row) (c.position j).rows; old = (c.position j).old }
+
+abbrev new_walk : Core → ℕ → Cell → Bool → Option Walk
+new_walk c j cell seeks = walk_after cell seeks (link_at c.words.head c.words.link cell) (c.walk j)
+
+abbrev new_debts : Core → ℕ → Cell → Debts
+new_debts c j cell = let l = link_at c.words.head c.words.link cell in record (c.debts j) { cut = relieved (c.found j).control cell (c.position j).rows l (c.words.event l.row) (c.debts j).cut }
 
 -- what the other callers know stays
 pub others_stay : (k : Kind) (c : Core) (j i : ℕ) → i ≢ j → caller_of (After k c j) i ≡ caller_of c i
@@ -37,27 +75,143 @@ others_stay epoch_load c j i ne = λ x. record (caller_of c i) {
 }
 others_stay (enter e) c j i ne = λ x. record (caller_of c i) { guard = put_else c.guard j (Entering e) i ne x }
 others_stay confirm c j i ne = λ x. record (caller_of c i) { epochs = put_else c.epochs j (c.words.epoch ∷ c.epochs j) i ne x; guard = put_else c.guard j (On c.words.epoch) i ne x }
-others_stay leave c j i ne = λ x. record (caller_of c i) { guard = put_else c.guard j Off i ne x; position = put_else c.position j nowhere i ne x }
+others_stay leave c j i ne = λ x. record (caller_of c i) { guard = put_else c.guard j Off i ne x; position = put_else c.position j nowhere i ne x; walk = put_else c.walk j None i ne x }
 others_stay (scan k) c j i ne = λ x. record (caller_of c i) { tick = put_else c.tick j (record { loaded = (c.tick j).loaded; found = (k, c.words.announced k) ∷ (c.tick j).found }) i ne x }
 others_stay (tick z) c j i ne = λ x. record (caller_of c i) { epochs = put_else c.epochs j ((z + 1) ∷ c.epochs j) i ne x; tick = put_else c.tick j (new_tick 0) i ne x }
 others_stay (tick_fails z) c j i ne = λ x. record (caller_of c i) { epochs = put_else c.epochs j (c.words.epoch ∷ c.epochs j) i ne x; tick = put_else c.tick j (new_tick 0) i ne x }
 others_stay (retire r t) c j i ne = λ x. record (caller_of c i) { cut = put_else c.cut j None i ne x }
 others_stay (look r) c j i ne = λ x. record (caller_of c i) { ripening = put_else c.ripening j (seen_stamp r (c.words.stamp r) (c.ripening j)) i ne x }
 others_stay (claim r e) c j i ne = λ x. record (caller_of c i) { hand = put_else c.hand j (c.hand j ++ r ∷ []) i ne x; ripening = put_else c.ripening j (without r (c.ripening j)) i ne x }
+others_stay (write r x) c j i ne = λ y. record (caller_of c i) { written = put_else c.written j (wrote r (content_number x) (content_word x) (c.written j)) i ne y }
+others_stay (read r p) c j i ne = refl
+others_stay (walk cell seeks) c j i ne = λ x. record (caller_of c i) {
+  position = put_else c.position j (new_position c j cell seeks) i ne x;
+  walk = put_else c.walk j (new_walk c j cell seeks) i ne x;
+  debts = put_else c.debts j (new_debts c j cell) i ne x;
+}
+others_stay (link cell l r e) c j i ne = λ x. record (caller_of c i) {
+  own = put_else c.own j (c.own j ++ put_entries j e) i ne x;
+  hand = put_else c.hand j (unhanded r (c.hand j)) i ne x;
+  written = put_else c.written j (forgotten r (c.written j)) i ne x;
+}
+others_stay (link_fails cell) c j i ne = refl
+others_stay control_load c j i ne = λ x. record (caller_of c i) { found = put_else c.found j (record (c.found j) { control = Some c.words.control }) i ne x }
+others_stay begin c j i ne = λ x. record (caller_of c i) {
+  own = put_else c.own j (c.own j ++ Begin j ∷ []) i ne x;
+  walk = put_else c.walk j None i ne x;
+  found = put_else c.found j (record (c.found j) { control = Some c.words.control }) i ne x;
+}
+others_stay (mark r e) c j i ne = λ x. record (caller_of c i) {
+  own = put_else c.own j (c.own j ++ Take j e ∷ []) i ne x;
+  walk = put_else c.walk j None i ne x;
+  debts = put_else c.debts j (record (c.debts j) { cut = Some (cut_debt c.words.control r e) }) i ne x;
+}
+others_stay (mark_fails r) c j i ne = refl
+others_stay (cut cell y l) c j i ne = λ x. record (caller_of c i) {
+  cut = put_else c.cut j (Some (record { row = y; tags = [] })) i ne x;
+  walk = put_else c.walk j None i ne x;
+  position = put_else c.position j (record (c.position j) { rows = without_stand y (c.position j).rows }) i ne x;
+  debts = put_else c.debts j (record (c.debts j) { cut = unnamed y (c.debts j).cut }) i ne x;
+}
+others_stay (cut_fails cell) c j i ne = refl
+others_stay (miss limit) c j i ne = λ x. record (caller_of c i) {
+  own = put_else c.own j (c.own j ++ Miss j limit ∷ []) i ne x;
+  walk = put_else c.walk j None i ne x;
+  found = put_else c.found j (record (c.found j) { control = Some c.words.control }) i ne x;
+}
 
--- a step that changes no word but the one of its kind
+-- a link that is set at a cell stands at no other place
+cell_stays : (w : Words) (cell : Cell) (l : Link) (p : Place) → p ≢ cell_place cell → word_of (record w { head = heads_set w.head cell l; link = links_set w.link cell l }) p ≡ word_of w p
+cell_stays w (at_head q) l (head k) ne = ap link_word (put_else w.head q l k (λ e. ne (ap head e)))
+cell_stays w (at_head q) l p ne = refl
+cell_stays w (at_row r) l (link_place s) ne = ap link_word (put_else w.link r l s (λ e. ne (ap link_place e)))
+cell_stays w (at_row r) l p ne = refl
+
+-- what is written into a row stands at no other place
+content_stays : (w : Words) (r : ℕ) (x : Content) (p : Place) → p ≢ row_place r (content_number x)
+    → word_of (record w { link = put w.link r (link_after x (w.link r)); twin = put w.twin r (twin_after x (w.twin r)); event = put w.event r (event_after x (w.event r)) }) p ≡ word_of w p
+content_stays w r x (link_place s) ne = put_through link_word w.link r (link_after x (w.link r)) s (same x ne)
+  where
+    same : (x : Content) → link_place s ≢ row_place r (content_number x) → s ≡ r → link_word (link_after x (w.link r)) ≡ link_word (w.link r)
+    same (new_link l) ne e = absurd (ne (ap link_place e))
+    same no_twin ne e = refl
+    same (new_time t d) ne e = refl
+    same (new_source t) ne e = refl
+    same (new_sequence t) ne e = refl
+    same (new_load t) ne e = refl
+content_stays w r x (twin s) ne = put_through (λ t. t) w.twin r (twin_after x (w.twin r)) s (same x ne)
+  where
+    same : (x : Content) → twin s ≢ row_place r (content_number x) → s ≡ r → twin_after x (w.twin r) ≡ w.twin r
+    same no_twin ne e = absurd (ne (ap twin e))
+    same (new_link l) ne e = refl
+    same (new_time t d) ne e = refl
+    same (new_source t) ne e = refl
+    same (new_sequence t) ne e = refl
+    same (new_load t) ne e = refl
+content_stays w r x (time s) ne = put_through (λ (e : Event). e.time * 2 ^ 32 + e.dst) w.event r (event_after x (w.event r)) s (same x ne)
+  where
+    same : (x : Content) → time s ≢ row_place r (content_number x) → s ≡ r → (event_after x (w.event r)).time * 2 ^ 32 + (event_after x (w.event r)).dst ≡ (w.event r).time * 2 ^ 32 + (w.event r).dst
+    same (new_time t d) ne e = absurd (ne (ap time e))
+    same no_twin ne e = refl
+    same (new_link l) ne e = refl
+    same (new_source t) ne e = refl
+    same (new_sequence t) ne e = refl
+    same (new_load t) ne e = refl
+content_stays w r x (source s) ne = put_through (λ (e : Event). e.src) w.event r (event_after x (w.event r)) s (same x ne)
+  where
+    same : (x : Content) → source s ≢ row_place r (content_number x) → s ≡ r → (event_after x (w.event r)).src ≡ (w.event r).src
+    same (new_source t) ne e = absurd (ne (ap source e))
+    same no_twin ne e = refl
+    same (new_link l) ne e = refl
+    same (new_time t d) ne e = refl
+    same (new_sequence t) ne e = refl
+    same (new_load t) ne e = refl
+content_stays w r x (sequence s) ne = put_through (λ (e : Event). e.seq) w.event r (event_after x (w.event r)) s (same x ne)
+  where
+    same : (x : Content) → sequence s ≢ row_place r (content_number x) → s ≡ r → (event_after x (w.event r)).seq ≡ (w.event r).seq
+    same (new_sequence t) ne e = absurd (ne (ap sequence e))
+    same no_twin ne e = refl
+    same (new_link l) ne e = refl
+    same (new_time t d) ne e = refl
+    same (new_source t) ne e = refl
+    same (new_load t) ne e = refl
+content_stays w r x (load s) ne = put_through (λ (e : Event). e.load) w.event r (event_after x (w.event r)) s (same x ne)
+  where
+    same : (x : Content) → load s ≢ row_place r (content_number x) → s ≡ r → (event_after x (w.event r)).load ≡ (w.event r).load
+    same (new_load t) ne e = absurd (ne (ap load e))
+    same no_twin ne e = refl
+    same (new_link l) ne e = refl
+    same (new_time t d) ne e = refl
+    same (new_source t) ne e = refl
+    same (new_sequence t) ne e = refl
+content_stays w r x p ne = refl
+
+-- a step changes no word but the one of its kind
 pub words_stay : (k : Kind) (c : Core) (j : ℕ) (p : Place) → p ≢ place_of k j → word_of (After k c j).words p ≡ word_of c.words p
 words_stay (enter e) c j (announced i) ne = put_else c.words.announced j (e + 1) i (λ q. ne (ap announced q))
 words_stay leave c j (announced i) ne = put_else c.words.announced j 0 i (λ q. ne (ap announced q))
 words_stay (tick x) c j epoch ne = absurd (ne refl)
 words_stay (retire r t) c j (stamp s) ne = put_else c.words.stamp r (t + 1) s (λ q. ne (ap stamp q))
 words_stay (claim r e) c j (stamp s) ne = put_else c.words.stamp r 0 s (λ q. ne (ap stamp q))
+words_stay (write r x) c j p ne = content_stays c.words r x p ne
+words_stay (link cell l r e) c j p ne = cell_stays c.words cell (record l { row = r }) p ne
+words_stay (mark r e) c j (link_place s) ne = ap link_word (put_else c.words.link r (record (c.words.link r) { mark = Del }) s (λ q. ne (ap link_place q)))
+words_stay (cut cell x l) c j p ne = cell_stays c.words cell (record (link_at c.words.head c.words.link cell) { row = l.row }) p ne
 words_stay k c j p ne = refl
 
--- history and places
-pub rest_stays : (k : Kind) (c : Core) (j : ℕ) → ((After k c j).start ≡ c.start) × ((After k c j).history ≡ c.history) × ((After k c j).begun ≡ c.begun) × ((After k c j).read ≡ c.read)
-rest_stays epoch_load c j = (refl, refl, refl, refl)
-rest_stays k c j = (refl, refl, refl, refl)
+-- the history grows by the step's entries
+pub history_grows : (k : Kind) (c : Core) (j : ℕ) → (After k c j).history ≡ c.history ++ entries_of k j
+history_grows (link cell l r e) c j = refl
+history_grows begin c j = refl
+history_grows (mark r e) c j = refl
+history_grows (miss limit) c j = refl
+history_grows (enter e) c j = sym (append-nil c.history)
+history_grows epoch_load c j = sym (append-nil c.history)
+history_grows k c j = sym (append-nil c.history)
+
+pub rest_stays : (k : Kind) (c : Core) (j : ℕ) → ((After k c j).start ≡ c.start) × ((After k c j).deal ≡ c.deal)
+rest_stays epoch_load c j = (refl, refl)
+rest_stays k c j = (refl, refl)
 
 -- the step of caller j takes c to c', and its part to p'
 pub record Kept (c c' : Core) (j : ℕ) (p' : Caller) : Type 0 where
@@ -66,5 +220,5 @@ pub record Kept (c c' : Core) (j : ℕ) (p' : Caller) : Type 0 where
   pub others : (k : ℕ) → k ≢ j → caller_of c' k ≡ caller_of c k
   pub inv : Inv c'
 
-pub step_kept : (k : Kind) (c : Core) (j : ℕ) (p : Caller) → j < c.start.layout.workers → May k c j → Inv c → p ≡ caller_of (After k c j) j → Kept c (After k c j) j p
-step_kept k c j p b may inv mine = record { start = (rest_stays k c j).0; mine = mine; others = others_stay k c j; inv = keeps k c j b may inv }
+pub step_kept : (k : Kind) (c : Core) (j : ℕ) → j < c.start.layout.workers → May k c j → Inv c → Kept c (After k c j) j (caller_of (After k c j) j)
+step_kept k c j b may inv = record { start = (rest_stays k c j).0; mine = refl; others = others_stay k c j; inv = keeps k c j b may inv }

@@ -20,7 +20,6 @@ use Rattle.crq_rule.specs.declared.layout.Start.{Start}
 use Rattle.crq_rule.specs.declared.pass.Rest.{Rest}
 use Rattle.crq_rule.specs.declared.pass.Seating.{Seating}
 use Rattle.crq_rule.specs.declared.pass.Seating.TheVariants.{Resting}
-use Rattle.crq_rule.specs.declared.view.Guard.TheVariants.{Off, On}
 use Rattle.crq_rule.specs.declared.view.Caller.{Caller}
 use Rattle.crq_rule.specs.declared.view.View.{View}
 use Rattle.crq_rule.specs.Lists.{In, IsOnce}
@@ -34,6 +33,7 @@ use Rattle.crq_rule.specs.Opening.{opening_words, opening_head, first_head_of, o
 use Rattle.crq_rule.proofs.Placing.{shows_set, within, epoch_set, control_set, current_set}
 use Rattle.crq_rule.proofs.PartLaws.{one_home, sort, of_whom}
 use Rattle.crq_rule.proofs.HolderLaws.{none_some}
+use Rattle.crq_rule.proofs.ListOpening.{off_on, opening_heads, opening_sorted, opening_marks, opening_standing, opening_lanes, opening_writing, opening_naming, opening_carriers, opening_told, opening_walkers}
 
 -- Words
 
@@ -125,9 +125,6 @@ opening_holders s = let l = s.layout in record {
   of_cut = λ j r _ is. absurd (let z : 0 ≡ 2 = ap sort is in omega arith);
 }
 
-off_on : (g : ℕ) → Off ≡ On g → ⊥
-off_on g e = cc
-
 pub none_current : (x : Current) → None ≡ Some x → ⊥
 none_current x e = cc
 
@@ -135,7 +132,7 @@ pub none_control : (x : Control) → None ≡ Some x → ⊥
 none_control x e = cc
 
 pub opening_link : (g q : ℕ) → g < 2 ^ 30 → IsLink (opening_head g q)
-opening_link g q b = either_way (leb (first_head_of g) q && ltb q (first_head_of g + 8))
+opening_link g q b = either_way (leb (first_head_of g) q && ltb q (first_head_of g + 1))
   where
     either_way : (t : Bool) → IsLink (cond t (open_head g) shut_head)
     either_way true = record { generation = b; row = omega arith }
@@ -166,8 +163,18 @@ opening_inv s first = let top = first.upto in let low = first.epoch in record {
   holders = opening_holders s;
   cutting = record { on = λ j x _ is. absurd (none_some x is) };
   stamps = record { shown = λ _ _. refl; tag = λ r t _ is. absurd (let z : 0 ≡ 3 = ap sort is in omega arith); ripe = λ j r t _ i. absurd i };
-  chains = record { leads = λ q _. heads_empty (leb (first_head_of s.first.generation) q && ltb q (first_head_of s.first.generation + 8)); twins = λ q r _ i. absurd i };
+  chains = record { leads = λ q _. heads_empty (leb (first_head_of s.first.generation) q && ltb q (first_head_of s.first.generation + 1)); twins = λ q r _ i. absurd i };
   cover = record { free = λ k g r j v _. off_on g v.on; tags = λ k g r t v _. absurd (off_on g v.on); resting = λ _ _ _. refl };
+  heads = opening_heads s first;
+  sorted = opening_sorted s first;
+  marks = opening_marks s first;
+  standing = opening_standing s first;
+  lanes = opening_lanes s first;
+  writing = opening_writing s first;
+  naming = opening_naming s first;
+  carriers = opening_carriers s first;
+  told = opening_told s first;
+  walkers = opening_walkers s first;
 }
   where
     heads_empty : (t : Bool) → (cond t (open_head s.first.generation) shut_head).row ≡ 0

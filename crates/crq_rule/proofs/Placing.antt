@@ -11,7 +11,7 @@ use Rattle.crq_rule.specs.Places.{Words, Place, spare, epoch, announced, control
 use Rattle.crq_rule.specs.Widths.{width}
 use Rattle.crq_rule.proofs.Puts.{put_here, put_else}
 
-one_place : (l : Layout) (p q : Place) → IsPlace l p → IsPlace l q → index l p ≡ index l q → p ≡ q
+pub one_place : (l : Layout) (p q : Place) → IsPlace l p → IsPlace l q → index l p ≡ index l q → p ≡ q
 one_place l spare spare v w e = refl
 one_place l epoch epoch v w e = refl
 one_place l (announced j) (announced k) v w e = ap announced (omega arith)

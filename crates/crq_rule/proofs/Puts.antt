@@ -2,7 +2,9 @@
 use Rattle.std.proofs.Common.{◌≡◌, ◌≢◌, ◌⊎◌, ⊎_elim, inl, inr, ℕ, List, [], ◌∷◌, ◌++◌, cond, sym, refl, ap, ◌∙◌, eq-eqb, ne_eqb, subst}
 use mathlib.Core.Logic.{dite}
 use native.Mathlib.Decide.{ℕ_discrete}
+use Rattle.crq_rule.specs.declared.view.Stand.{Stand}
 use Rattle.crq_rule.specs.Lists.{put, In, IsOnce, without}
+use Rattle.crq_rule.specs.Parts.{rows_of}
 
 module _ {A : Type 0} where
   pub put_here : (f : ℕ → A) (i : ℕ) (a : A) → put f i a i ≡ a
@@ -18,6 +20,12 @@ module _ {A : Type 0} where
   put_all f i a P new old j = dite (ℕ_discrete j i)
       (λ e. subst (λ k. P k (put f i a k)) (sym e) (subst (P i) (sym (put_here f i a)) new))
       (λ ne. subst (P j) (sym (put_else f i a j ne)) (old j ne))
+
+  -- what is the same of the new value as of the old one stays
+  pub put_through : {B : Type 0} (h : A → B) (f : ℕ → A) (i : ℕ) (a : A) (j : ℕ) → (j ≡ i → h a ≡ h (f i)) → h (put f i a j) ≡ h (f j)
+  put_through h f i a j same = dite (ℕ_discrete j i)
+      (λ e. ap h (ap (put f i a) e ∙ put_here f i a) ∙ (same e ∙ ap (λ k. h (f k)) (sym e)))
+      (λ ne. ap h (put_else f i a j ne))
 
   pub in_snoc : (xs : List A) (a b : A) → In b (xs ++ a ∷ []) → In b xs ⊎ (b ≡ a)
   in_snoc [] a b h = ⊎_elim inr (λ n. absurd n) h
@@ -38,3 +46,8 @@ in_without r (y ∷ ys) x h = dite (ℕ_discrete y.0 r)
     (λ e. let t = in_without r ys x (subst (λ b. In x (cond b (without r ys) (y ∷ without r ys))) (eq-eqb y.0 r e) h) in (inr t.0, t.1))
     (λ ne. ⊎_elim (λ (e : x ≡ y). (inl e, λ z. ne (sym (ap (λ (p : ℕ × ℕ). p.0) e) ∙ z))) (λ i. let t = in_without r ys x i in (inr t.0, t.1))
     (subst (λ b. In x (cond b (without r ys) (y ∷ without r ys))) (ne_eqb y.0 r ne) h))
+
+-- the row of a stand is among the rows on which a caller stands
+pub stand_in : (ss : List Stand) (more : List ℕ) (s : Stand) → In s ss → In s.row (rows_of ss ++ more)
+stand_in [] more s i = absurd i
+stand_in (t ∷ ss) more s i = ⊎_elim (λ (e : s ≡ t). inl (ap (λ (s : Stand). s.row) e)) (λ i. inr (stand_in ss more s i)) i

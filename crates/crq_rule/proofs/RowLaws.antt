@@ -1,14 +1,16 @@
 -- Each kind of step on retired rows keeps the invariant. A row that may be claimed is covered by no guard.
-use Rattle.std.proofs.Common.{◌≡◌, inl, inr, ℕ, ◌<◌, None, sym, ap, ◌∙◌, subst, arith}
+use Rattle.std.proofs.Common.{◌≡◌, ◌≢◌, inl, inr, ℕ, ◌<◌, None, sym, ap, ◌∙◌, subst, arith}
 use Rattle.crq_rule.specs.Lists.{In}
 use Rattle.crq_rule.specs.Places.{IsHomeRow}
-use Rattle.crq_rule.specs.Core.{Core, cut_by}
+use Rattle.crq_rule.specs.Core.{Core, in_hand, cut_by, retired}
+use Rattle.crq_rule.specs.ListParts.{MarkFits, TwinFits}
 use Rattle.crq_rule.specs.Parts.{Covers}
 use Rattle.crq_rule.specs.Invariant.{Inv}
 use Rattle.crq_rule.specs.Kinds.{retired_at, looked, claimed, MayRetire, IsRipe}
 use Rattle.crq_rule.proofs.PartLaws.{read_cut, cutting_cut, stamps_look, stamps_retire, stamps_claim, sort}
 use Rattle.crq_rule.proofs.HolderLaws.{none_some, holders_retire, holders_claim}
 use Rattle.crq_rule.proofs.CoverLaws.{cover_retire, cover_claim, uncovered}
+use Rattle.crq_rule.proofs.StandLaws.{marks_held, writing_more, naming_held, carriers_held, walkers_held}
 use Rattle.crq_rule.proofs.Frames.{frame_rows}
 use Rattle.crq_rule.proofs.GuardLaws.{on_low}
 
@@ -20,9 +22,17 @@ retire_keeps c j r t b may inv = let x = may.0 in let at = inv.holders.is_cut j 
     (cutting_cut _ _ _ j None (λ y _ is. absurd (none_some y is)) inv.cutting)
     (stamps_retire _ _ _ _ _ r t (λ e. let z : 2 ≡ 3 = sym (ap sort held) ∙ e in absurd (omega arith)) (inv.reading.tags j t x b may.1 may.3) inv.stamps)
     (cover_retire _ _ _ _ _ _ _ _ j r t (inr (j, x, b, may.1, may.2, may.3)) inv.cover)
+    (marks_held _ _ _ r (retired t) _ (λ row. (subst (λ h. MarkFits h (c.words.link r).mark) held (inv.marks.mark r row), subst (λ h. TwinFits h (c.words.twin r)) held (inv.marks.twin_is r row))) inv.marks)
+    inv.writing
+    (naming_held _ _ _ r (retired t) _ _ _ (λ z. omega arith) inv.naming)
+    (carriers_held _ _ _ r (retired t) _ _ (other held) (λ z. omega arith) inv.carriers)
+    (walkers_held _ _ _ r (retired t) _ _ _ _ _ _ _ (other held) (λ z. omega arith) inv.walkers)
+  where
+    other : c.holding r ≡ cut_by j → sort (c.holding r) ≢ 1
+    other held z = let e : ◌≡◌ {A = ℕ} 2 1 = sym (ap sort held) ∙ z in absurd (omega arith)
 
 pub look_keeps : (c : Core) (j r : ℕ) → j < c.start.layout.workers → IsHomeRow c.start.layout j r → Inv c → Inv (looked c j r)
-look_keeps c j r b home inv = frame_rows c _ _ _ _ _ inv inv.reading inv.holders inv.cutting (stamps_look _ _ _ _ _ j r b home inv.stamps) inv.cover
+look_keeps c j r b home inv = frame_rows c _ _ _ _ _ inv inv.reading inv.holders inv.cutting (stamps_look _ _ _ _ _ j r b home inv.stamps) inv.cover inv.marks inv.writing inv.naming inv.carriers inv.walkers
 
 -- A row that a caller may claim is covered by no guard
 pub claimable_uncovered : (c : Core) (j r e : ℕ) → j < c.start.layout.workers → In e (c.epochs j) → IsRipe (c.ripening j) r e → Inv c
@@ -37,3 +47,11 @@ claim_keeps c j r e b read ripe inv = let at = inv.stamps.ripe j r ripe.0 b ripe
     inv.cutting
     (stamps_claim _ _ _ _ _ j r b at.0 inv.stamps)
     (cover_claim _ _ _ _ _ _ _ _ j r (claimable_uncovered c j r e b read ripe inv) inv.cover)
+    (marks_held _ _ _ r (in_hand j) _ (λ _. (tt, tt)) inv.marks)
+    (writing_more _ _ _ _ _ _ j r inv.writing)
+    (naming_held _ _ _ r (in_hand j) _ _ _ (λ z. omega arith) inv.naming)
+    (carriers_held _ _ _ r (in_hand j) _ _ (other at.1) (λ z. omega arith) inv.carriers)
+    (walkers_held _ _ _ r (in_hand j) _ _ _ _ _ _ _ (other at.1) (λ z. omega arith) inv.walkers)
+  where
+    other : {t : ℕ} → c.holding r ≡ retired t → sort (c.holding r) ≢ 1
+    other held z = let e : ◌≡◌ {A = ℕ} 3 1 = sym (ap sort held) ∙ z in absurd (omega arith)

@@ -2,6 +2,7 @@
 use Rattle.std.proofs.Common.{◌≡◌, ◌⊎◌, ⊎_elim, inl, inr, ℕ, zero, suc, ◌+◌, ◌^◌, ◌<◌, ◌≤◌, List, [], ◌∷◌, ◌++◌, sym, refl, ap, ◌∙◌, subst, arith}
 use mathlib.Core.Logic.{dite}
 use native.Mathlib.Decide.{ℕ_discrete}
+use Rattle.crq_base.specs.declared.words.Control.{Control}
 use Rattle.crq_rule.specs.declared.view.Guard.{Guard}
 use Rattle.crq_rule.specs.declared.view.Guard.TheVariants.{Off, Entering, On}
 use Rattle.crq_rule.specs.Lists.{In}
@@ -47,7 +48,7 @@ module _ (c : Core) (inv : Inv c) where
     ticks = inv.reading.loaded;
     tags = inv.reading.tags;
     currents = inv.reading.read_current;
-    generations = inv.reading.read_control;
+    generations = λ j x b is. (let e = ap (λ (z : Control). z.generation) (inv.reading.read_control j x b is) in omega arith);
   }
 
   -- 2. Holders

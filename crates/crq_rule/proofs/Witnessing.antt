@@ -1,9 +1,16 @@
--- The parts are no empty talk: a state with a listed row that a guard covers, a cut row that has a tag, and a retired row meets the invariant.
-use Rattle.std.proofs.Common.{◌≡◌, ◌≢◌, ⊎_elim, inl, inr, ℕ, ◌-◌, ◌*◌, ◌/◌, ◌<◌, ◌≤◌, List, [], ◌∷◌, Option, Some, None, sym, refl, ap, ◌∙◌, subst, arith}
+-- The parts are no empty talk: a state with a listed row that holds a pending event and that a guard covers, a cut row that has a tag, and a retired row meets the invariant.
+use Rattle.std.proofs.Common.{◌≡◌, ◌≢◌, ⊎_elim, inl, inr, ℕ, ◌-◌, ◌*◌, ◌/◌, ◌<◌, ◌≤◌, List, [], ◌∷◌, length, Option, Some, None, sym, refl, ap, ◌∙◌, subst, arith}
 use mathlib.Core.Logic.{dite}
 use native.Mathlib.Decide.{ℕ_discrete}
+use Rattle.crq_base.specs.declared.event.Event.{Event}
+use Rattle.crq_base.specs.declared.entry.Entry.{Entry}
+use Rattle.crq_base.specs.declared.entry.Entry.TheVariants.{Begin, Put, Settled}
+use Rattle.crq_base.specs.Entries.{caller_of as whose}
+use Rattle.crq_base.specs.Histories.{own as own_of, Began}
+use Rattle.crq_base.proofs.HistoryLaws.{own_other, last_one, not_nil}
+use Rattle.crq_base.proofs.Deeds.{alone}
 use Rattle.crq_base.specs.declared.words.Link.{Link}
-use Rattle.crq_base.specs.declared.words.Mark.TheVariants.{Val}
+use Rattle.crq_base.specs.declared.words.Mark.TheVariants.{Val, Del}
 use Rattle.crq_base.specs.Words.{IsLink}
 use Rattle.crq_base.specs.Starts.{IsFirst}
 use Rattle.crq_rule.specs.declared.layout.Layout.{Layout}
@@ -11,10 +18,14 @@ use Rattle.crq_rule.specs.declared.layout.Start.{Start}
 use Rattle.crq_rule.specs.declared.view.Guard.TheVariants.{On}
 use Rattle.crq_rule.specs.declared.view.CutRow.{CutRow}
 use Rattle.crq_rule.specs.declared.view.Position.{Position}
+use Rattle.crq_rule.specs.declared.view.Stand.{Stand}
 use Rattle.crq_rule.specs.Lists.{put, In, IsOnce}
 use Rattle.crq_rule.specs.Places.{IsRow, IsHomeRow, IsHead}
 use Rattle.crq_rule.specs.Core.{Core, Holding, in_hand, listed, cut_by, retired}
 use Rattle.crq_rule.specs.Parts.{Holders, Stamps, Leads, IsPath, standing, stamp_of}
+use Rattle.crq_rule.specs.Ranks.{rank, head_of, IsOpen, Rises}
+use Rattle.crq_rule.specs.ListParts.{Heads, Sorted, Marks, Standing, Lanes, Naming, IsOpenHead, IsShutHead, MarkFits, TwinFits, IsFinal, ranks}
+use Rattle.crq_rule.specs.HistoryParts.{Carriers, Told, EndsInBegin, owner_of}
 use Rattle.crq_rule.specs.Invariant.{Inv}
 use Rattle.crq_rule.specs.Kinds.{nowhere}
 use Rattle.crq_rule.specs.Rule.{rows_from}
@@ -23,6 +34,7 @@ use Rattle.crq_rule.specs.Stated.{Witness, IsCovered}
 use Rattle.crq_rule.proofs.Puts.{put_here, put_else, put_all}
 use Rattle.crq_rule.proofs.PartLaws.{sort, of_whom}
 use Rattle.crq_rule.proofs.HolderLaws.{none_some, some_some}
+use Rattle.crq_rule.proofs.ListOpening.{no_walk}
 use Rattle.crq_rule.proofs.Openings.{rows_in, in_rows, rows_once, opening_link, opening_inv}
 
 abbrev layout : Layout
@@ -47,8 +59,30 @@ head_link = record { generation = 1; row = 1; mark = Val }
 abbrev cut_row : CutRow
 cut_row = record { row = 2; tags = 0 ∷ [] }
 
+-- row 1 holds the event that was put, and all rows but this one are dead
+abbrev event : Event
+event = record { time = 0; src = 0; seq = 0; dst = 0; load = 0 }
+
+abbrev present : Link
+present = record { generation = 1; row = 0; mark = Val }
+
+abbrev dead : Link
+dead = record { generation = 1; row = 0; mark = Del }
+
+abbrev links : ℕ → Link
+links = put (λ _. dead) 1 present
+
+abbrev entries : List Entry
+entries = Put 0 event ∷ Settled 0 event ∷ []
+
+abbrev own : ℕ → List Entry
+own = put (λ _. []) 0 entries
+
+abbrev stand : Stand
+stand = record { row = 1; event = event; last = None }
+
 abbrev at_row : Position
-at_row = record { rows = 1 ∷ []; old = None }
+at_row = record { rows = stand ∷ []; old = None }
 
 abbrev at_home : ℕ → Holding
 at_home r = in_hand (home_of layout r)
@@ -73,7 +107,9 @@ cut = put (λ _. None) 1 (Some cut_row)
 
 abbrev pub core : Core
 core = record (opening_core start) {
-  words = record (opening_words start) { announced = λ _. 1; head = put (opening_head 1) q head_link; stamp = put (λ _. 0) 3 1 };
+  words = record (opening_words start) { announced = λ _. 1; head = put (opening_head 1) q head_link; link = links; stamp = put (λ _. 0) 3 1 };
+  history = entries;
+  own = own;
   chain = chain;
   holding = holding;
   hand = hand;
@@ -130,14 +166,113 @@ stamps = record {
 }
 
 -- no row of this state leads to another
+last : (r : ℕ) → (links r).row ≡ 0
+last = put_all (λ _. dead) 1 present (λ r l. l.row ≡ 0) refl (λ _ _. refl)
+
 reached : (a r : ℕ) (xs : List ℕ) → IsPath core.words.link core.words.twin a xs r → a ≡ r
 reached a r [] path = path
-reached a r (x ∷ xs) path = let above = path.0.0 in absurd (⊎_elim (λ (e : 0 ≡ x). omega arith) (λ (e : 0 ≡ x). omega arith) path.0.1)
+reached a r (x ∷ xs) path = let above = path.0.0 in let none = last a in absurd (⊎_elim (λ (e : (links a).row ≡ x). omega arith) (λ (e : 0 ≡ x). omega arith) path.0.1)
 
 -- the one row that is covered
 covered_one : (k g r : ℕ) → IsCovered core k g r → r ≡ 1
 covered_one k g r v = put_all (λ _. nowhere) 0 at_row (λ k p. In v.at (standing p (core.debts k)) → r ≡ 1)
     (λ i. ⊎_elim (λ (e : v.at ≡ 1). sym (reached v.at r v.reaches.through v.reaches.path) ∙ e) (λ n. absurd n) i) (λ _ _ n. absurd n) k v.stands
+
+-- and the one that is listed
+listed_only : (r p : ℕ) → holding r ≡ listed p → r ≡ 1
+listed_only r p = each_row (λ r h. h ≡ listed p → r ≡ 1) (λ _. refl) (λ e. absurd (let z : ◌≡◌ {A = ℕ} 2 1 = ap sort e in omega arith)) (λ e. absurd (let z : ◌≡◌ {A = ℕ} 3 1 = ap sort e in omega arith))
+    (λ r _ _ _ e. absurd (let z : ◌≡◌ {A = ℕ} 0 1 = ap sort e in omega arith)) r
+
+present_one : links 1 ≡ present
+present_one = put_here (λ _. dead) 1 present
+
+dead_else : (r : ℕ) → r ≢ 1 → (links r).mark ≡ Del
+dead_else r ne = ap (λ (l : Link). l.mark) (put_else (λ _. dead) 1 present r ne)
+
+marks : Marks layout links core.words.twin holding
+marks = record {
+  mark = each_row (λ r h. IsRow layout r → MarkFits h (links r).mark) (λ _. inl (ap (λ (l : Link). l.mark) present_one)) (λ _. dead_else 2 (λ e. omega arith)) (λ _. dead_else 3 (λ e. omega arith)) (λ _ _ _ _ _. tt);
+  twin_is = each_row (λ r h. IsRow layout r → TwinFits h 0) (λ _. refl) (λ _. refl) (λ _. refl) (λ _ _ _ _ _. tt);
+}
+
+next_head : Heads core.words.control core.words.head
+next_head = record {
+  steady = refl;
+  one = refl;
+  opened = put_all (opening_head 1) q head_link (λ p l. IsHead p → IsOpen core.words.control p → IsOpenHead core.words.control l) (λ _ _. (refl, refl)) (λ p _. old.heads.opened p);
+  shut = put_all (opening_head 1) q head_link (λ p l. IsHead p → (IsOpen core.words.control p → ⊥) → IsShutHead core.words.control l) (λ _ out. absurd (out (omega arith, omega arith))) (λ p _. old.heads.shut p);
+}
+
+sorted : Sorted core.words.control core.words.head links core.words.event chain
+unfolding rank head_of
+sorted = record {
+  rises = put_all (λ _. []) q (1 ∷ []) (λ p xs. IsHead p → Rises (ranks core.words.event) 0 xs) (λ _. (omega arith, tt)) (λ _ _ _. tt);
+  belongs = λ p r. put_all (λ _. []) q (1 ∷ []) (λ p xs. IsHead p → In r xs → head_of core.words.control event ≡ p) (λ _ _. omega arith) (λ _ _ _ n. absurd n) p;
+  generation = λ p r. put_all (λ _. []) q (1 ∷ []) (λ p xs. IsHead p → In r xs → (links r).generation ≡ (core.words.head p).generation)
+      (λ _ i. ⊎_elim (λ (e : r ≡ 1). ap (λ z. (links z).generation) e ∙ (ap (λ (l : Link). l.generation) present_one ∙ sym (ap (λ (l : Link). l.generation) (put_here (opening_head 1) q head_link)))) (λ n. absurd n) i)
+      (λ _ _ _ n. absurd n) p;
+}
+
+stands : Standing 2 links core.words.event core.position
+stands = record {
+  holds = λ k s. put_all (λ _. nowhere) 0 at_row (λ k p. k < 2 → In s p.rows → event ≡ s.event) (λ _ i. ⊎_elim (λ (e : s ≡ stand). sym (ap (λ (z : Stand). z.event) e)) (λ n. absurd n) i) (λ _ _ _ n. absurd n) k;
+  last = λ k s l. put_all (λ _. nowhere) 0 at_row (λ k p. k < 2 → In s p.rows → s.last ≡ Some l → (links s.row ≡ l) × IsFinal l.mark)
+      (λ _ i e. ⊎_elim (λ (z : s ≡ stand). absurd (no_last l (sym (ap (λ (z : Stand). z.last) z) ∙ e))) (λ n. absurd n) i) (λ _ _ _ n. absurd n) k;
+}
+  where
+    no_last : (l : Link) → None ≡ Some l → ⊥
+    no_last l e = cc
+
+lanes : Lanes layout core.words.control links core.words.twin core.words.event core.guard core.position core.debts
+lanes = record {
+  is_row = λ k g r v. subst (IsRow layout) (sym (covered_one k g r v)) (omega arith, omega arith);
+  rises = λ k g r v above. let none = last r in absurd (omega arith);
+  stays = λ k g r v above. let none = last r in absurd (omega arith);
+  generation = λ k g r v above. let none = last r in absurd (omega arith);
+}
+
+naming : Naming layout core.words.control links core.words.event core.debts holding
+naming = record {
+  named = λ r p _ at dead. absurd (val_del (sym (ap (λ (l : Link). l.mark) present_one) ∙ (ap (λ z. (links z).mark) (sym (listed_only r p at)) ∙ dead)));
+  place = λ k d b at. old.naming.place k d b at;
+}
+  where
+    val_del : Val ≡ Del → ⊥
+    val_del e = cc
+
+carriers : Carriers layout entries links core.words.event holding
+carriers = record {
+  carried = λ e p. (1, ((omega arith, omega arith), (q, is_one), ap (λ (l : Link). l.mark) present_one), same e (alone (Some event) e p.put));
+  pending = λ r live. record { put = (0, omega arith, refl); kept = λ t. let low = t.1 in omega arith };
+  one = λ r t live live' _. listed_only r live.1.0 live.1.1 ∙ sym (listed_only t live'.1.0 live'.1.1);
+}
+  where
+    same : (e : Event) → Some event ≡ Some e → event ≡ e
+    same e z = cc
+
+told : Told 2 entries core.deal own core.begun
+told = record {
+  legal = (λ t. let low = t.1 in omega arith, (((0, omega arith, refl), λ t. let low = t.1 in omega arith), tt));
+  spans = omega arith;
+  since = entries;
+  extends = refl;
+  each = put_all (λ _. []) 0 entries (λ j es. j < 2 → own_of j entries ≡ es) (λ _. refl) (λ j ne _. own_other j (Put 0 event ∷ []) (Settled 0 event) (λ e. ne (sym e)) ∙ own_other j [] (Put 0 event) (λ e. ne (sym e)));
+  inside = λ e i. ⊎_elim (λ (z : e ≡ Put 0 event). subst (λ x. whose x < 2) (sym z) (omega arith)) (λ t. ⊎_elim (λ (z : e ≡ Settled 0 event). subst (λ x. whose x < 2) (sym z) (omega arith)) (λ n. absurd n) t) i;
+  sourced = λ j e i. ⊎_elim (λ z. by_put j e z) (λ t. ⊎_elim (λ z. absurd (put_settled j e z)) (λ n. absurd n) t) i;
+  settled = λ _ i. i;
+  begun_low = λ _ _. omega arith;
+  began = λ j. put_all (λ _. []) 0 entries (λ j es. j < 2 → EndsInBegin es → (front : List Entry) × (length front ≡ 0) × Began j entries front)
+      (λ _ e. absurd (settled_begin e.1 (last_one (Put 0 event ∷ []) e.0 (Settled 0 event) (Begin e.1) e.2))) (λ _ _ _ e. absurd (not_nil e.0 [] (Begin e.1) (sym e.2))) j;
+}
+  where
+    by_put : (j : ℕ) (e : Event) → Put j e ≡ Put 0 event → owner_of 2 1 e.src ≡ j
+    by_put j e z = let a : j ≡ 0 = cc in let d : e ≡ event = cc in ap (λ (x : Event). owner_of 2 1 x.src) d ∙ sym a
+
+    put_settled : (j : ℕ) (e : Event) → Put j e ≡ Settled 0 event → ⊥
+    put_settled j e z = cc
+
+    settled_begin : (j : ℕ) → Settled 0 event ≡ Begin j → ⊥
+    settled_begin j z = cc
 
 on_on : (g : ℕ) → On 0 ≡ On g → 0 ≡ g
 on_on g e = cc
@@ -149,7 +284,7 @@ core_inv = record {
     is_current = old.spelled.is_current;
     is_pin = old.spelled.is_pin;
     heads = put_all (opening_head 1) q head_link (λ p l. IsHead p → IsLink l) (λ _. record { generation = omega arith; row = omega arith }) (λ p _ _. opening_link 1 p (omega arith));
-    links = old.spelled.links;
+    links = put_all (λ _. dead) 1 present (λ r l. IsRow layout r → IsLink l) (λ _. record { generation = omega arith; row = omega arith }) (λ _ _ _. record { generation = omega arith; row = omega arith });
     twins = old.spelled.twins;
     events = old.spelled.events;
   };
@@ -170,7 +305,7 @@ core_inv = record {
   chains = record {
     leads = λ p b. dite (ℕ_discrete p q)
         (λ (e : p ≡ q). subst (λ z. Leads core.words.link (core.words.head z).row (chain z)) (sym e)
-        (subst (λ (z : Link). Leads core.words.link z.row (chain q)) (sym (put_here (opening_head 1) q head_link)) (subst (Leads core.words.link 1) (sym (put_here (λ _. []) q (1 ∷ []))) (refl, refl))))
+        (subst (λ (z : Link). Leads core.words.link z.row (chain q)) (sym (put_here (opening_head 1) q head_link)) (subst (Leads core.words.link 1) (sym (put_here (λ _. []) q (1 ∷ []))) (refl, last 1))))
         (λ ne. subst (λ (z : Link). Leads core.words.link z.row (chain p)) (sym (put_else (opening_head 1) q head_link p ne)) (subst (Leads core.words.link (opening_head 1 p).row) (sym (put_else (λ _. []) q (1 ∷ []) p ne)) (old.chains.leads p b)));
     twins = λ _ _ _ _. inl refl;
   };
@@ -179,6 +314,16 @@ core_inv = record {
     tags = λ k g r t v _. let z = on_on g v.on in omega arith;
     resting = λ k _ off. absurd (off tt);
   };
+  heads = next_head;
+  sorted = sorted;
+  marks = marks;
+  standing = stands;
+  lanes = lanes;
+  writing = record { placed = λ _ _ _ i. absurd i; in_hand_is = λ _ _ _ i. absurd i; stands = λ _ _ _ i. absurd i };
+  naming = naming;
+  carriers = carriers;
+  told = told;
+  walkers = record { opened = old.walkers.opened; at_stand = λ k w b at. absurd (no_walk w at); left = λ k w _ _ _ _ at _ _ _ _ _. absurd (no_walk w at) };
 }
 
 pub witness : Witness core

@@ -11,7 +11,8 @@ use Rattle.crq_rule.specs.declared.view.CutRow.{CutRow}
 use Rattle.crq_rule.specs.declared.view.Deal.{Deal}
 use Rattle.crq_rule.specs.declared.view.Position.{Position}
 use Rattle.crq_rule.specs.declared.view.Found.{Found}
-use Rattle.crq_rule.specs.declared.view.Linking.{Linking}
+use Rattle.crq_rule.specs.declared.view.Wrote.{Wrote}
+use Rattle.crq_rule.specs.declared.view.Walk.{Walk}
 use Rattle.crq_rule.specs.declared.view.Help.{Help}
 use Rattle.crq_rule.specs.declared.view.Told.{Told}
 use Rattle.crq_rule.specs.declared.view.Made.{Made}
@@ -50,7 +51,8 @@ pub record Core : Type 0 where
   pub permit : ℕ → Bool
   pub position : ℕ → Position
   pub found : ℕ → Found
-  pub linking : ℕ → Option Linking
+  pub written : ℕ → List Wrote
+  pub walk : ℕ → Option Walk
   pub help : ℕ → Option Help
   pub clean : ℕ → List ℕ
   pub refused : ℕ → List Event
@@ -74,7 +76,8 @@ caller_of c j = record {
   permit = c.permit j;
   position = c.position j;
   found = c.found j;
-  linking = c.linking j;
+  written = c.written j;
+  walk = c.walk j;
   help = c.help j;
   clean = c.clean j;
   refused = c.refused j;

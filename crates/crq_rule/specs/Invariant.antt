@@ -1,6 +1,8 @@
 -- The invariant that every step keeps.
 use Rattle.crq_rule.specs.Core.{Core}
 use Rattle.crq_rule.specs.Parts.{Spelled, Reading, Guards, Holders, Cutting, Stamps, Chains, Cover}
+use Rattle.crq_rule.specs.ListParts.{Heads, Sorted, Marks, Standing, Lanes, Writing, Naming}
+use Rattle.crq_rule.specs.HistoryParts.{Carriers, Told, Walkers}
 
 pub record Inv (c : Core) : Type 0 where
   pub spelled : Spelled c.start.layout c.words.control c.words.current c.words.pin c.words.head c.words.link c.words.twin c.words.event
@@ -11,3 +13,13 @@ pub record Inv (c : Core) : Type 0 where
   pub stamps : Stamps c.start.layout c.words.epoch c.words.stamp c.ripening c.holding
   pub chains : Chains c.words.head c.words.link c.words.twin c.chain
   pub cover : Cover c.start.layout.workers c.words.link c.words.twin c.guard c.position c.debts c.cut c.holding
+  pub heads : Heads c.words.control c.words.head
+  pub sorted : Sorted c.words.control c.words.head c.words.link c.words.event c.chain
+  pub marks : Marks c.start.layout c.words.link c.words.twin c.holding
+  pub standing : Standing c.start.layout.workers c.words.link c.words.event c.position
+  pub lanes : Lanes c.start.layout c.words.control c.words.link c.words.twin c.words.event c.guard c.position c.debts
+  pub writing : Writing c.start.layout.workers c.words.link c.words.twin c.words.event c.hand c.written
+  pub naming : Naming c.start.layout c.words.control c.words.link c.words.event c.debts c.holding
+  pub carriers : Carriers c.start.layout c.history c.words.link c.words.event c.holding
+  pub told : Told c.start.layout.workers c.history c.deal c.own c.begun
+  pub walkers : Walkers c.start.layout c.words.control c.history c.begun c.words.link c.words.twin c.words.event c.holding c.position c.walk

@@ -3,10 +3,15 @@ pub mod Lists
 pub mod Places
 pub mod Core
 pub mod Parts
+pub mod Ranks
+pub mod ListParts
+pub mod HistoryParts
 pub mod Invariant
 pub mod Kinds
+pub mod ListKinds
 pub mod Steps
 pub mod Rule
+pub mod Deals
 pub mod Opening
 pub mod Stated
 pub mod Owing

@@ -26,15 +26,15 @@ open_head g = record { generation = g; row = 0; mark = Val }
 abbrev pub shut_head : Link
 shut_head = record { generation = 0; row = 0; mark = Mov }
 
--- the head q of a table that was opened in generation g, with 8 buckets
+-- the head q of a table that was opened in generation g, with one list
 abbrev pub opening_head : ℕ → ℕ → Link
-opening_head g q = cond (nat_le (first_head_of g) q && nat_lt q (first_head_of g + 8)) (open_head g) shut_head
+opening_head g q = cond (nat_le (first_head_of g) q && nat_lt q (first_head_of g + 1)) (open_head g) shut_head
 
 abbrev pub opening_words : Start → Words
 opening_words s = record {
   epoch = s.first.guard;
   announced = λ _. 0;
-  control = record { generation = s.first.generation; moving = false; log = 3; shift = 0; new_log = 0; new_shift = 0 };
+  control = record { generation = s.first.generation; moving = false; log = 0; shift = 0; new_log = 0; new_shift = 0 };
   current = record { epoch = s.first.epoch; tick = 0 };
   pin = record { generation = 0; epoch = 0 };
   head = opening_head s.first.generation;
@@ -74,7 +74,8 @@ opening_core s = record {
   permit = λ j. (fresh s j).permit;
   position = λ j. (fresh s j).position;
   found = λ j. (fresh s j).found;
-  linking = λ j. (fresh s j).linking;
+  written = λ j. (fresh s j).written;
+  walk = λ j. (fresh s j).walk;
   help = λ j. (fresh s j).help;
   clean = λ j. (fresh s j).clean;
   refused = λ j. (fresh s j).refused;

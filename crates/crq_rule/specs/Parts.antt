@@ -15,6 +15,7 @@ use Rattle.crq_rule.specs.declared.view.Tick.{Tick}
 use Rattle.crq_rule.specs.declared.view.CutRow.{CutRow}
 use Rattle.crq_rule.specs.declared.view.Position.{Position}
 use Rattle.crq_rule.specs.declared.view.Found.{Found}
+use Rattle.crq_rule.specs.declared.view.Stand.{Stand}
 use Rattle.crq_rule.specs.Lists.{In, IsOnce}
 use Rattle.crq_rule.specs.Places.{IsRow, IsHomeRow, IsHead}
 use Rattle.crq_rule.specs.Core.{Holding, in_hand, listed, cut_by, retired}
@@ -50,7 +51,8 @@ pub record Reading (n epoch : ℕ) (current : Current) (control : Control) (epoc
   pub scanned : (j k a : ℕ) → j < n → In (k, a) (tick j).found → a ≤ epoch + 1
   pub tags : (j t : ℕ) (x : CutRow) → j < n → cut j ≡ Some x → In t x.tags → t ≤ epoch
   pub read_current : (j : ℕ) (x : Current) → j < n → (found j).current ≡ Some x → NotAfter x current
-  pub read_control : (j : ℕ) (x : Control) → j < n → (found j).control ≡ Some x → x.generation ≤ control.generation
+  -- no step changes the control word yet
+  pub read_control : (j : ℕ) (x : Control) → j < n → (found j).control ≡ Some x → x ≡ control
 
 -- 3. Guards
 
@@ -139,9 +141,13 @@ abbrev pub rows_of_old : Option ℕ → List ℕ
 rows_of_old None = []
 rows_of_old (Some r) = r ∷ []
 
+abbrev pub rows_of : List Stand → List ℕ
+rows_of [] = []
+rows_of (s ∷ ss) = s.row ∷ rows_of ss
+
 -- the rows that a caller stands on: of a list, the frozen row whose copy isn't linked yet, and both rows of a copy that it owes
 abbrev pub standing : Position → Debts → List ℕ
-standing p d = p.rows ++ (rows_of_old p.old ++ rows_of_copy d.copy)
+standing p d = rows_of p.rows ++ (rows_of_old p.old ++ rows_of_copy d.copy)
 
 -- the guard of caller k, which is on and found g, covers the row r
 pub record Covers (n : ℕ) (link : ℕ → Link) (twin : ℕ → ℕ) (guard : ℕ → Guard) (position : ℕ → Position) (debts : ℕ → Debts) (k g r : ℕ) : Type 0 where

@@ -1,17 +1,31 @@
 -- What the invariant says in the end, part by part, in the words of the field. The parts that are kept are stronger, and imply each of these.
-use Rattle.std.specs.Prelude.{◌≡◌, ◌⊎◌, ◌↔◌, ℕ, ◌+◌, ◌^◌, ◌<◌, ◌≤◌, Some}
+use Rattle.std.specs.Prelude.{◌≡◌, ◌⊎◌, ◌↔◌, ℕ, ◌+◌, ◌^◌, ◌<◌, ◌≤◌, List, [], ◌∷◌, ◌++◌, Some, Contains}
+use Rattle.std.specs.declared.cmp.Ordering.TheVariants.{Equal}
+use Rattle.crq_base.specs.declared.event.Event.{Event}
+use Rattle.crq_base.specs.declared.entry.Entry.{Entry}
+use Rattle.crq_base.specs.declared.entry.Entry.TheVariants.{Put}
+use Rattle.crq_base.specs.Entries.{caller_of as whose}
+use Rattle.crq_base.specs.Keys.{key_cmp}
+use Rattle.crq_base.specs.Histories.{puts, settleds, outs, own as own_of, IsEarlier, IsPending, Began, IsLegal}
 use Rattle.crq_base.specs.declared.words.Link.{Link}
+use Rattle.crq_base.specs.declared.words.Mark.TheVariants.{Val, Del}
 use Rattle.crq_base.specs.declared.words.Control.{Control}
 use Rattle.crq_base.specs.declared.words.Current.{Current}
 use Rattle.crq_base.specs.declared.words.Pin.{Pin}
 use Rattle.crq_base.specs.Words.{IsLink, IsControl, IsCurrent, IsPin, IsStampWord, link_word, control_word, current_word, pin_word}
+use Rattle.crq_rule.specs.declared.debts.CutDebt.{CutDebt}
+use Rattle.crq_rule.specs.declared.debts.Debts.{Debts}
 use Rattle.crq_rule.specs.declared.layout.Layout.{Layout}
 use Rattle.crq_rule.specs.declared.view.Guard.TheVariants.{Off, Entering, On}
 use Rattle.crq_rule.specs.declared.view.CutRow.{CutRow}
+use Rattle.crq_rule.specs.declared.view.Walk.{Walk}
 use Rattle.crq_rule.specs.Lists.{In, IsOnce}
 use Rattle.crq_rule.specs.Places.{Place, spare, epoch, announced, control, current, pin, head, link, stamp, twin, time, source, sequence, load, IsPlace, IsRow, IsHomeRow, IsHead, word_of}
 use Rattle.crq_rule.specs.Core.{Core, Holding, in_hand, listed, cut_by, retired}
-use Rattle.crq_rule.specs.Parts.{NotAfter, IsOn, LetsRise, Leads, Names, Covers, HasTag}
+use Rattle.crq_rule.specs.Parts.{NotAfter, IsOn, LetsRise, Leads, Names, Reaches, Covers, HasTag}
+use Rattle.crq_rule.specs.Ranks.{head_of, IsOpen}
+use Rattle.crq_rule.specs.ListParts.{IsOpenHead, IsShutHead}
+use Rattle.crq_rule.specs.HistoryParts.{IsLive, EndsInBegin, owner_of}
 
 -- 1. Words
 
@@ -89,6 +103,94 @@ pub record CoverHolds (c : Core) : Type 0 where
   pub listed : (q r s j : ℕ) → IsHead q → In r (c.chain q) → Names c.words.link c.words.twin r s → c.holding s ≡ in_hand j → ⊥
   pub covered : (k g r s j : ℕ) → IsCovered c k g r → Names c.words.link c.words.twin r s → c.holding s ≡ in_hand j → ⊥
   pub tags : (k g r t : ℕ) → IsCovered c k g r → HasTag c.start.layout.workers c.cut c.holding r t → g ≤ t
+
+-- 5. Lists
+
+-- the row r with the event e comes before the row s with the event f: by the order of keys, and by row where the keys are the same
+abbrev pub Precedes : Event → ℕ → Event → ℕ → Type 0
+Precedes e r f s = IsEarlier e f ⊎ ((key_cmp e f ≡ Equal) × (r < s))
+
+-- each row comes before the next one
+abbrev pub Ascends : (ℕ → Event) → List ℕ → Type 0
+Ascends event [] = Unit {0}
+Ascends event (r ∷ []) = Unit {0}
+Ascends event (r ∷ s ∷ rs) = Precedes (event r) r (event s) s × Ascends event (s ∷ rs)
+
+-- From the head q links lead through these rows to row 0. They are the rows that its list holds, they ascend, are of the head's generation, and hold events of this list
+pub record IsListOf (c : Core) (q : ℕ) (rows : List ℕ) : Type 0 where
+  pub leads : Leads c.words.link (c.words.head q).row rows
+  pub holds : (r : ℕ) → In r rows ↔ (IsRow c.start.layout r × (c.holding r ≡ listed q))
+  pub ascends : Ascends c.words.event rows
+  pub generation : (r : ℕ) → In r rows → (c.words.link r).generation ≡ (c.words.head q).generation
+  pub belongs : (r : ℕ) → In r rows → head_of c.words.control (c.words.event r) ≡ q
+
+-- the row a leads on to the row b: to a later one, with an event of the same list, and of the link's generation
+pub record LeadsOn (c : Core) (a b : ℕ) : Type 0 where
+  pub precedes : Precedes (c.words.event a) a (c.words.event b) b
+  pub same_list : head_of c.words.control (c.words.event b) ≡ head_of c.words.control (c.words.event a)
+  pub generation : (c.words.link b).generation ≡ (c.words.link a).generation
+
+abbrev pub IsInHand : Core → ℕ → Type 0
+IsInHand c r = (j : ℕ) × (c.holding r ≡ in_hand j)
+
+-- the row r, which holds the event e, is still to be cut, by what is owed here
+abbrev pub OwesCut : Debts → ℕ → Event → Type 0
+OwesCut d r e = (x : CutDebt) × ((d.cut ≡ Some x) ⊎ (d.second_cut ≡ Some x)) × (x.row ≡ r) × (x.event ≡ e)
+
+-- The heads of the open table are open and of its generation, and have their lists; all others are shut and empty. Links of covered rows lead on as those of listed ones do. A listed row is VAL or DEL;
+-- a row that is VAL and not in hand is listed, and one that was cut or retired is DEL. No row that isn't in hand has a twin. Each listed row that is DEL is owed to be cut by a caller that names it by
+-- row and event; no caller names more than two, since `Debts` has two places for them
+pub record ListsHold (c : Core) : Type 0 where
+  pub opened : (q : ℕ) → IsHead q → IsOpen c.words.control q → IsOpenHead c.words.control (c.words.head q) × IsListOf c q (c.chain q)
+  pub shut : (q : ℕ) → IsHead q → (IsOpen c.words.control q → ⊥) → IsShutHead c.words.control (c.words.head q) × (c.chain q ≡ [])
+  pub covered : (k g r : ℕ) → IsCovered c k g r → IsRow c.start.layout r × (0 < (c.words.link r).row → LeadsOn c r (c.words.link r).row)
+  pub marked : (r q : ℕ) → IsRow c.start.layout r → c.holding r ≡ listed q → ((c.words.link r).mark ≡ Val) ⊎ ((c.words.link r).mark ≡ Del)
+  pub present : (r : ℕ) → IsRow c.start.layout r → (c.words.link r).mark ≡ Val → (IsInHand c r → ⊥) → (q : ℕ) × IsHead q × In r (c.chain q)
+  pub cut : (r j : ℕ) → IsRow c.start.layout r → c.holding r ≡ cut_by j → (c.words.link r).mark ≡ Del
+  pub retired : (r t : ℕ) → IsRow c.start.layout r → c.holding r ≡ retired t → (c.words.link r).mark ≡ Del
+  pub twins : (r : ℕ) → IsRow c.start.layout r → (IsInHand c r → ⊥) → c.words.twin r ≡ 0
+  pub named : (r q : ℕ) → IsRow c.start.layout r → c.holding r ≡ listed q → (c.words.link r).mark ≡ Del → (k : ℕ) × (k < c.start.layout.workers) × OwesCut (c.debts k) r (c.words.event r)
+
+-- 6. Carriers
+
+-- the row r is listed and VAL, and holds the event e
+abbrev pub StandsIn : Core → Event → ℕ → Type 0
+StandsIn c e r = IsLive c.start.layout c.words.link c.holding r × (c.words.event r ≡ e)
+
+-- Each pending event stands in exactly one row that is listed and VAL, and each such row holds a pending event
+pub record CarriersHold (c : Core) : Type 0 where
+  pub carried : (e : Event) → IsPending c.history e → (r : ℕ) × StandsIn c e r × ((s : ℕ) → StandsIn c e s → s ≡ r)
+  pub pending : (e : Event) (r : ℕ) → StandsIn c e r → IsPending c.history e
+
+-- 7. History
+
+-- The history is legal and goes on from the one that was dealt. What a caller knows as its own are its entries since then, all entries since then are of callers, and each put there is of an event of
+-- its caller's sources. Each event that was put is settled
+pub record HistoryHolds (c : Core) : Type 0 where
+  pub legal : IsLegal c.history
+  pub since : List Entry
+  pub extends : c.history ≡ c.deal.history ++ since
+  pub own : (j : ℕ) → j < c.start.layout.workers → own_of j since ≡ c.own j
+  pub callers : (x : Entry) → In x since → whose x < c.start.layout.workers
+  pub sources : (j : ℕ) (e : Event) → In (Put j e) since → owner_of c.start.layout.workers c.deal.span e.src ≡ j
+  pub settled : (e : Event) → Contains (puts c.history) e → Contains (settleds c.history) e
+
+-- 8. Walkers
+
+-- the caller k is in a search that it began after `front`, and walks
+pub record IsWalking (c : Core) (k : ℕ) (w : Walk) (front : List Entry) : Type 0 where
+  pub inside : k < c.start.layout.workers
+  pub last : EndsInBegin (c.own k)
+  pub walks : c.walk k ≡ Some w
+  pub began : Began k c.history front
+
+-- A walk is of an open head, and at its list's end or at a row that its caller's guard covers. Each event of that list that was put before the caller's last Begin and is pending stands in the row at
+-- which the walk is, or in one that is reached from it. So where the walk came to the end all those events are out
+pub record WalkersHold (c : Core) : Type 0 where
+  pub at : (k : ℕ) (w : Walk) → k < c.start.layout.workers → c.walk k ≡ Some w → IsHead w.head × IsOpen c.words.control w.head × ((w.at ≡ 0) ⊎ ((g : ℕ) × IsCovered c k g w.at))
+  pub left : (k : ℕ) (w : Walk) (front : List Entry) (e : Event) → IsWalking c k w front → head_of c.words.control e ≡ w.head → Contains (puts front) e → IsPending c.history e
+      → (r : ℕ) × (0 < w.at) × StandsIn c e r × Reaches c.words.link c.words.twin w.at r
+  pub ended : (k : ℕ) (w : Walk) (front : List Entry) (e : Event) → IsWalking c k w front → w.at ≡ 0 → head_of c.words.control e ≡ w.head → Contains (puts front) e → Contains (outs c.history) e
 
 -- A state that meets the invariant in which the listed row r is covered by a guard, the row s was cut and has a tag, and the row t is retired
 pub record Witness (c : Core) : Type 0 where

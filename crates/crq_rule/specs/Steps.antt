@@ -1,12 +1,20 @@
 -- One step of any kind, on core states: when it may come, and what it leaves.
-use Rattle.std.specs.Prelude.{◌≡◌, ℕ, ◌<◌, ◌^◌, None}
+use Rattle.std.specs.Prelude.{◌≡◌, ℕ, ◌<◌, ◌^◌, Bool, List, [], ◌∷◌, None}
 use Rattle.crq_base.specs.declared.kinds.StepKind.{StepKind}
-use Rattle.crq_base.specs.declared.kinds.StepKind.TheVariants.{Split, Join, EpochLoad, Enter, Confirm, Leave, Scan, Tick, Retire, Look, Claim}
+use Rattle.crq_base.specs.declared.kinds.StepKind.TheVariants.{Split, Join, EpochLoad, Enter, Confirm, Leave, Scan, Tick, Retire, Look, Claim, Write, Read, ControlLoad, Begin, Walk, Link as LinkKind, Mark, Cut, Miss}
+use Rattle.crq_base.specs.declared.event.Event.{Event}
+use Rattle.crq_base.specs.declared.words.Link.{Link}
+use Rattle.crq_base.specs.declared.entry.Entry.{Entry}
+use Rattle.crq_base.specs.declared.entry.Entry.TheVariants.{Begin as BeginEntry, Take as TakeEntry, Miss as MissEntry}
 use Rattle.crq_rule.specs.declared.view.Guard.TheVariants.{Off}
+use Rattle.crq_base.specs.declared.words.Mark.TheVariants.{Val}
 use Rattle.crq_rule.specs.Lists.{In}
-use Rattle.crq_rule.specs.Places.{IsHomeRow, Place, spare, epoch, announced, stamp}
-use Rattle.crq_rule.specs.Core.{Core}
+use Rattle.crq_rule.specs.Places.{IsHomeRow, Place, spare, epoch, announced, control, stamp, link as link_place}
+use Rattle.crq_rule.specs.Parts.{IsOn}
+use Rattle.crq_rule.specs.Ranks.{Cell, cell_place, link_at}
+use Rattle.crq_rule.specs.Core.{Core, caller_of}
 use Rattle.crq_rule.specs.Kinds.{epoch_loaded, entered, confirmed, left, scanned, ticked, tick_failed, retired_at, looked, claimed, HasScanned, IsEntering, MayRetire, IsRipe}
+use Rattle.crq_rule.specs.ListKinds.{Content, IsContent, content_number, row_place, written_at, walked_from, linked, put_entries, control_loaded, begun_by, marked, cut_from, missed, StandsOn, MayWalk, MaySeek, MayLink, MayMark, MayCut, MayMiss}
 
 -- the kinds of step with their operands; an exchange that fails is a case of its own. Splitting and joining move parts of views from seat to seat, and leave the core state
 pub data Kind : Type 0 where
@@ -22,6 +30,18 @@ pub data Kind : Type 0 where
   retire : ℕ → ℕ → Kind
   look : ℕ → Kind
   claim : ℕ → ℕ → Kind
+  write : ℕ → Content → Kind
+  read : ℕ → ℕ → Kind
+  walk : Cell → Bool → Kind
+  link : Cell → Link → ℕ → Event → Kind
+  link_fails : Cell → Kind
+  control_load : Kind
+  begin : Kind
+  mark : ℕ → Event → Kind
+  mark_fails : ℕ → Kind
+  cut : Cell → ℕ → Link → Kind
+  cut_fails : Cell → Kind
+  miss : ℕ → Kind
 
 -- when the caller j may make it
 abbrev pub May : Kind → Core → ℕ → Type 0
@@ -37,6 +57,18 @@ May (tick_fails x) c j = Unit {0}
 May (retire r t) c j = MayRetire (c.cut j) r t
 May (look r) c j = IsHomeRow c.start.layout j r
 May (claim r e) c j = In e (c.epochs j) × IsRipe (c.ripening j) r e
+May (write r x) c j = In r (c.hand j) × IsContent x
+May (read r p) c j = (e : Event) × StandsOn (c.position j).rows r e
+May (walk cell seeks) c j = IsOn (c.guard j) × MayWalk (c.position j).rows cell × MaySeek (c.own j) (c.walk j) cell seeks
+May (link cell l r e) c j = MayLink c.start.layout.workers c.words.control cell l r e (caller_of c j) × (link_at c.words.head c.words.link cell ≡ l)
+May (link_fails cell) c j = Unit {0}
+May control_load c j = Unit {0}
+May begin c j = Unit {0}
+May (mark r e) c j = MayMark c.words.control r e (caller_of c j) × ((c.words.link r).mark ≡ Val)
+May (mark_fails r) c j = Unit {0}
+May (cut cell x l) c j = MayCut cell x l (caller_of c j) × (((link_at c.words.head c.words.link cell).mark ≡ Val) × ((link_at c.words.head c.words.link cell).row ≡ x))
+May (cut_fails cell) c j = Unit {0}
+May (miss limit) c j = MayMiss c.words.control limit (caller_of c j)
 
 -- the core state after it
 abbrev pub After : Kind → Core → ℕ → Core
@@ -52,6 +84,18 @@ After (tick_fails x) c j = tick_failed c j
 After (retire r t) c j = retired_at c j r t
 After (look r) c j = looked c j r
 After (claim r e) c j = claimed c j r
+After (write r x) c j = written_at c j r x
+After (read r p) c j = c
+After (walk cell seeks) c j = walked_from c j cell seeks
+After (link cell l r e) c j = linked c j cell l r e
+After (link_fails cell) c j = c
+After control_load c j = control_loaded c j
+After begin c j = begun_by c j
+After (mark r e) c j = marked c j r e
+After (mark_fails r) c j = c
+After (cut cell x l) c j = cut_from c j cell x l
+After (cut_fails cell) c j = c
+After (miss limit) c j = missed c j limit
 
 -- the word that it loads, stores or exchanges
 abbrev pub place_of : Kind → ℕ → Place
@@ -67,6 +111,18 @@ place_of (tick_fails x) j = epoch
 place_of (retire r t) j = stamp r
 place_of (look r) j = stamp r
 place_of (claim r e) j = stamp r
+place_of (write r x) j = row_place r (content_number x)
+place_of (read r p) j = row_place r p
+place_of (walk cell seeks) j = cell_place cell
+place_of (link cell l r e) j = cell_place cell
+place_of (link_fails cell) j = cell_place cell
+place_of control_load j = control
+place_of begin j = control
+place_of (mark r e) j = link_place r
+place_of (mark_fails r) j = link_place r
+place_of (cut cell x l) j = cell_place cell
+place_of (cut_fails cell) j = cell_place cell
+place_of (miss limit) j = control
 
 -- its name
 abbrev pub kind_of : Kind → StepKind
@@ -82,6 +138,26 @@ kind_of (tick_fails x) = Tick
 kind_of (retire r t) = Retire
 kind_of (look r) = Look
 kind_of (claim r e) = Claim
+kind_of (write r x) = Write
+kind_of (read r p) = Read
+kind_of (walk cell seeks) = Walk
+kind_of (link cell l r e) = LinkKind
+kind_of (link_fails cell) = LinkKind
+kind_of control_load = ControlLoad
+kind_of begin = Begin
+kind_of (mark r e) = Mark
+kind_of (mark_fails r) = Mark
+kind_of (cut cell x l) = Cut
+kind_of (cut_fails cell) = Cut
+kind_of (miss limit) = Miss
+
+-- the entries that it adds to the history
+abbrev pub entries_of : Kind → ℕ → List Entry
+entries_of (link cell l r e) j = put_entries j e
+entries_of begin j = BeginEntry j ∷ []
+entries_of (mark r e) j = TakeEntry j e ∷ []
+entries_of (miss limit) j = MissEntry j limit ∷ []
+entries_of _ j = []
 
 -- the step of kind k of the caller j leads from c to c'
 pub record IsStep (k : Kind) (c : Core) (j : ℕ) (c' : Core) : Type 0 where

@@ -16,7 +16,7 @@ pub struct SettleDebt {
 pub struct CutDebt {
     /// The generation of the list's table.
     pub generation: u32,
-    /// The list's head, numbered from 0 within its bank.
+    /// The list's head, numbered over both banks.
     pub head: u32,
     /// The event that the row held; the list is sorted by its key, and then by row.
     pub event: Event,

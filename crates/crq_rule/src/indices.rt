@@ -2,6 +2,7 @@
 
 ghost use Rattle.std.specs.Prelude.{◌≡◌, ◌+◌, ◌*◌, ◌<◌, ◌≤◌};
 ghost use Rattle.crq_rule.specs.Places.{index, IsRow, epoch, announced, control, current, head, stamp};
+ghost use Rattle.crq_rule.specs.ListKinds.{row_place};
 ghost use Rattle.crq_rule.specs.Widths.{width};
 
 use crate::layout::Layout;
@@ -78,6 +79,23 @@ impl Layout {
         ensures { result ≡ index self.now (stamp row) }
     {
         ROWS + self.workers as usize + 7 * row as usize + 1
+    }
+
+    /// A word of a row by its place: 0 is the link, 1 the twin, 2 to 5 are the words of the event.
+    pub fn row_word(&self, row: u32, place: u32) -> usize
+        requires row { IsRow self.now row }
+        requires place { place < 6 }
+        ensures { result ≡ index self.now (row_place row place) }
+    {
+        let first = ROWS + self.workers as usize + 7 * row as usize;
+        match place {
+            0 => first,
+            1 => first + 2,
+            2 => first + 3,
+            3 => first + 4,
+            4 => first + 5,
+            _ => first + 6,
+        }
     }
 
     /// The first home row of a caller.

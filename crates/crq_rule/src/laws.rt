@@ -1,7 +1,7 @@
 //! Laws of the rule: facts about every state that meets the invariant, and about every step. They hold by proof, and
 //! running them does nothing.
-ghost use Rattle.std.specs.Prelude.{◌≡◌, ◌≢◌, ℕ, ◌+◌, ◌<◌, ◌≤◌, List, []};
-ghost use Rattle.atomic_table.specs.Table.{opening, Joins, Splits};
+ghost use Rattle.std.specs.Prelude.{◌≡◌, ◌≢◌, ℕ, ◌+◌, ◌<◌, ◌≤◌, List, [], ◌++◌};
+ghost use Rattle.atomic_table.specs.Table.{opening, Allows, Joins, Me, Splits};
 ghost use Rattle.crq_base.specs.Starts.{IsFirst};
 ghost use Rattle.crq_rule.specs.declared.layout.Start.{Start};
 ghost use Rattle.crq_rule.specs.declared.view.Guard.TheVariants.{On};
@@ -12,18 +12,19 @@ ghost use Rattle.crq_rule.specs.Places.{Place, word_of, Shows};
 ghost use Rattle.crq_rule.specs.Core.{Core, caller_of};
 ghost use Rattle.crq_rule.specs.Invariant.{Inv};
 ghost use Rattle.crq_rule.specs.Kinds.{after_made, IsRipe};
-ghost use Rattle.crq_rule.specs.Steps.{Kind, IsStep, place_of};
+ghost use Rattle.crq_rule.specs.Steps.{Kind, IsStep, place_of, entries_of};
 ghost use Rattle.crq_rule.specs.Rule.{Stands, first_view, joined, spent, head_view, tail_view, IsFirstApart};
+ghost use Rattle.crq_rule.specs.Deals.{HasAll, Gathered, IsSilent, spans};
 ghost use Rattle.crq_rule.specs.Opening.{opening_core, opening_words};
-ghost use Rattle.crq_rule.specs.Stated.{WordsHold, HoldersHold, GuardsHold, CoverHolds, IsCovered, Witness};
+ghost use Rattle.crq_rule.specs.Stated.{WordsHold, HoldersHold, GuardsHold, CoverHolds, ListsHold, CarriersHold, HistoryHolds, WalkersHold, IsCovered, Witness};
 
 /// Each kind of step keeps the invariant, from every state that meets it. It changes the word of its kind alone, if any,
-/// and what its own caller knows alone, and it leaves the history and the places in it as they are.
+/// and what its own caller knows alone, and it adds its entries to the history, which is else as it was.
 pub fn step_law()
     ensures keeps { (k : Kind) (c c' : Core) (j : ℕ) → j < c.start.layout.workers → IsStep k c j c' → Inv c → Inv c' }
     ensures words { (k : Kind) (c c' : Core) (j : ℕ) → IsStep k c j c' → (p : Place) → p ≢ place_of k j → word_of c'.words p ≡ word_of c.words p }
     ensures others { (k : Kind) (c c' : Core) (j : ℕ) → IsStep k c j c' → (i : ℕ) → i ≢ j → caller_of c' i ≡ caller_of c i }
-    ensures history { (k : Kind) (c c' : Core) (j : ℕ) → IsStep k c j c' → (c'.start ≡ c.start) × (c'.history ≡ c.history) × (c'.begun ≡ c.begun) × (c'.read ≡ c.read) }
+    ensures history { (k : Kind) (c c' : Core) (j : ℕ) → IsStep k c j c' → (c'.start ≡ c.start) × (c'.deal ≡ c.deal) × (c'.history ≡ c.history ++ entries_of k j) }
     ensures made { (c : Core) (j : ℕ) (m : Made) → Inv c → Inv (after_made c j m) }
 {}
 
@@ -31,6 +32,13 @@ pub fn step_law()
 pub fn seat_law()
     ensures splits { (key : Start) (id : ℕ) (v : View) → IsFirstApart v → Splits (Stands key) id v (head_view v) (tail_view v) }
     ensures joins { (key : Start) (id other : ℕ) (v w : View) → Joins (Stands key) id v other w (joined v w) spent }
+{}
+
+/// A load of the spare word through a seat that carries all callers keeps the rule. It may deal the history so far to all
+/// callers, and where no caller has made an entry since the last deal, any span.
+pub fn gather_law()
+    ensures gathers { (key : Start) (slots id : ℕ) (me : Me (Unit {0}) View) → HasAll key.layout.workers me.0 → Allows (Stands key) slots id me 0 (λ n. n) (λ r m. Gathered me.0 m.0 × (m.1 ≡ me.1)) }
+    ensures respans { (key : Start) (slots id span : ℕ) (me : Me (Unit {0}) View) → 0 < span → HasAll key.layout.workers me.0 → IsSilent me.0 → Allows (Stands key) slots id me 0 (λ n. n) (λ r m. m ≡ (spans span me.0, me.1)) }
 {}
 
 /// A row that a caller may claim is covered by no guard, in every state that meets the invariant.
@@ -49,13 +57,17 @@ pub fn opening_law()
     ensures stands { (start : Start) (ws : List ℕ) → IsFirst start.first → Shows start.layout (opening_words start) ws → Stands start (opening ws [] (first_view start)) }
 {}
 
-/// The invariant that is kept implies each of its parts as it is stated: on words, on the holders of rows, on guards, and
-/// on covered rows.
+/// The invariant that is kept implies each of its parts as it is stated: on words, on the holders of rows, on guards, on
+/// covered rows, on lists, on the rows that carry pending events, on the history, and on takes that walk.
 pub fn parts_law()
     ensures words { (c : Core) → Inv c → WordsHold c }
     ensures holders { (c : Core) → Inv c → HoldersHold c }
     ensures guards { (c : Core) → Inv c → GuardsHold c }
     ensures cover { (c : Core) → Inv c → CoverHolds c }
+    ensures lists { (c : Core) → Inv c → ListsHold c }
+    ensures carriers { (c : Core) → Inv c → CarriersHold c }
+    ensures history { (c : Core) → Inv c → HistoryHolds c }
+    ensures walkers { (c : Core) → Inv c → WalkersHold c }
 {}
 
 /// Some state with a listed row that a guard covers, a cut row that has a tag, and a retired row meets the invariant.

@@ -26,8 +26,8 @@ pub struct Opened {
     pub places: Vec<Seating>,
 }
 
-/// The number of buckets of a new table, each one tick wide.
-const BUCKETS: usize = 8;
+/// The number of lists of a new table.
+const LISTS: usize = 1;
 
 /// The heads of each bank.
 const BANK: usize = 32768;
@@ -49,7 +49,7 @@ fn set_word(words: &mut Vec<u64>, at: usize, word: u64)
     words[at] = word;
 }
 
-/// The link of one head, numbered over both banks: open where it is a bucket of the first generation's table, and shut
+/// The link of one head, numbered over both banks: open where it is a list of the first generation's table, and shut
 /// else.
 fn first_link(generation: u32, head: usize) -> Link
     requires generation { generation < 2 ^ 30 }
@@ -58,7 +58,7 @@ fn first_link(generation: u32, head: usize) -> Link
     ensures bits { IsLink result }
 {
     let first = (generation % 2) as usize * BANK;
-    if first <= head && head < first + BUCKETS {
+    if first <= head && head < first + LISTS {
         Link {
             generation,
             row: 0,
@@ -94,7 +94,7 @@ fn words_of(alloc: Global, start: &Start) -> Result<Vec<u64>, AllocError>
     let control = Control {
         generation: start.first.generation,
         moving: false,
-        log: 3,
+        log: 0,
         shift: 0,
         new_log: 0,
         new_shift: 0,

@@ -35,26 +35,38 @@ pub struct Deal {
     pub span: u64,
 }
 
-/// The rows of a list that a caller stands on, and the frozen row whose copy it hasn't linked yet.
+/// A row that a caller stands on, and the event that it holds. Where its link was found dead or frozen, that is its last
+/// one, which never changes again.
+pub struct Stand {
+    pub row: u64,
+    pub event: Event,
+    pub last: Option<Link>,
+}
+
+/// The rows of a list that a caller stands on, the one found last first, and the frozen row whose copy it hasn't linked
+/// yet.
 pub struct Position {
-    pub rows: LinkedList<u64>,
+    pub rows: LinkedList<Stand>,
     pub old: Option<u64>,
 }
 
-/// Words that the present call has read, and that it may rely on: the last control word and current, the links of dead
-/// or frozen rows, which never change again, and twin words that aren't 0.
+/// Words that the present call has read, and that it may rely on: the last control word and current.
 pub struct Found {
     pub control: Option<Control>,
     pub current: Option<Current>,
-    pub links: LinkedList<(u64, Link)>,
-    pub twins: LinkedList<(u64, u64)>,
 }
 
-/// A row in hand whose words are written, and that is about to be linked before the row `next`.
-pub struct Linking {
+/// A word that the caller wrote into a row in hand: 0 is the row's link, 1 its twin, 2 to 5 the words of its event.
+pub struct Wrote {
     pub row: u64,
-    pub event: Event,
-    pub next: u64,
+    pub place: u64,
+    pub word: u64,
+}
+
+/// How far a take walked the list of a head: to the row `at`, or to the end where that is 0. What it passed was dead.
+pub struct Walk {
+    pub head: u64,
+    pub at: u64,
 }
 
 /// What a helper of a migration has passed: the new heads that it found prepared, the old heads that it found frozen and
@@ -110,7 +122,9 @@ pub struct Caller {
     pub permit: bool,
     pub position: Position,
     pub found: Found,
-    pub linking: Option<Linking>,
+    /// The words that the caller wrote into rows that are still in hand.
+    pub written: LinkedList<Wrote>,
+    pub walk: Option<Walk>,
     pub help: Option<Help>,
     /// The heads whose lists the caller's sweep found without a dead row since its last Begin.
     pub clean: LinkedList<u64>,

@@ -1,5 +1,15 @@
 use Rattle.crq_rule.proofs.Stating.{words_hold, holders_hold, guards_hold, cover_holds}
+use Rattle.crq_rule.proofs.StatingLists.{lists_hold, carriers_hold, history_holds, walkers_hold}
 use Rattle.crq_rule.proofs.laws.parts_law.Goals as goal
 
 pub returns : goal.returns
-returns c = record { words = words_hold; holders = holders_hold; guards = guards_hold; cover = cover_holds }
+returns c = record {
+  words = words_hold;
+  holders = holders_hold;
+  guards = guards_hold;
+  cover = cover_holds;
+  lists = lists_hold;
+  carriers = carriers_hold;
+  history = history_holds;
+  walkers = walkers_hold;
+}

@@ -1,0 +1,154 @@
+-- A take that begins, and one that finds nothing, keep the invariant.
+use Rattle.std.proofs.Common.{◌≡◌, ◌≢◌, ◌⊎◌, ⊎_elim, ℕ, ◌<◌, ◌≤◌, List, [], ◌∷◌, ◌++◌, length, Option, Some, None, sym, refl, ap, ◌∙◌, arith}
+use Rattle.std.specs.List.{Contains}
+use Rattle.crq_base.specs.declared.event.Event.{Event}
+use Rattle.crq_base.specs.declared.entry.Entry.{Entry}
+use Rattle.crq_base.specs.declared.entry.Entry.TheVariants.{Begin, Miss}
+use Rattle.crq_base.specs.declared.words.Link.{Link}
+use Rattle.crq_base.specs.declared.words.Control.{Control}
+use Rattle.crq_base.specs.declared.words.Current.{Current}
+use Rattle.crq_base.specs.Histories.{puts, outs, MayFollow}
+use Rattle.crq_base.proofs.Verdicts.{contains_or}
+use Rattle.crq_rule.specs.declared.layout.Layout.{Layout}
+use Rattle.crq_rule.specs.declared.view.Tick.{Tick}
+use Rattle.crq_rule.specs.declared.view.CutRow.{CutRow}
+use Rattle.crq_rule.specs.declared.view.Found.{Found}
+use Rattle.crq_rule.specs.declared.view.Position.{Position}
+use Rattle.crq_rule.specs.declared.view.Walk.{Walk}
+use Rattle.crq_rule.specs.Lists.{put, In}
+use Rattle.crq_rule.specs.Places.{IsHead}
+use Rattle.crq_rule.specs.Core.{Core, Holding, caller_of}
+use Rattle.crq_rule.specs.Parts.{Reading, NotAfter, rows_of}
+use Rattle.crq_rule.specs.HistoryParts.{Carriers, Walkers, StandsFrom}
+use Rattle.crq_rule.specs.Ranks.{head_of, IsOpen}
+use Rattle.crq_rule.specs.Invariant.{Inv}
+use Rattle.crq_rule.specs.ListKinds.{StandsOn, MayMiss, begun_by, control_loaded, missed}
+use Rattle.crq_rule.proofs.Puts.{put_else, put_all}
+use Rattle.crq_rule.proofs.HistoryLaws.{told_other, told_begin, pending_same, out_later, front_of}
+use Rattle.crq_rule.proofs.SearchLaws.{left_beyond, beyond_time}
+
+none_walk : (w : Walk) → None ≡ Some w → ⊥
+none_walk w e = cc
+
+miss_begin : (j limit k : ℕ) → Miss j limit ≡ Begin k → ⊥
+miss_begin j limit k e = cc
+
+some_control : (x y : Control) → Some x ≡ Some y → x ≡ y
+some_control x y e = cc
+
+-- the caller j found the control word
+pub read_found : (n epoch : ℕ) (current : Current) (control : Control) (epochs : ℕ → List ℕ) (tick : ℕ → Tick) (cut : ℕ → Option CutRow) (found : ℕ → Found) (j : ℕ)
+    → Reading n epoch current control epochs tick cut found → Reading n epoch current control epochs tick cut (put found j (record (found j) { control = Some control }))
+read_found n epoch current control epochs tick cut found j old = record {
+  limit = old.limit;
+  read = old.read;
+  loaded = old.loaded;
+  scanned = old.scanned;
+  tags = old.tags;
+  read_current = λ k x. put_all found j (record (found j) { control = Some control }) (λ k f. k < n → f.current ≡ Some x → NotAfter x current) (old.read_current j x) (λ k _. old.read_current k x) k;
+  read_control = λ k x. put_all found j (record (found j) { control = Some control }) (λ k f. k < n → f.control ≡ Some x → x ≡ control) (λ _ e. sym (some_control control x e)) (λ k _. old.read_control k x) k;
+}
+
+-- an entry that is neither a put nor a take
+pub carriers_same : (l : Layout) (history : List Entry) (x : Entry) (link : ℕ → Link) (event : ℕ → Event) (holding : ℕ → Holding) → puts (x ∷ []) ≡ [] → outs (x ∷ []) ≡ []
+    → Carriers l history link event holding → Carriers l (history ++ x ∷ []) link event holding
+carriers_same l history x link event holding none kept old = record {
+  carried = λ e p. old.carried e ((pending_same history x e none kept).0 p);
+  pending = λ r v. (pending_same history x (event r) none kept).1 (old.pending r v);
+  one = old.one;
+}
+
+-- the caller j adds an entry and gives up its walk, and each row that carries an event carries it still, unless that is out now
+pub walkers_entry : (l : Layout) (control : Control) (history : List Entry) (begun begun' : ℕ → ℕ) (link link' : ℕ → Link) (twin : ℕ → ℕ) (event : ℕ → Event) (holding : ℕ → Holding) (position : ℕ → Position)
+    (walk : ℕ → Option Walk) (j : ℕ) (x : Entry) → ((k : ℕ) → k < l.workers → begun k ≤ length history) → ((k : ℕ) → k ≢ j → begun' k ≡ begun k)
+    → ((at : ℕ) (e : Event) → (Contains (outs (history ++ x ∷ [])) e → ⊥) → StandsFrom l link twin event holding at e → StandsFrom l link' twin event holding at e)
+    → Walkers l control history begun link twin event holding position walk → Walkers l control (history ++ x ∷ []) begun' link' twin event holding position (put walk j None)
+walkers_entry l control history begun begun' link link' twin event holding position walk j x low others stays old = record {
+  opened = λ k w. put_all walk j None (λ k o. k < l.workers → o ≡ Some w → IsHead w.head × IsOpen control w.head) (λ _ e. absurd (none_walk w e)) (λ k _. old.opened k w) k;
+  at_stand = λ k w. put_all walk j None (λ k o. k < l.workers → o ≡ Some w → (w.at ≡ 0) ⊎ In w.at (rows_of (position k).rows)) (λ _ e. absurd (none_walk w e)) (λ k _. old.at_stand k w) k;
+  left = λ k w front back e. put_all walk j None
+      (λ k o. k < l.workers → o ≡ Some w → history ++ x ∷ [] ≡ front ++ back → length front ≡ begun' k → head_of control e ≡ w.head → Contains (puts front) e → (Contains (outs (history ++ x ∷ [])) e → ⊥) → StandsFrom l link' twin event holding w.at e)
+      (λ _ q. absurd (none_walk w q))
+      (λ k ne b is parts long head settled kept. let long' : length front ≡ begun k = long ∙ others k ne in let r = front_of history (x ∷ []) front back (begun k) parts long' (low k b) in
+      stays w.at e kept (old.left k w front r.0 e b is r.1 long' head settled (λ o. kept (out_later history x e o)))) k;
+}
+
+-- the control word was loaded
+pub control_keeps : (c : Core) (j : ℕ) → j < c.start.layout.workers → Inv c → Inv (control_loaded c j)
+control_keeps c j b inv = record {
+  spelled = inv.spelled;
+  reading = read_found _ _ _ _ _ _ _ _ j inv.reading;
+  guards = inv.guards;
+  holders = inv.holders;
+  cutting = inv.cutting;
+  stamps = inv.stamps;
+  chains = inv.chains;
+  cover = inv.cover;
+  heads = inv.heads;
+  sorted = inv.sorted;
+  marks = inv.marks;
+  standing = inv.standing;
+  lanes = inv.lanes;
+  writing = inv.writing;
+  naming = inv.naming;
+  carriers = inv.carriers;
+  told = inv.told;
+  walkers = inv.walkers;
+}
+
+pub begin_keeps : (c : Core) (j : ℕ) → j < c.start.layout.workers → Inv c → Inv (begun_by c j)
+begin_keeps c j b inv = record {
+  spelled = inv.spelled;
+  reading = read_found _ _ _ _ _ _ _ _ j inv.reading;
+  guards = inv.guards;
+  holders = inv.holders;
+  cutting = inv.cutting;
+  stamps = inv.stamps;
+  chains = inv.chains;
+  cover = inv.cover;
+  heads = inv.heads;
+  sorted = inv.sorted;
+  marks = inv.marks;
+  standing = inv.standing;
+  lanes = inv.lanes;
+  writing = inv.writing;
+  naming = inv.naming;
+  carriers = carriers_same _ _ (Begin j) _ _ _ refl refl inv.carriers;
+  told = told_begin _ _ _ _ _ j b inv.told;
+  walkers = walkers_entry _ _ _ _ _ _ _ _ _ _ _ _ j (Begin j) inv.told.begun_low (put_else c.begun j (length c.history)) (λ _ _ _ s. s) inv.walkers;
+}
+
+-- what a search that comes to its end or to the limit left is taken
+miss_legal : (c : Core) (j limit : ℕ) → j < c.start.layout.workers → MayMiss c.words.control limit (caller_of c j) → Inv c → MayFollow c.history (Miss j limit)
+miss_legal c j limit b may inv = let from = inv.told.began j b may.began in let front = from.0 in let w = may.walks.0 in (
+  front,
+  from.2,
+  λ f settled less. ⊎_elim (λ o. o) (λ kept. let beyond = left_beyond c inv j w front (Begin j ∷ from.2.back) f b may.walks.1 may.one_list from.2.parts from.1 settled kept in ⊎_elim
+      (λ (none : w.at ≡ 0). let some = beyond.some_row in absurd (omega arith))
+      (λ (h : (e : Event) × StandsOn (c.position j).rows w.at e × (limit ≤ e.time)). let e = h.0 in let s = h.1.0 in
+      let holds : c.words.event w.at ≡ e = ap c.words.event (sym h.1.2) ∙ (inv.standing.holds j s b h.1.1 ∙ h.1.3) in
+      let late = beyond_time c inv w.at e f holds beyond in let high = h.2 in absurd (omega arith))
+      may.walks.2) (contains_or (outs c.history) f),
+)
+
+pub miss_keeps : (c : Core) (j limit : ℕ) → j < c.start.layout.workers → MayMiss c.words.control limit (caller_of c j) → Inv c → Inv (missed c j limit)
+miss_keeps c j limit b may inv = record {
+  spelled = inv.spelled;
+  reading = read_found _ _ _ _ _ _ _ _ j inv.reading;
+  guards = inv.guards;
+  holders = inv.holders;
+  cutting = inv.cutting;
+  stamps = inv.stamps;
+  chains = inv.chains;
+  cover = inv.cover;
+  heads = inv.heads;
+  sorted = inv.sorted;
+  marks = inv.marks;
+  standing = inv.standing;
+  lanes = inv.lanes;
+  writing = inv.writing;
+  naming = inv.naming;
+  carriers = carriers_same _ _ (Miss j limit) _ _ _ refl refl inv.carriers;
+  told = told_other _ _ _ _ _ j (Miss j limit) b (miss_legal c j limit b may inv) refl refl (miss_begin j limit) inv.told;
+  walkers = walkers_entry _ _ _ _ c.begun _ _ _ _ _ _ _ j (Miss j limit) inv.told.begun_low (λ _ _. refl) (λ _ _ _ s. s) inv.walkers;
+}

@@ -1,0 +1,475 @@
+-- A cut takes a dead row out of its list, and keeps the invariant.
+use Rattle.std.proofs.Common.{◌≡◌, ◌≢◌, ◌⊎◌, ⊎_elim, inl, inr, ℕ, ◌^◌, ◌<◌, ◌≤◌, cond, List, [], ◌∷◌, ◌++◌, Option, Some, None, sym, refl, ap, ◌∙◌, eq-eqb, ne_eqb, subst, arith}
+use mathlib.Core.Logic.{dite}
+use native.Mathlib.Decide.{ℕ_discrete}
+use Rattle.crq_base.specs.declared.event.Event.{Event}
+use Rattle.crq_base.specs.declared.words.Link.{Link}
+use Rattle.crq_base.specs.declared.words.Mark.{Mark}
+use Rattle.crq_base.specs.declared.words.Mark.TheVariants.{Val, Mov, Del}
+use Rattle.crq_base.specs.declared.words.Control.{Control}
+use Rattle.crq_base.specs.Words.{IsLink}
+use Rattle.crq_rule.specs.declared.debts.CutDebt.{CutDebt}
+use Rattle.crq_rule.specs.declared.debts.Debts.{Debts}
+use Rattle.crq_rule.specs.declared.layout.Layout.{Layout}
+use Rattle.crq_rule.specs.declared.view.Guard.{Guard}
+use Rattle.crq_rule.specs.declared.view.Guard.TheVariants.{Off, Entering, On}
+use Rattle.crq_rule.specs.declared.view.CutRow.{CutRow}
+use Rattle.crq_rule.specs.declared.view.Position.{Position}
+use Rattle.crq_rule.specs.declared.view.Stand.{Stand}
+use Rattle.crq_rule.specs.declared.view.Walk.{Walk}
+use Rattle.crq_rule.specs.Lists.{put, In}
+use Rattle.crq_rule.specs.Places.{IsRow, IsHead}
+use Rattle.crq_rule.specs.Core.{Core, Holding, in_hand, listed, cut_by, retired, caller_of}
+use Rattle.crq_rule.specs.Parts.{IsEvent, Spelled, Holders, Stamps, stamp_of, Chains, Leads, Cover, Covers, HasTag, IsOn, rows_of, standing}
+use Rattle.crq_rule.specs.ListParts.{Heads, IsShutHead, Sorted, Marks, MarkFits, TwinFits, Standing, IsFinal, Lanes, Writing, row_word, Naming, IsNamed, ranks}
+use Rattle.crq_rule.specs.HistoryParts.{Carriers, IsLive, Walkers, StandsFrom}
+use Rattle.crq_rule.specs.Invariant.{Inv}
+use Rattle.crq_rule.specs.Ranks.{head_of, IsOpen, Rises, Cell, at_head, at_row, link_at, heads_set, links_set, without_row}
+use Rattle.crq_rule.specs.ListKinds.{cut_from, without_stand, unnamed, StandsOn, MayWalk, MayCut}
+use Rattle.crq_rule.proofs.Puts.{put_here, put_else, put_all}
+use Rattle.crq_rule.proofs.PartLaws.{sort, of_whom, read_cut, cutting_cut}
+use Rattle.crq_rule.proofs.HolderLaws.{none_some, some_some}
+use Rattle.crq_rule.proofs.WithoutLaws.{first_in, next_in, leads_else, leads_first, leads_without, rises_without, in_without_row, without_row_in, gone, Passes, path_cut, path_pass}
+
+-- the caller's guard is on or not
+on_or_not : (g : Guard) → ((x : ℕ) × (g ≡ On x)) ⊎ (IsOn g → ⊥)
+on_or_not Off = inr (λ n. n)
+on_or_not (Entering x) = inr (λ n. n)
+on_or_not (On x) = inl (x, refl)
+
+on_is : (g : Guard) (x : ℕ) → g ≡ On x → IsOn g
+on_is g x is = subst IsOn (sym is) tt
+
+del_val : Del ≡ Val → ⊥
+del_val e = cc
+
+mov_val : Mov ≡ Val → ⊥
+mov_val e = cc
+
+-- a present link isn't a last one
+val_final : (m : Mark) → m ≡ Val → IsFinal m → ⊥
+val_final m is final = subst IsFinal is final
+
+-- Stands, and what is left of them without the row x
+
+stand_row : (ss : List Stand) (s : Stand) → In s ss → In s.row (rows_of ss)
+stand_row [] s i = i
+stand_row (t ∷ ts) s i = ⊎_elim (λ (e : s ≡ t). inl (ap (λ (z : Stand). z.row) e)) (λ (h : In s ts). inr (stand_row ts s h)) i
+
+in_front : (xs ys : List ℕ) (a : ℕ) → In a xs → In a (xs ++ ys)
+in_front [] ys a i = absurd i
+in_front (x ∷ xs) ys a i = ⊎_elim inl (λ (t : In a xs). inr (in_front xs ys a t)) i
+
+stand_left : (x : ℕ) (ss : List Stand) (s : Stand) → In s (without_stand x ss) → In s ss
+stand_left x [] s i = i
+stand_left x (t ∷ ts) s i = dite (ℕ_discrete t.row x)
+    (λ e. inr (stand_left x ts s (subst (λ b. In s (cond b (without_stand x ts) (t ∷ without_stand x ts))) (eq-eqb t.row x e) i)))
+    (λ ne. ⊎_elim inl (λ (h : In s (without_stand x ts)). inr (stand_left x ts s h)) (subst (λ b. In s (cond b (without_stand x ts) (t ∷ without_stand x ts))) (ne_eqb t.row x ne) i))
+
+row_left : (x : ℕ) (ss : List Stand) (ys : List ℕ) (a : ℕ) → In a (rows_of (without_stand x ss) ++ ys) → In a (rows_of ss ++ ys)
+row_left x [] ys a i = i
+row_left x (t ∷ ts) ys a i = dite (ℕ_discrete t.row x)
+    (λ e. inr (row_left x ts ys a (subst (λ b. In a (rows_of (cond b (without_stand x ts) (t ∷ without_stand x ts)) ++ ys)) (eq-eqb t.row x e) i)))
+    (λ ne. ⊎_elim inl (λ (h : In a (rows_of (without_stand x ts) ++ ys)). inr (row_left x ts ys a h)) (subst (λ b. In a (rows_of (cond b (without_stand x ts) (t ∷ without_stand x ts)) ++ ys)) (ne_eqb t.row x ne) i))
+
+-- Debts, of which that of the row x is dropped
+
+named_left : (x r : ℕ) (e : Event) (o : Option CutDebt) → r ≢ x → IsNamed o r e → IsNamed (unnamed x o) r e
+named_left x r e None ne is = is
+named_left x r e (Some d) ne is = subst (λ b. IsNamed (cond b None (Some d)) r e) (sym (ne_eqb d.row x (λ q. ne (sym is.0 ∙ q)))) is
+
+debt_left : (x : ℕ) (o : Option CutDebt) (d : CutDebt) → unnamed x o ≡ Some d → o ≡ Some d
+debt_left x None d is = is
+debt_left x (Some y) d is = dite (ℕ_discrete y.row x)
+    (λ e. absurd (no_debt d (subst (λ b. cond b None (Some y) ≡ Some d) (eq-eqb y.row x e) is)))
+    (λ ne. subst (λ b. cond b None (Some y) ≡ Some d) (ne_eqb y.row x ne) is)
+  where
+    no_debt : (d : CutDebt) → None ≡ Some d → ⊥
+    no_debt d e = cc
+
+no_walk : (w : Walk) → None ≡ Some w → ⊥
+no_walk w e = cc
+
+-- The cell's link changes in its row alone
+
+module _ (heads links : ℕ → Link) (w : ℕ) where
+  abbrev heads_cut : Cell → ℕ → Link
+  heads_cut cell = heads_set heads cell (record (link_at heads links cell) { row = w })
+
+  abbrev links_cut : Cell → ℕ → Link
+  links_cut cell = links_set links cell (record (link_at heads links cell) { row = w })
+
+  head_mark : (cell : Cell) (q : ℕ) → (heads_cut cell q).mark ≡ (heads q).mark
+  head_mark (at_head h) q = put_all heads h (record (heads h) { row = w }) (λ k z. z.mark ≡ (heads k).mark) refl (λ k _. refl) q
+  head_mark (at_row p) q = refl
+
+  head_generation : (cell : Cell) (q : ℕ) → (heads_cut cell q).generation ≡ (heads q).generation
+  head_generation (at_head h) q = put_all heads h (record (heads h) { row = w }) (λ k z. z.generation ≡ (heads k).generation) refl (λ k _. refl) q
+  head_generation (at_row p) q = refl
+
+  link_mark : (cell : Cell) (r : ℕ) → (links_cut cell r).mark ≡ (links r).mark
+  link_mark (at_head h) r = refl
+  link_mark (at_row p) r = put_all links p (record (links p) { row = w }) (λ k z. z.mark ≡ (links k).mark) refl (λ k _. refl) r
+
+  link_generation : (cell : Cell) (r : ℕ) → (links_cut cell r).generation ≡ (links r).generation
+  link_generation (at_head h) r = refl
+  link_generation (at_row p) r = put_all links p (record (links p) { row = w }) (λ k z. z.generation ≡ (links k).generation) refl (λ k _. refl) r
+
+  head_spelled : w < 2 ^ 24 → ((q : ℕ) → IsHead q → IsLink (heads q)) → (cell : Cell) (q : ℕ) → IsHead q → IsLink (heads_cut cell q)
+  head_spelled low all (at_head h) = put_all heads h (record (heads h) { row = w }) (λ k z. IsHead k → IsLink z) (λ b. record { generation = (all h b).generation; row = low }) (λ k _. all k)
+  head_spelled low all (at_row p) = all
+
+  link_spelled : (l : Layout) → w < 2 ^ 24 → ((r : ℕ) → IsRow l r → IsLink (links r)) → (cell : Cell) (r : ℕ) → IsRow l r → IsLink (links_cut cell r)
+  link_spelled l low all (at_head h) = all
+  link_spelled l low all (at_row p) = put_all links p (record (links p) { row = w }) (λ k z. IsRow l k → IsLink z) (λ b. record { generation = (all p b).generation; row = low }) (λ k _. all k)
+
+  -- a shut head isn't changed
+  head_shut : (control : Control) (cell : Cell) → (link_at heads links cell).mark ≡ Val → (q : ℕ) → IsShutHead control (heads q) → IsShutHead control (heads_cut cell q)
+  head_shut control (at_head h) val q = put_all heads h (record (heads h) { row = w }) (λ k z. IsShutHead control (heads k) → IsShutHead control z) (λ s. absurd (mov_val (sym s.0 ∙ val))) (λ k _ s. s) q
+  head_shut control (at_row p) val q = λ s. s
+
+  -- each row's link is as it was, or the row is the cell
+  link_is : (cell : Cell) (r : ℕ) → (links_cut cell r ≡ links r) ⊎ ((cell ≡ at_row r) × ((links_cut cell r).row ≡ w))
+  link_is (at_head h) r = inl refl
+  link_is (at_row p) r = dite (ℕ_discrete r p)
+      (λ (e : r ≡ p). inr (ap at_row (sym e), ap (λ (z : Link). z.row) (ap (put links p (record (links p) { row = w })) e ∙ put_here links p (record (links p) { row = w }))))
+      (λ ne. inl (put_else links p (record (links p) { row = w }) r ne))
+
+-- The row x of the list q goes from the list to its cutter j
+module _ (l : Layout) (hand : ℕ → List ℕ) (cut : ℕ → Option CutRow) (chain : ℕ → List ℕ) (holding : ℕ → Holding) where
+  holders_cut : (j q x : ℕ) → j < l.workers → cut j ≡ None → IsRow l x → holding x ≡ listed q → (In x (without_row x (chain q)) → ⊥) → Holders l hand cut chain holding
+      → Holders l hand (put cut j (Some (record { row = x; tags = [] }))) (put chain q (without_row x (chain q))) (put holding x (cut_by j))
+  holders_cut j q x b none row was out old = let new : CutRow = record { row = x; tags = [] } in
+      let stays : (s : ℕ) (h : Holding) → holding s ≡ h → h ≢ listed q → put holding x (cut_by j) s ≡ h = λ s h at ne. put_else holding x (cut_by j) s (λ e. ne (sym at ∙ (ap holding e ∙ was))) ∙ at in
+      record {
+        once = old.once;
+        held = λ k s c i. let h = old.held k s c i in (h.0, stays s (in_hand k) h.1 (λ e. let z : 0 ≡ 1 = ap sort e in omega arith));
+        of_hand = λ k s. put_all holding x (cut_by j) (λ s h. IsRow l s → h ≡ in_hand k → (k < l.workers) × In s (hand k)) (λ _ e. let z : 2 ≡ 0 = ap sort e in absurd (omega arith)) (λ s _. old.of_hand k s) s;
+        in_chain = λ k s. put_all chain q (without_row x (chain q)) (λ k xs. IsHead k → In s xs → IsRow l s × (put holding x (cut_by j) s ≡ listed k))
+            (λ c i. let h = old.in_chain q s c (in_without_row x s (chain q) i) in (h.0, put_else holding x (cut_by j) s (λ e. out (subst (λ z. In z (without_row x (chain q))) e i)) ∙ h.1))
+            (λ k ne c i. let h = old.in_chain k s c i in (h.0, stays s (listed k) h.1 (λ e. ne (ap of_whom e)))) k;
+        of_chain = λ k s. put_all holding x (cut_by j) (λ s h. IsRow l s → h ≡ listed k → IsHead k × In s (put chain q (without_row x (chain q)) k)) (λ _ e. let z : 2 ≡ 1 = ap sort e in absurd (omega arith))
+            (λ s ne c e. let o = old.of_chain k s c e in (o.0, put_all chain q (without_row x (chain q)) (λ k xs. In s (chain k) → In s xs) (λ i. without_row_in x s (chain q) i ne) (λ _ _ i. i) k o.1)) s;
+        is_cut = λ k y. put_all cut j (Some new) (λ i o. i < l.workers → o ≡ Some y → IsRow l y.row × (put holding x (cut_by j) y.row ≡ cut_by i))
+            (λ _ e. subst (λ (z : CutRow). IsRow l z.row × (put holding x (cut_by j) z.row ≡ cut_by j)) (some_some new y e) (row, put_here holding x (cut_by j)))
+            (λ i _ c e. let h = old.is_cut i y c e in (h.0, stays y.row (cut_by i) h.1 (λ q. let z : 2 ≡ 1 = ap sort q in omega arith))) k;
+        of_cut = λ k s. put_all holding x (cut_by j) (λ s h. IsRow l s → h ≡ cut_by k → (k < l.workers) × ((y : CutRow) × (put cut j (Some new) k ≡ Some y) × (y.row ≡ s)))
+            (λ _ e. let is : j ≡ k = ap of_whom e in subst (λ z. (z < l.workers) × ((y : CutRow) × (put cut j (Some new) z ≡ Some y) × (y.row ≡ x))) is (b, (new, put_here cut j (Some new), refl)))
+            (λ s _ c e. let o = old.of_cut k s c e in (o.0, (o.1.0, put_else cut j (Some new) k (λ z. none_some o.1.0 (sym none ∙ (ap cut (sym z) ∙ o.1.1))) ∙ o.1.1, o.1.2))) s;
+      }
+
+  stamps_cut : (e : ℕ) (stamp : ℕ → ℕ) (ripening : ℕ → List (ℕ × ℕ)) (j q x : ℕ) → holding x ≡ listed q → Stamps l e stamp ripening holding → Stamps l e stamp ripening (put holding x (cut_by j))
+  stamps_cut e stamp ripening j q x was old = record {
+    shown = λ s. put_all holding x (cut_by j) (λ s h. IsRow l s → stamp s ≡ stamp_of h) (λ c. old.shown x c ∙ ap stamp_of was) (λ s _. old.shown s) s;
+    tag = λ s t. put_all holding x (cut_by j) (λ s h. IsRow l s → h ≡ retired t → t ≤ e) (λ _ is. let z : 2 ≡ 3 = ap sort is in absurd (omega arith)) (λ s _. old.tag s t) s;
+    ripe = λ k s t c i. let h = old.ripe k s t c i in (h.0, put_else holding x (cut_by j) s (λ (is : s ≡ x). let z : 3 ≡ 1 = ap sort (sym h.1 ∙ (ap holding is ∙ was)) in omega arith) ∙ h.1);
+  }
+
+module _ (c : Core) (j : ℕ) (cell : Cell) (x : ℕ) (l : Link) (b : j < c.start.layout.workers) (may : MayCut cell x l (caller_of c j))
+    (val : (link_at c.words.head c.words.link cell).mark ≡ Val) (names : (link_at c.words.head c.words.link cell).row ≡ x) (inv : Inv c) where
+  abbrev n : ℕ
+  n = c.start.layout.workers
+
+  -- the list that the row leaves, and what is left of it
+  abbrev q : ℕ
+  q = head_of c.words.control (c.words.event x)
+
+  abbrev left : List ℕ
+  left = without_row x (c.chain q)
+
+  abbrev heads : ℕ → Link
+  heads = heads_cut c.words.head c.words.link l.row cell
+
+  abbrev links : ℕ → Link
+  links = links_cut c.words.head c.words.link l.row cell
+
+  abbrev holding : ℕ → Holding
+  holding = put c.holding x (cut_by j)
+
+  abbrev now_cut : CutRow
+  now_cut = record { row = x; tags = [] }
+
+  abbrev now_position : Position
+  now_position = record (c.position j) { rows = without_stand x (c.position j).rows }
+
+  abbrev now_debts : Debts
+  now_debts = record (c.debts j) { cut = unnamed x (c.debts j).cut }
+
+  abbrev WasCovered : ℕ → ℕ → ℕ → Type 0
+  WasCovered = Covers n c.words.link c.words.twin c.guard c.position c.debts
+
+  abbrev IsCovered : ℕ → ℕ → ℕ → Type 0
+  IsCovered = Covers n links c.words.twin c.guard (put c.position j now_position) (put c.debts j now_debts)
+
+  -- The row x, on which the caller stands, and the cell
+
+  at_x : c.words.link x ≡ l
+  at_x = subst (λ z. c.words.link z ≡ l) may.on.2 (inv.standing.last j may.on.0 l b may.on.1 may.on.3).0
+
+  dead : (c.words.link x).mark ≡ Del
+  dead = ap (λ (z : Link). z.mark) at_x ∙ may.dead
+
+  on : (g : ℕ) × (c.guard j ≡ On g)
+  on = ⊎_elim (λ h. h) (λ off. absurd (subst (In may.on.0.row) (inv.cover.resting j b off) (in_front _ _ _ (stand_row (c.position j).rows may.on.0 may.on.1)))) (on_or_not (c.guard j))
+
+  covered : (r : ℕ) (e : Event) → StandsOn (c.position j).rows r e → WasCovered j on.0 r
+  covered r e s = subst (WasCovered j on.0) s.2
+      (record { inside = b; on = on.1; at = s.0.row; stands = in_front _ _ _ (stand_row (c.position j).rows s.0 s.1); reaches = record { through = []; path = refl } })
+
+  covered_x : WasCovered j on.0 x
+  covered_x = covered x may.on.0.event (may.on.0, may.on.1, may.on.2, refl)
+
+  row_x : IsRow c.start.layout x
+  row_x = inv.lanes.is_row j on.0 x covered_x
+
+  -- a covered row that is present is listed
+  present_listed : (r : ℕ) → WasCovered j on.0 r → (c.words.link r).mark ≡ Val → (k : ℕ) × (c.holding r ≡ listed k)
+  present_listed r v present = held (c.holding r) refl
+    where
+      held : (h : Holding) → c.holding r ≡ h → (k : ℕ) × (c.holding r ≡ listed k)
+      held (in_hand i) is = absurd (inv.cover.free j on.0 r i v is)
+      held (listed k) is = (k, is)
+      held (cut_by i) is = absurd (del_val (sym (subst (λ h. MarkFits h (c.words.link r).mark) is (inv.marks.mark r (inv.lanes.is_row j on.0 r v))) ∙ present))
+      held (retired t) is = absurd (del_val (sym (subst (λ h. MarkFits h (c.words.link r).mark) is (inv.marks.mark r (inv.lanes.is_row j on.0 r v))) ∙ present))
+
+  abbrev IsCellOf : ℕ → Cell → Type 0
+  IsCellOf k (at_head h) = h ≡ k
+  IsCellOf k (at_row p) = In p (c.chain k)
+
+  cell_list : (z : Cell) → MayWalk (c.position j).rows z → (link_at c.words.head c.words.link z).mark ≡ Val → (link_at c.words.head c.words.link z).row ≡ x → (k : ℕ) × IsHead k × In x (c.chain k) × IsCellOf k z
+  cell_list (at_head h) is present to = (h, is, first_in c.words.link x (c.chain h) row_x.0 (subst (λ z. Leads c.words.link z (c.chain h)) to (inv.chains.leads h is)), refl)
+  cell_list (at_row p) is present to = let v = covered p is.0 is.1 in let k = present_listed p v present in let o = inv.holders.of_chain k.0 p (inv.lanes.is_row j on.0 p v) k.1 in
+      (k.0, o.0, next_in c.words.link (c.words.head k.0).row p x (c.chain k.0) row_x.0 to (inv.chains.leads k.0 o.0) o.1, o.1)
+
+  place : IsHead q × In x (c.chain q) × IsCellOf q cell
+  place = let k = cell_list cell may.cell_is val names in subst (λ z. IsHead z × In x (c.chain z) × IsCellOf z cell) (sym (inv.sorted.belongs k.0 x k.1 k.2)) (k.1, k.2, k.3)
+
+  was : c.holding x ≡ listed q
+  was = (inv.holders.in_chain q x place.0 place.1).1
+
+  lone : c.words.twin x ≡ 0
+  lone = subst (λ h. TwinFits h (c.words.twin x)) was (inv.marks.twin_is x row_x)
+
+  -- The change of the links
+
+  changed : (r : ℕ) → (links r ≡ c.words.link r) ⊎ ((cell ≡ at_row r) × ((links r).row ≡ l.row))
+  changed = link_is c.words.head c.words.link l.row cell
+
+  present : (r : ℕ) → cell ≡ at_row r → (c.words.link r).mark ≡ Val
+  present r e = subst (λ z. (link_at c.words.head c.words.link z).mark ≡ Val) e val
+
+  to_x : (r : ℕ) → cell ≡ at_row r → (c.words.link r).row ≡ x
+  to_x r e = subst (λ z. (link_at c.words.head c.words.link z).row ≡ x) e names
+
+  cell_covered : (r : ℕ) → cell ≡ at_row r → WasCovered j on.0 r
+  cell_covered r e = let s = subst (MayWalk (c.position j).rows) e may.cell_is in covered r s.0 s.1
+
+  passes : Passes x c.words.link links
+  passes r = ⊎_elim inl (λ (h : (cell ≡ at_row r) × ((links r).row ≡ l.row)). inr (to_x r h.0, h.1 ∙ sym (ap (λ (z : Link). z.row) at_x))) (changed r)
+
+  -- The parts
+
+  heads_part : Heads c.words.control heads
+  heads_part = record {
+    steady = inv.heads.steady;
+    one = inv.heads.one;
+    opened = λ h a o. let old = inv.heads.opened h a o in (head_mark c.words.head c.words.link l.row cell h ∙ old.0, head_generation c.words.head c.words.link l.row cell h ∙ old.1);
+    shut = λ h a s. head_shut c.words.head c.words.link l.row c.words.control cell val h (inv.heads.shut h a s);
+  }
+
+  in_before : (k r : ℕ) → In r (put c.chain q left k) → In r (c.chain k)
+  in_before k r = put_all c.chain q left (λ k xs. In r xs → In r (c.chain k)) (in_without_row x r (c.chain q)) (λ _ _ i. i) k
+
+  sorted_part : Sorted c.words.control heads links c.words.event (put c.chain q left)
+  sorted_part = record {
+    rises = put_all c.chain q left (λ k xs. IsHead k → Rises (ranks c.words.event) 0 xs) (λ a. rises_without (ranks c.words.event) 0 x (c.chain q) (inv.sorted.rises q a)) (λ k _. inv.sorted.rises k);
+    belongs = λ k r a i. inv.sorted.belongs k r a (in_before k r i);
+    generation = λ k r a i. link_generation c.words.head c.words.link l.row cell r ∙ (inv.sorted.generation k r a (in_before k r i) ∙ sym (head_generation c.words.head c.words.link l.row cell k));
+  }
+
+  leads_part : (z : Cell) → IsCellOf q z → (link_at c.words.head c.words.link z).row ≡ x → (k : ℕ) → IsHead k
+      → Leads (links_cut c.words.head c.words.link l.row z) (heads_cut c.words.head c.words.link l.row z k).row (put c.chain q left k)
+  leads_part (at_head h) is to k = let new : Link = record (c.words.head h) { row = l.row } in
+      put_all c.chain q left (λ k xs. IsHead k → Leads c.words.link (put c.words.head h new k).row xs)
+      (λ a. let from : Leads c.words.link x (c.chain q) = subst (λ z. Leads c.words.link z (c.chain q)) (ap (λ z. (c.words.head z).row) (sym is) ∙ to) (inv.chains.leads q a) in
+      subst (λ z. Leads c.words.link z left) (sym (ap (λ (z : Link). z.row) (ap (put c.words.head h new) (sym is) ∙ put_here c.words.head h new) ∙ ap (λ (z : Link). z.row) (sym at_x))) (leads_first c.words.link x (c.chain q) row_x.0 from))
+      (λ k ne a. subst (λ (z : Link). Leads c.words.link z.row (c.chain k)) (sym (put_else c.words.head h new k (λ e. ne (e ∙ is)))) (inv.chains.leads k a)) k
+  leads_part (at_row p) is to k = let new : Link = record (c.words.link p) { row = l.row } in
+      put_all c.chain q left (λ k xs. IsHead k → Leads (put c.words.link p new) (c.words.head k).row xs)
+      (λ a. leads_without c.words.link (ranks c.words.event) p x new 0 (c.words.head q).row (c.chain q) row_x.0 to (ap (λ (z : Link). z.row) (sym at_x)) (inv.sorted.rises q a) (inv.chains.leads q a) is)
+      (λ k ne a. leads_else c.words.link p new (c.words.head k).row (c.chain k) (λ i. ne (sym (inv.sorted.belongs k p a i) ∙ inv.sorted.belongs q p place.0 is)) (inv.chains.leads k a)) k
+
+  chains_part : Chains heads links c.words.twin (put c.chain q left)
+  chains_part = record {
+    leads = leads_part cell place.2 names;
+    twins = λ k r a i. let h = inv.holders.in_chain k r a (in_before k r i) in inl (subst (λ z. TwinFits z (c.words.twin r)) h.1 (inv.marks.twin_is r h.0));
+  }
+
+  marks_part : Marks c.start.layout links c.words.twin holding
+  marks_part = record {
+    mark = λ r row. subst (MarkFits (holding r)) (sym (link_mark c.words.head c.words.link l.row cell r))
+        (put_all c.holding x (cut_by j) (λ s h. IsRow c.start.layout s → MarkFits h (c.words.link s).mark) (λ _. dead) (λ s _. inv.marks.mark s) r row);
+    twin_is = put_all c.holding x (cut_by j) (λ s h. IsRow c.start.layout s → TwinFits h (c.words.twin s)) (λ _. lone) (λ s _. inv.marks.twin_is s);
+  }
+
+  -- what is covered was covered
+  stands_before : (k a : ℕ) → In a (standing (put c.position j now_position k) (put c.debts j now_debts k)) → In a (standing (c.position k) (c.debts k))
+  stands_before k a = put_all c.position j now_position (λ i p. In a (standing p (put c.debts j now_debts i)) → In a (standing (c.position i) (c.debts i)))
+      (λ i. row_left x (c.position j).rows _ a (subst (λ z. In a (standing now_position z)) (put_here c.debts j now_debts) i))
+      (λ i ne h. subst (λ z. In a (standing (c.position i) z)) (put_else c.debts j now_debts i ne) h) k
+
+  before : (k g r : ℕ) → IsCovered k g r → WasCovered k g r
+  before k g r v = record { inside = v.inside; on = v.on; at = v.at; stands = stands_before k v.at v.stands; reaches = path_cut c.words.link links c.words.twin x passes row_x.0 v.at r v.reaches.through v.reaches.path }
+
+  tag_before : (r t : ℕ) → HasTag n (put c.cut j (Some now_cut)) holding r t → HasTag n c.cut c.holding r t
+  tag_before r t has = ⊎_elim
+      (λ is. inl (put_all c.holding x (cut_by j) (λ s h. h ≡ retired t → c.holding s ≡ retired t) (λ e. let z : 2 ≡ 3 = ap sort e in absurd (omega arith)) (λ _ _ e. e) r is))
+      (λ (h : (i : ℕ) × (y : CutRow) × (i < n) × (put c.cut j (Some now_cut) i ≡ Some y) × (y.row ≡ r) × In t y.tags). inr (
+        h.0,
+        h.1,
+        h.2,
+        put_all c.cut j (Some now_cut) (λ i o. o ≡ Some h.1 → c.cut i ≡ Some h.1) (λ e. absurd (subst (λ (z : CutRow). In t z.tags) (sym (some_some now_cut h.1 e)) h.5)) (λ _ _ e. e) h.0 h.3,
+        h.4,
+        h.5,
+      ))
+      has
+
+  cover_part : Cover n links c.words.twin c.guard (put c.position j now_position) (put c.debts j now_debts) (put c.cut j (Some now_cut)) holding
+  cover_part = record {
+    free = λ k g r i v. put_all c.holding x (cut_by j) (λ s h. WasCovered k g s → h ≡ in_hand i → ⊥) (λ _ e. let z : 2 ≡ 0 = ap sort e in absurd (omega arith)) (λ s _ w. inv.cover.free k g s i w) r (before k g r v);
+    tags = λ k g r t v has. inv.cover.tags k g r t (before k g r v) (tag_before r t has);
+    resting = λ k. put_all c.position j now_position (λ i p. i < n → (IsOn (c.guard i) → ⊥) → standing p (put c.debts j now_debts i) ≡ [])
+        (λ _ off. absurd (off (on_is (c.guard j) on.0 on.1)))
+        (λ i ne a off. subst (λ z. standing (c.position i) z ≡ []) (sym (put_else c.debts j now_debts i ne)) (inv.cover.resting i a off)) k;
+  }
+
+  -- what holds of each covered row and the next one, and goes on along the rows, holds now
+  along : (P : ℕ → ℕ → Type 0) → ((r s t : ℕ) → P r s → P s t → P r t) → ((k g r : ℕ) → WasCovered k g r → 0 < (c.words.link r).row → P r (c.words.link r).row)
+      → (k g r : ℕ) → IsCovered k g r → 0 < (links r).row → P r (links r).row
+  along P on_and_on old k g r v = ⊎_elim
+      (λ (e : links r ≡ c.words.link r). subst (λ (z : Link). 0 < z.row → P r z.row) (sym e) (old k g r (before k g r v)))
+      (λ (h : (cell ≡ at_row r) × ((links r).row ≡ l.row)). subst (λ z. 0 < z → P r z) (sym h.1)
+      (λ some. on_and_on r x l.row (subst (λ z. 0 < z → P r z) (to_x r h.0) (old j on.0 r (cell_covered r h.0)) row_x.0) (subst (λ (z : Link). 0 < z.row → P x z.row) at_x (old j on.0 x covered_x) some)))
+      (changed r)
+
+  lanes_part : Lanes c.start.layout c.words.control links c.words.twin c.words.event c.guard (put c.position j now_position) (put c.debts j now_debts)
+  lanes_part = record {
+    is_row = λ k g r v. inv.lanes.is_row k g r (before k g r v);
+    rises = along (λ r s. ranks c.words.event r < ranks c.words.event s) (λ r s t lo hi. omega arith) inv.lanes.rises;
+    stays = along (λ r s. head_of c.words.control (c.words.event s) ≡ head_of c.words.control (c.words.event r)) (λ r s t lo hi. hi ∙ lo) inv.lanes.stays;
+    generation = λ k g r v some. link_generation c.words.head c.words.link l.row cell (links r).row
+        ∙ (along (λ r s. (c.words.link s).generation ≡ (c.words.link r).generation) (λ r s t lo hi. hi ∙ lo) inv.lanes.generation k g r v some ∙ sym (link_generation c.words.head c.words.link l.row cell r));
+  }
+
+  still_last : (k : ℕ) (s : Stand) (m : Link) → k < n → In s (c.position k).rows → s.last ≡ Some m → (links s.row ≡ m) × IsFinal m.mark
+  still_last k s m a i is = let o = inv.standing.last k s m a i is in
+      (⊎_elim (λ e. e ∙ o.0) (λ (h : (cell ≡ at_row s.row) × ((links s.row).row ≡ l.row)). absurd (val_final m.mark (ap (λ (z : Link). z.mark) (sym o.0) ∙ present s.row h.0) o.1)) (changed s.row), o.1)
+
+  standing_part : Standing n links c.words.event (put c.position j now_position)
+  standing_part = record {
+    holds = λ k s. put_all c.position j now_position (λ i p. i < n → In s p.rows → c.words.event s.row ≡ s.event) (λ a i. inv.standing.holds j s a (stand_left x (c.position j).rows s i)) (λ i _. inv.standing.holds i s) k;
+    last = λ k s m. put_all c.position j now_position (λ i p. i < n → In s p.rows → s.last ≡ Some m → (links s.row ≡ m) × IsFinal m.mark)
+        (λ a i. still_last j s m a (stand_left x (c.position j).rows s i)) (λ i _. still_last i s m) k;
+  }
+
+  writing_part : Writing n links c.words.twin c.words.event c.hand c.written
+  writing_part = record {
+    in_hand_is = inv.writing.in_hand_is;
+    placed = inv.writing.placed;
+    stands = λ k y a i. ⊎_elim
+        (λ (e : links y.row ≡ c.words.link y.row). subst (λ (z : Link). row_word z (c.words.twin y.row) (c.words.event y.row) y.place ≡ y.word) (sym e) (inv.writing.stands k y a i))
+        (λ (h : (cell ≡ at_row y.row) × ((links y.row).row ≡ l.row)). absurd (inv.cover.free j on.0 y.row k (cell_covered y.row h.0) (inv.holders.held k y.row a (inv.writing.in_hand_is k y a i)).1))
+        (changed y.row);
+  }
+
+  listed_before : (r k : ℕ) → holding r ≡ listed k → (c.holding r ≡ listed k) × (r ≢ x)
+  listed_before r k = put_all c.holding x (cut_by j) (λ s h. h ≡ listed k → (c.holding s ≡ listed k) × (s ≢ x)) (λ e. let z : 2 ≡ 1 = ap sort e in absurd (omega arith)) (λ s ne e. (e, ne)) r
+
+  naming_part : Naming c.start.layout c.words.control links c.words.event (put c.debts j now_debts) holding
+  naming_part = record {
+    named = λ r k row is del. let o = listed_before r k is in let e = c.words.event r in let old = inv.naming.named r k row o.0 (sym (link_mark c.words.head c.words.link l.row cell r) ∙ del) in (
+      old.0,
+      old.1,
+      put_all c.debts j now_debts (λ i d. IsNamed (c.debts i).cut r e ⊎ IsNamed (c.debts i).second_cut r e → IsNamed d.cut r e ⊎ IsNamed d.second_cut r e)
+          (λ h. ⊎_elim (λ h. inl (named_left x r e (c.debts j).cut o.1 h)) inr h) (λ _ _ h. h) old.0 old.2,
+    );
+    place = λ k d. put_all c.debts j now_debts (λ i o. i < n → o.cut ≡ Some d → (d.head ≡ head_of c.words.control d.event) × IsRow c.start.layout d.row × IsEvent d.event) (λ a is. inv.naming.place j d a (debt_left x (c.debts j).cut d is)) (λ i _. inv.naming.place i d) k;
+  }
+
+  -- The row x was dead, so the same rows are live
+  not_x : (r : ℕ) → IsLive c.start.layout c.words.link c.holding r → r ≢ x
+  not_x r v e = del_val (sym dead ∙ (ap (λ z. (c.words.link z).mark) (sym e) ∙ v.2))
+
+  live_now : (r : ℕ) → IsLive c.start.layout c.words.link c.holding r → IsLive c.start.layout links holding r
+  live_now r v = (v.0, (v.1.0, put_else c.holding x (cut_by j) r (not_x r v) ∙ v.1.1), link_mark c.words.head c.words.link l.row cell r ∙ v.2)
+
+  live_before : (r : ℕ) → IsLive c.start.layout links holding r → IsLive c.start.layout c.words.link c.holding r
+  live_before r v = (v.0, (v.1.0, (listed_before r v.1.0 v.1.1).0), sym (link_mark c.words.head c.words.link l.row cell r) ∙ v.2)
+
+  carriers_part : Carriers c.start.layout c.history links c.words.event holding
+  carriers_part = record {
+    carried = λ e p. let o = inv.carriers.carried e p in (o.0, live_now o.0 o.1, o.2);
+    pending = λ r v. inv.carriers.pending r (live_before r v);
+    one = λ r s v w. inv.carriers.one r s (live_before r v) (live_before s w);
+  }
+
+  from_before : (at : ℕ) (e : Event) → StandsFrom c.start.layout c.words.link c.words.twin c.words.event c.holding at e → StandsFrom c.start.layout links c.words.twin c.words.event holding at e
+  from_before at e s = record {
+    row = s.row;
+    some_row = s.some_row;
+    live = live_now s.row s.live;
+    holds = s.holds;
+    reached = path_pass c.words.link links c.words.twin x passes lone at s.row s.reached.through (not_x s.row s.live) s.reached.path;
+  }
+
+  walkers_part : Walkers c.start.layout c.words.control c.history c.begun links c.words.twin c.words.event holding (put c.position j now_position) (put c.walk j None)
+  walkers_part = record {
+    opened = λ k w. put_all c.walk j None (λ i o. i < n → o ≡ Some w → IsHead w.head × IsOpen c.words.control w.head) (λ _ e. absurd (no_walk w e)) (λ i _. inv.walkers.opened i w) k;
+    at_stand = λ k w. put_all c.walk j None (λ i o. i < n → o ≡ Some w → (w.at ≡ 0) ⊎ In w.at (rows_of (put c.position j now_position i).rows)) (λ _ e. absurd (no_walk w e))
+        (λ i ne a e. subst (λ (z : Position). (w.at ≡ 0) ⊎ In w.at (rows_of z.rows)) (sym (put_else c.position j now_position i ne)) (inv.walkers.at_stand i w a e)) k;
+    left = λ k w front back e a is split long of_head was_put not_out. from_before w.at e (inv.walkers.left k w front back e a (walk_before k w is) split long of_head was_put not_out);
+  }
+    where
+      walk_before : (k : ℕ) (w : Walk) → put c.walk j None k ≡ Some w → c.walk k ≡ Some w
+      walk_before k w = put_all c.walk j None (λ i o. o ≡ Some w → c.walk i ≡ Some w) (λ e. absurd (no_walk w e)) (λ _ _ e. e) k
+
+  low : l.row < 2 ^ 24
+  low = subst (λ (z : Link). z.row < 2 ^ 24) at_x (inv.spelled.links x row_x).row
+
+  spelled_part : Spelled c.start.layout c.words.control c.words.current c.words.pin heads links c.words.twin c.words.event
+  spelled_part = record {
+    is_control = inv.spelled.is_control;
+    is_current = inv.spelled.is_current;
+    is_pin = inv.spelled.is_pin;
+    heads = head_spelled c.words.head c.words.link l.row low inv.spelled.heads cell;
+    links = link_spelled c.words.head c.words.link l.row c.start.layout low inv.spelled.links cell;
+    twins = inv.spelled.twins;
+    events = inv.spelled.events;
+  }
+
+  cut_inv : Inv (cut_from c j cell x l)
+  cut_inv = record {
+    spelled = spelled_part;
+    reading = read_cut _ _ _ _ _ _ _ _ j (Some now_cut) (λ t y _ is i. absurd (subst (λ (z : CutRow). In t z.tags) (sym (some_some now_cut y is)) i)) inv.reading;
+    guards = inv.guards;
+    holders = holders_cut _ _ _ _ _ j q x b may.none row_x was (gone (ranks c.words.event) 0 x (c.chain q) (inv.sorted.rises q place.0)) inv.holders;
+    cutting = cutting_cut _ _ _ j (Some now_cut) (λ _ _ _. on_is (c.guard j) on.0 on.1) inv.cutting;
+    stamps = stamps_cut _ c.hand c.cut c.chain _ _ _ _ j q x was inv.stamps;
+    chains = chains_part;
+    cover = cover_part;
+    heads = heads_part;
+    sorted = sorted_part;
+    marks = marks_part;
+    standing = standing_part;
+    lanes = lanes_part;
+    writing = writing_part;
+    naming = naming_part;
+    carriers = carriers_part;
+    told = inv.told;
+    walkers = walkers_part;
+  }
+
+-- Cut
+pub cut_keeps : (c : Core) (j : ℕ) (cell : Cell) (x : ℕ) (l : Link) → j < c.start.layout.workers → MayCut cell x l (caller_of c j) → (link_at c.words.head c.words.link cell).mark ≡ Val → (link_at c.words.head c.words.link cell).row ≡ x
+    → Inv c → Inv (cut_from c j cell x l)
+cut_keeps = cut_inv

@@ -1,0 +1,540 @@
+-- A row in hand that comes after a cell of its list keeps the invariant.
+use Rattle.std.proofs.Common.{◌≡◌, ◌≢◌, ◌⊎◌, ⊎_elim, inl, inr, ℕ, ◌+◌, ◌*◌, ◌^◌, ◌<◌, ◌≤◌, List, [], ◌∷◌, ◌++◌, cond, Some, sym, refl, ap, ◌∙◌, subst, arith, eq-eqb, ne_eqb}
+use Rattle.std.specs.Prelude.{Contains}
+use mathlib.Core.Logic.{dite}
+use native.Mathlib.Decide.{ℕ_discrete}
+use Rattle.crq_base.specs.declared.event.Event.{Event}
+use Rattle.crq_base.specs.declared.words.Link.{Link}
+use Rattle.crq_base.specs.declared.words.Mark.{Mark}
+use Rattle.crq_base.specs.declared.words.Mark.TheVariants.{Val, Mov, Del}
+use Rattle.crq_base.specs.Words.{IsLink}
+use Rattle.crq_base.specs.Histories.{puts}
+use Rattle.crq_base.proofs.WordLaws.{link_one}
+use Rattle.crq_rule.specs.declared.view.Guard.{Guard}
+use Rattle.crq_rule.specs.declared.view.Guard.TheVariants.{Off, Entering, On}
+use Rattle.crq_rule.specs.declared.view.CutRow.{CutRow}
+use Rattle.crq_rule.specs.declared.view.Stand.{Stand}
+use Rattle.crq_rule.specs.declared.view.Wrote.{Wrote}
+use Rattle.crq_rule.specs.Lists.{put, In, IsOnce}
+use Rattle.crq_rule.specs.Places.{IsRow, IsHomeRow, IsHead}
+use Rattle.crq_rule.specs.Core.{Core, caller_of, Holding, in_hand, listed, cut_by, retired}
+use Rattle.crq_rule.specs.Parts.{Spelled, IsEvent, Holders, Stamps, stamp_of, Chains, Leads, Names, IsPath, Reaches, rows_of, standing, Covers, Cover, HasTag, IsOn}
+use Rattle.crq_rule.specs.ListParts.{ranks, Heads, IsShutHead, Sorted, MarkFits, TwinFits, Marks, IsFinal, Standing, Lanes, row_word, Writing, IsNamed, Naming}
+use Rattle.crq_rule.specs.HistoryParts.{IsLive, Carriers, Walkers}
+use Rattle.crq_rule.specs.Ranks.{rank, head_of, IsOpen, Cell, at_head, at_row, link_at, heads_set, links_set, Rises, after_cell}
+use Rattle.crq_rule.specs.Invariant.{Inv}
+use Rattle.crq_rule.specs.ListKinds.{unhanded, forgotten, put_entries, linked, StandsOn, ComesAfter, MayLink}
+use Rattle.crq_rule.proofs.Puts.{put_here, put_else, put_all}
+use Rattle.crq_rule.proofs.PartLaws.{home_is_row, sort, of_whom, apart}
+use Rattle.crq_rule.proofs.HistoryLaws.{fresh_put, told_put, pending_put, put_pending, outs_put, not_out, front_of}
+use Rattle.crq_rule.proofs.ChainLaws.{IsOf, IsBelow, cell_leads, cell_rises, in_cell, cell_in, cell_next, leads_else, links_else, heads_else, links_same, heads_same, links_all, heads_all}
+
+-- Lists
+
+-- what was written into other rows
+in_forgotten : (r : ℕ) (xs : List Wrote) (x : Wrote) → In x (forgotten r xs) → In x xs × (x.row ≢ r)
+in_forgotten r [] x i = absurd i
+in_forgotten r (y ∷ ys) x i = dite (ℕ_discrete y.row r)
+    (λ e. let t = in_forgotten r ys x (subst (λ b. In x (cond b (forgotten r ys) (y ∷ forgotten r ys))) (eq-eqb y.row r e) i) in (inr t.0, t.1))
+    (λ ne. ⊎_elim (λ (e : x ≡ y). (inl e, λ z. ne (ap (λ (w : Wrote). w.row) (sym e) ∙ z))) (λ (t : In x (forgotten r ys)). let h = in_forgotten r ys x t in (inr h.0, h.1))
+    (subst (λ b. In x (cond b (forgotten r ys) (y ∷ forgotten r ys))) (ne_eqb y.row r ne) i))
+
+in_unhanded : (r s : ℕ) (xs : List ℕ) → In s (unhanded r xs) → In s xs
+in_unhanded r s [] i = absurd i
+in_unhanded r s (x ∷ xs) i = dite (ℕ_discrete x r)
+    (λ e. inr (subst (λ b. In s (cond b xs (x ∷ unhanded r xs))) (eq-eqb x r e) i))
+    (λ ne. ⊎_elim (λ (e : s ≡ x). inl e) (λ (t : In s (unhanded r xs)). inr (in_unhanded r s xs t)) (subst (λ b. In s (cond b xs (x ∷ unhanded r xs))) (ne_eqb x r ne) i))
+
+unhanded_else : (r s : ℕ) (xs : List ℕ) → IsOnce xs → In s (unhanded r xs) → s ≢ r
+unhanded_else r s [] once i = absurd i
+unhanded_else r s (x ∷ xs) once i = dite (ℕ_discrete x r)
+    (λ (e : x ≡ r) (z : s ≡ r). once.0 (subst (λ y. In y xs) (z ∙ sym e) (subst (λ b. In s (cond b xs (x ∷ unhanded r xs))) (eq-eqb x r e) i)))
+    (λ ne. ⊎_elim (λ (e : s ≡ x) (z : s ≡ r). ne (sym e ∙ z)) (λ (t : In s (unhanded r xs)). unhanded_else r s xs once.1 t) (subst (λ b. In s (cond b xs (x ∷ unhanded r xs))) (ne_eqb x r ne) i))
+
+unhanded_in : (r s : ℕ) (xs : List ℕ) → In s xs → s ≢ r → In s (unhanded r xs)
+unhanded_in r s [] i ne = absurd i
+unhanded_in r s (x ∷ xs) i ne = dite (ℕ_discrete x r)
+    (λ (e : x ≡ r). subst (λ b. In s (cond b xs (x ∷ unhanded r xs))) (sym (eq-eqb x r e)) (⊎_elim (λ (z : s ≡ x). absurd (ne (z ∙ e))) (λ t. t) i))
+    (λ no. subst (λ b. In s (cond b xs (x ∷ unhanded r xs))) (sym (ne_eqb x r no)) (⊎_elim (λ (z : s ≡ x). inl z) (λ (t : In s xs). inr (unhanded_in r s xs t ne)) i))
+
+unhanded_once : (r : ℕ) (xs : List ℕ) → IsOnce xs → IsOnce (unhanded r xs)
+unhanded_once r [] once = tt
+unhanded_once r (x ∷ xs) once = dite (ℕ_discrete x r)
+    (λ e. subst (λ b. IsOnce (cond b xs (x ∷ unhanded r xs))) (sym (eq-eqb x r e)) once.1)
+    (λ ne. subst (λ b. IsOnce (cond b xs (x ∷ unhanded r xs))) (sym (ne_eqb x r ne)) (λ i. once.0 (in_unhanded r x xs i), unhanded_once r xs once.1))
+
+in_rows : (s : Stand) (ss : List Stand) (xs : List ℕ) → In s ss → In s.row (rows_of ss ++ xs)
+in_rows s [] xs i = absurd i
+in_rows s (t ∷ ts) xs i = ⊎_elim (λ (e : s ≡ t). inl (ap (λ (z : Stand). z.row) e)) (λ (h : In s ts). inr (in_rows s ts xs h)) i
+
+-- Paths
+
+module _ (link : ℕ → Link) (twin : ℕ → ℕ) where
+  -- one more row at the front of a path
+  longer : (a s b : ℕ) → Names link twin a s → Reaches link twin s b → Reaches link twin a b
+  longer a s b n t = record { through = s ∷ t.through; path = (n, t.path) }
+
+  module _ (p r : ℕ) (new : Link) (is : new.row ≡ r) (same : (link r).row ≡ (link p).row) where
+    named_before : (a s : ℕ) → Names (put link p new) twin a s → ((a ≡ p) × (s ≡ r)) ⊎ Names link twin a s
+    named_before a s n = ⊎_elim
+        (λ (h : (put link p new a).row ≡ s). dite (ℕ_discrete a p)
+        (λ (e : a ≡ p). inl (e, sym h ∙ (ap (λ z. (put link p new z).row) e ∙ (ap (λ (y : Link). y.row) (put_here link p new) ∙ is))))
+        (λ ne. inr (n.0, inl (ap (λ (y : Link). y.row) (sym (put_else link p new a ne)) ∙ h))))
+        (λ h. inr (n.0, inr h)) n.1
+
+    -- what the new links reach is the row r, or was reached by the old ones
+    path_before : (a b : ℕ) (xs : List ℕ) → twin r ≡ 0 → (Reaches link twin a r → ⊥) → IsPath (put link p new) twin a xs b → (b ≡ r) ⊎ Reaches link twin a b
+    path_before a b [] none out path = inr (record { through = []; path = path })
+    path_before a b (s ∷ []) none out path = ⊎_elim (λ (t : (a ≡ p) × (s ≡ r)). inl (sym path.1 ∙ t.1)) (λ n. inr (record { through = s ∷ []; path = (n, path.1) })) (named_before a s path.0)
+    path_before a b (s ∷ t ∷ ts) none out path = ⊎_elim
+        (λ (h : (a ≡ p) × (s ≡ r)). let n : Names link twin a t = ⊎_elim
+        (λ (g : (s ≡ p) × (t ≡ r)). absurd (out (record { through = []; path = h.0 ∙ (sym g.0 ∙ h.1) })))
+        (λ (n : Names link twin s t). (
+          n.0,
+          ⊎_elim (λ (g : (link s).row ≡ t). inl (ap (λ z. (link z).row) h.0 ∙ (sym same ∙ (ap (λ z. (link z).row) (sym h.1) ∙ g))))
+              (λ (g : twin s ≡ t). let z : twin s ≡ 0 = ap twin h.1 ∙ none in let some = n.0 in absurd (omega arith)) n.1,
+        ))
+        (named_before s t path.1.0) in
+        ⊎_elim inl (λ u. inr (longer a t b n u)) (path_before t b ts none (λ u. out (longer a t r n u)) path.1.1))
+        (λ n. ⊎_elim inl (λ u. inr (longer a s b n u)) (path_before s b (t ∷ ts) none (λ u. out (longer a s r n u)) path.1))
+        (named_before a s path.0)
+
+    -- what the old links reach, the new ones do
+    path_after : (a b : ℕ) (xs : List ℕ) → 0 < r → r ≢ p → IsPath link twin a xs b → Reaches (put link p new) twin a b
+    path_after a b [] some ne path = record { through = []; path = path }
+    path_after a b (s ∷ ss) some ne path = let t = path_after s b ss some ne path.1 in ⊎_elim
+        (λ (h : (link a).row ≡ s). dite (ℕ_discrete a p)
+        (λ (e : a ≡ p). record {
+          through = r ∷ s ∷ t.through;
+          path = (
+            (some, inl (ap (λ z. (put link p new z).row) e ∙ (ap (λ (y : Link). y.row) (put_here link p new) ∙ is))),
+            ((path.0.0, inl (ap (λ (y : Link). y.row) (put_else link p new r ne) ∙ (same ∙ (ap (λ z. (link z).row) (sym e) ∙ h)))), t.path),
+          );
+        })
+        (λ no. record { through = s ∷ t.through; path = ((path.0.0, inl (ap (λ (y : Link). y.row) (put_else link p new a no) ∙ h)), t.path) }))
+        (λ h. record { through = s ∷ t.through; path = ((path.0.0, inr h), t.path) }) path.0.1
+
+reaches_before : (cell : Cell) (head link : ℕ → Link) (twin : ℕ → ℕ) (r a b : ℕ) (new : Link) → new.row ≡ r → (link r).row ≡ (link_at head link cell).row → twin r ≡ 0 → (Reaches link twin a r → ⊥)
+    → Reaches (links_set link cell new) twin a b → (b ≡ r) ⊎ Reaches link twin a b
+reaches_before (at_head h) head link twin r a b new is same none out t = inr t
+reaches_before (at_row p) head link twin r a b new is same none out t = path_before link twin p r new is same a b t.through none out t.path
+
+reaches_after : (cell : Cell) (head link : ℕ → Link) (twin : ℕ → ℕ) (q r a b : ℕ) (xs : List ℕ) (new : Link) → new.row ≡ r → (link r).row ≡ (link_at head link cell).row → 0 < r → IsOf cell q xs → (In r xs → ⊥)
+    → Reaches link twin a b → Reaches (links_set link cell new) twin a b
+reaches_after (at_head h) head link twin q r a b xs new is same some of out t = t
+reaches_after (at_row p) head link twin q r a b xs new is same some of out t = path_after link twin p r new is same a b t.through some (λ (z : r ≡ p). out (subst (λ y. In y xs) (sym z) of)) t.path
+
+-- What is known before the step
+
+val_del : Val ≡ Del → ⊥
+val_del e = cc
+
+val_mov : Val ≡ Mov → ⊥
+val_mov e = cc
+
+not_final : (m : Mark) → m ≡ Val → IsFinal m → ⊥
+not_final m is final = subst IsFinal is final
+
+on_is : (g : Guard) → IsOn g → (x : ℕ) × (g ≡ On x)
+on_is Off on = absurd on
+on_is (Entering y) on = absurd on
+on_is (On x) on = (x, refl)
+
+-- a present row that isn't in hand is listed
+listed_is : (h : Holding) (m : Mark) → MarkFits h m → m ≡ Val → ((k : ℕ) → h ≡ in_hand k → ⊥) → (q : ℕ) × (h ≡ listed q)
+listed_is (in_hand k) m fits is none = absurd (none k refl)
+listed_is (listed q) m fits is none = (q, refl)
+listed_is (cut_by k) m fits is none = absurd (val_del (sym is ∙ fits))
+listed_is (retired t) m fits is none = absurd (val_del (sym is ∙ fits))
+
+-- events with the same words are the same
+event_one : (a b : Event) → IsEvent a → IsEvent b → a.time * 2 ^ 32 + a.dst ≡ b.time * 2 ^ 32 + b.dst → a.src ≡ b.src → a.seq ≡ b.seq → a.load ≡ b.load → a ≡ b
+event_one a b h k first source number load =
+    let a_to = h.dst in let b_to = k.dst in
+    let times : a.time ≡ b.time = omega arith in
+    let to : a.dst ≡ b.dst = omega arith in
+    λ i. record { time = times i; src = source i; seq = number i; dst = to i; load = load i }
+
+rank_some : (e : Event) (r : ℕ) → 0 < r → 0 < rank e r
+unfolding rank
+rank_some e r some = omega arith
+
+-- the row r is in hand, holds e, and leads to where the cell leads, which is of the list q
+record Linking (c : Core) (j : ℕ) (cell : Cell) (l : Link) (r q : ℕ) (e : Event) : Type 0 where
+  inside : j < c.start.layout.workers
+  row : IsRow c.start.layout r
+  hand : In r (c.hand j)
+  held : c.holding r ≡ in_hand j
+  spelled : IsLink l
+  link_is : c.words.link r ≡ l
+  twin_is : c.words.twin r ≡ 0
+  event_is : c.words.event r ≡ e
+  cell_is : link_at c.words.head c.words.link cell ≡ l
+  mark_is : l.mark ≡ Val
+  is_head : IsHead q
+  of : IsOf cell q (c.chain q)
+  below : IsBelow (ranks c.words.event) cell r
+  next : (l.row ≡ 0) ⊎ (ranks c.words.event r < ranks c.words.event l.row)
+
+cell_of : (c : Core) (j : ℕ) (cell : Cell) (r : ℕ) (e : Event) → j < c.start.layout.workers → IsOn (c.guard j) → (link_at c.words.head c.words.link cell).mark ≡ Val → c.words.event r ≡ e
+    → ComesAfter c.words.control (c.position j).rows cell r e → Inv c → let q = head_of c.words.control e in IsHead q × IsOf cell q (c.chain q) × IsBelow (ranks c.words.event) cell r
+cell_of c j (at_head h) r e b on mark event after inv = (subst IsHead (sym after.1) after.0, sym after.1, tt)
+cell_of c j (at_row p) r e b on mark event after inv =
+    let f = after.0 in let s = after.1 in let g = on_is (c.guard j) on in
+    let covers : Covers c.start.layout.workers c.words.link c.words.twin c.guard c.position c.debts j g.0 p = record {
+      inside = b;
+      on = g.1;
+      at = p;
+      stands = subst (λ z. In z (standing (c.position j) (c.debts j))) s.2 (in_rows s.0 (c.position j).rows _ s.1);
+      reaches = record { through = []; path = refl };
+    } in
+    let row = inv.lanes.is_row j g.0 p covers in
+    let lists = listed_is (c.holding p) (c.words.link p).mark (inv.marks.mark p row) mark (λ k h. inv.cover.free j g.0 p k covers h) in
+    let found = inv.holders.of_chain lists.0 p row lists.1 in
+    let holds : c.words.event p ≡ f = subst (λ z. c.words.event z ≡ f) s.2 (inv.standing.holds j s.0 b s.1 ∙ s.3) in
+    let here : lists.0 ≡ head_of c.words.control e = sym (inv.sorted.belongs lists.0 p found.0 found.1) ∙ (ap (head_of c.words.control) holds ∙ after.3) in (
+      subst IsHead here found.0,
+      subst (λ z. In p (c.chain z)) here found.1,
+      subst (λ (z : Event × Event). rank z.0 p < rank z.1 r) (λ i. (sym holds i, sym event i)) after.2,
+    )
+
+known : (c : Core) (j : ℕ) (cell : Cell) (l : Link) (r : ℕ) (e : Event) → j < c.start.layout.workers → MayLink c.start.layout.workers c.words.control cell l r e (caller_of c j) → link_at c.words.head c.words.link cell ≡ l → Inv c
+    → Linking c j cell l r (head_of c.words.control e) e
+known c j cell l r e b may is inv =
+    let held = inv.holders.held j r b may.in_hand_is in
+    let row = home_is_row c.start.layout j r b held.0 in
+    let w = may.written in let word = inv.writing.stands j in
+    let present : record l { mark = Val } ≡ l = λ i. record l { mark = sym may.expected.1 i } in
+    let event = event_one (c.words.event r) e (inv.spelled.events r row) may.event (word _ b w.time_is) (word _ b w.source_is) (word _ b w.sequence_is) (word _ b w.load_is) in
+    let at = cell_of c j cell r e b may.on (ap (λ (y : Link). y.mark) is ∙ may.expected.1) event may.after inv in record {
+      inside = b;
+      row = row;
+      hand = may.in_hand_is;
+      held = held.1;
+      spelled = may.expected.0;
+      link_is = link_one (c.words.link r) (record l { mark = Val }) (inv.spelled.links r row) (record { generation = may.expected.0.generation; row = may.expected.0.row }) (word _ b w.link_is) ∙ present;
+      twin_is = word _ b w.twin_is;
+      event_is = event;
+      cell_is = is;
+      mark_is = may.expected.1;
+      is_head = at.0;
+      of = at.1;
+      below = at.2;
+      next = ⊎_elim inl (λ (h : (f : Event) × StandsOn (c.position j).rows l.row f × (rank e r < rank f l.row)).
+          let s = h.1 in let holds : c.words.event l.row ≡ h.0 = subst (λ z. c.words.event z ≡ h.0) s.2 (inv.standing.holds j s.0 b s.1 ∙ s.3) in
+          inr (subst (λ (z : Event × Event). rank z.0 r < rank z.1 l.row) (λ i. (sym event i, sym holds i)) h.2)) may.before;
+    }
+
+-- The parts after the step
+
+module _ (c : Core) (j : ℕ) (cell : Cell) (l : Link) (r : ℕ) (e : Event) where
+  abbrev q : ℕ
+  q = head_of c.words.control e
+
+  abbrev new : Link
+  new = record l { row = r }
+
+  abbrev head' : ℕ → Link
+  head' = heads_set c.words.head cell new
+
+  abbrev link' : ℕ → Link
+  link' = links_set c.words.link cell new
+
+  abbrev less : List ℕ
+  less = unhanded r (c.hand j)
+
+  abbrev hand' : ℕ → List ℕ
+  hand' = put c.hand j less
+
+  abbrev more : List ℕ
+  more = after_cell cell r (c.chain q)
+
+  abbrev chain' : ℕ → List ℕ
+  chain' = put c.chain q more
+
+  abbrev holding' : ℕ → Holding
+  holding' = put c.holding r (listed q)
+
+  module _ (f : Linking c j cell l r q e) (inv : Inv c) where
+    -- the step changes the row of a link alone
+    same_mark : (s : ℕ) → (link' s).mark ≡ (c.words.link s).mark
+    same_mark s = links_same (λ (y : Link). y.mark) cell c.words.head c.words.link new s (ap (λ (y : Link). y.mark) (sym f.cell_is))
+
+    same_generation : (s : ℕ) → (link' s).generation ≡ (c.words.link s).generation
+    same_generation s = links_same (λ (y : Link). y.generation) cell c.words.head c.words.link new s (ap (λ (y : Link). y.generation) (sym f.cell_is))
+
+    same_row : (c.words.link r).row ≡ (link_at c.words.head c.words.link cell).row
+    same_row = ap (λ (y : Link). y.row) (f.link_is ∙ sym f.cell_is)
+
+    -- a row that is held otherwise stays with its holder
+    stays : (s : ℕ) (h : Holding) → c.holding s ≡ h → 0 ≢ sort h → holding' s ≡ h
+    stays s h at ne = put_else c.holding r (listed q) s (apart c.holding r s (in_hand j) h f.held at ne) ∙ at
+
+    -- the row r was in no list, and the link of a row that isn't of this list stays
+    unlisted : (h : ℕ) → IsHead h → In r (c.chain h) → ⊥
+    unlisted h b i = let z : ◌≡◌ {A = ℕ} 0 1 = ap sort (sym f.held ∙ (inv.holders.in_chain h r b i).1) in omega arith
+
+    link_else : (s : ℕ) → (In s (c.chain q) → ⊥) → link' s ≡ c.words.link s
+    link_else s out = links_else cell c.words.link new q s (c.chain q) f.of out
+
+    link_here : link' r ≡ c.words.link r
+    link_here = link_else r (unlisted q f.is_head)
+
+    other_list : (h s : ℕ) → IsHead h → h ≢ q → In s (c.chain h) → In s (c.chain q) → ⊥
+    other_list h s b ne i i' = ne (ap of_whom (sym (inv.holders.in_chain h s b i).1 ∙ (inv.holders.in_chain q s f.is_head i').1))
+
+    link_of_hand : (k s : ℕ) → c.holding s ≡ in_hand k → link' s ≡ c.words.link s
+    link_of_hand k s is = link_else s (λ i. let z : ◌≡◌ {A = ℕ} 0 1 = ap sort (sym is ∙ (inv.holders.in_chain q s f.is_head i).1) in omega arith)
+
+    leads : Leads c.words.link (c.words.head q).row (c.chain q)
+    leads = inv.chains.leads q f.is_head
+
+    new_is : IsLink new
+    new_is = let low = f.row.1 in let fit = c.start.layout.all_fit in record { generation = f.spelled.generation; row = omega arith }
+
+    spelled_after : Spelled c.start.layout c.words.control c.words.current c.words.pin head' link' c.words.twin c.words.event
+    spelled_after = let old = inv.spelled in record {
+      is_control = old.is_control;
+      is_current = old.is_current;
+      is_pin = old.is_pin;
+      heads = heads_all (λ h y. IsHead h → IsLink y) cell c.words.head new (λ _ _. new_is) old.heads;
+      links = links_all (λ s y. IsRow c.start.layout s → IsLink y) cell c.words.link new (λ _ _. new_is) old.links;
+      twins = old.twins;
+      events = old.events;
+    }
+
+    holders_after : Holders c.start.layout hand' c.cut chain' holding'
+    holders_after = let n = c.start.layout.workers in let old = inv.holders in record {
+      once = put_all c.hand j less (λ k xs. k < n → IsOnce xs) (λ b. unhanded_once r (c.hand j) (old.once j b)) (λ k _. old.once k);
+      held = λ k s. put_all c.hand j less (λ k xs. k < n → In s xs → IsHomeRow c.start.layout k s × (holding' s ≡ in_hand k))
+          (λ b i. let h = old.held j s b (in_unhanded r s (c.hand j) i) in (h.0, put_else c.holding r (listed q) s (unhanded_else r s (c.hand j) (old.once j b) i) ∙ h.1))
+          (λ k ne b i. let h = old.held k s b i in (h.0, put_else c.holding r (listed q) s (λ z. ne (ap of_whom (sym h.1 ∙ (ap c.holding z ∙ f.held)))) ∙ h.1)) k;
+      of_hand = λ k s. put_all c.holding r (listed q) (λ s h. IsRow c.start.layout s → h ≡ in_hand k → (k < n) × In s (hand' k)) (λ _ z. absurd (let z : 1 ≡ 0 = ap sort z in omega arith))
+          (λ s ne b is. let o = old.of_hand k s b is in (o.0, put_all c.hand j less (λ k xs. In s (c.hand k) → In s xs) (λ i. unhanded_in r s (c.hand j) i ne) (λ _ _ i. i) k o.1)) s;
+      in_chain = λ h s. put_all c.chain q more (λ h xs. IsHead h → In s xs → IsRow c.start.layout s × (holding' s ≡ listed h))
+          (λ b i. ⊎_elim (λ (z : s ≡ r). subst (λ y. IsRow c.start.layout y × (holding' y ≡ listed q)) (sym z) (f.row, put_here c.holding r (listed q)))
+          (λ (i : In s (c.chain q)). let t = old.in_chain q s b i in (t.0, stays s (listed q) t.1 (omega arith))) (in_cell cell r s (c.chain q) i))
+          (λ h _ b i. let t = old.in_chain h s b i in (t.0, stays s (listed h) t.1 (omega arith))) h;
+      of_chain = λ h s. put_all c.holding r (listed q) (λ s x. IsRow c.start.layout s → x ≡ listed h → IsHead h × In s (chain' h))
+          (λ _ z. subst (λ h. IsHead h × In r (chain' h)) (ap of_whom z) (f.is_head, subst (In r) (sym (put_here c.chain q more)) (cell_in cell q r r (c.chain q) f.of (inl refl))))
+          (λ s _ b is. let o = old.of_chain h s b is in (o.0, put_all c.chain q more (λ h xs. In s (c.chain h) → In s xs) (λ i. cell_in cell q r s (c.chain q) f.of (inr i)) (λ _ _ i. i) h o.1)) s;
+      is_cut = λ k x b is. let t = old.is_cut k x b is in (t.0, stays x.row (cut_by k) t.1 (omega arith));
+      of_cut = λ k s. put_all c.holding r (listed q) (λ s h. IsRow c.start.layout s → h ≡ cut_by k → (k < n) × ((x : CutRow) × (c.cut k ≡ Some x) × (x.row ≡ s))) (λ _ z. absurd (let z : 1 ≡ 2 = ap sort z in omega arith))
+          (λ s _. old.of_cut k s) s;
+    }
+
+    stamps_after : Stamps c.start.layout c.words.epoch c.words.stamp c.ripening holding'
+    stamps_after = let old = inv.stamps in record {
+      shown = put_all c.holding r (listed q) (λ s h. IsRow c.start.layout s → c.words.stamp s ≡ stamp_of h) (λ b. old.shown r b ∙ ap stamp_of f.held) (λ s _. old.shown s);
+      tag = λ s t. put_all c.holding r (listed q) (λ s h. IsRow c.start.layout s → h ≡ retired t → t ≤ c.words.epoch) (λ _ z. absurd (let z : 1 ≡ 3 = ap sort z in omega arith)) (λ s _. old.tag s t) s;
+      ripe = λ k s t b i. let h = old.ripe k s t b i in (h.0, stays s (retired t) h.1 (omega arith));
+    }
+
+    marks_after : Marks c.start.layout link' c.words.twin holding'
+    marks_after = let old = inv.marks in record {
+      mark = λ s. put_all c.holding r (listed q) (λ s h. IsRow c.start.layout s → MarkFits h (link' s).mark) (λ _. inl (same_mark r ∙ (ap (λ (y : Link). y.mark) f.link_is ∙ f.mark_is)))
+          (λ s _ b. subst (MarkFits (c.holding s)) (sym (same_mark s)) (old.mark s b)) s;
+      twin_is = λ s. put_all c.holding r (listed q) (λ s h. IsRow c.start.layout s → TwinFits h (c.words.twin s)) (λ _. f.twin_is) (λ s _. old.twin_is s) s;
+    }
+
+    chains_after : Chains head' link' c.words.twin chain'
+    chains_after = record {
+      leads = put_all c.chain q more (λ h xs. IsHead h → Leads link' (head' h).row xs)
+          (λ _. cell_leads cell c.words.head c.words.link (ranks c.words.event) q r new (c.chain q) f.of leads (inv.sorted.rises q f.is_head) refl same_row (unlisted q f.is_head))
+          (λ h ne b. subst (λ (y : Link). Leads link' y.row (c.chain h)) (sym (heads_else cell c.words.head new q h (c.chain q) f.of ne))
+          (leads_else c.words.link link' (c.words.head h).row (c.chain h) (λ s i. link_else s (other_list h s b ne i)) (inv.chains.leads h b)));
+      twins = λ h s b i. let t = holders_after.in_chain h s b i in inl (subst (λ x. TwinFits x (c.words.twin s)) t.1 (marks_after.twin_is s t.0));
+    }
+
+    same_head : (h : ℕ) → (head' h).generation ≡ (c.words.head h).generation
+    same_head h = heads_same (λ (y : Link). y.generation) cell c.words.head c.words.link new h (ap (λ (y : Link). y.generation) (sym f.cell_is))
+
+    shut : (cell : Cell) → link_at c.words.head c.words.link cell ≡ l → (h : ℕ) → IsHead h → (IsOpen c.words.control h → ⊥) → IsShutHead c.words.control (heads_set c.words.head cell new h)
+    shut (at_row p) is h = inv.heads.shut h
+    shut (at_head k) is h = put_all c.words.head k new (λ h y. IsHead h → (IsOpen c.words.control h → ⊥) → IsShutHead c.words.control y)
+        (λ b out. absurd (val_mov (sym f.mark_is ∙ (ap (λ (y : Link). y.mark) (sym is) ∙ (inv.heads.shut k b out).0)))) (λ h _. inv.heads.shut h) h
+
+    heads_after : Heads c.words.control head'
+    heads_after = record {
+      steady = inv.heads.steady;
+      one = inv.heads.one;
+      opened = λ h b is_open. let o = inv.heads.opened h b is_open in (heads_same (λ (y : Link). y.mark) cell c.words.head c.words.link new h (ap (λ (y : Link). y.mark) (sym f.cell_is)) ∙ o.0, same_head h ∙ o.1);
+      shut = shut cell f.cell_is;
+    }
+
+    -- the link found is of the list's generation
+    generation_is : (cell : Cell) → link_at c.words.head c.words.link cell ≡ l → IsOf cell q (c.chain q) → l.generation ≡ (c.words.head q).generation
+    generation_is (at_head h) is of = ap (λ (y : Link). y.generation) (sym is ∙ ap c.words.head of)
+    generation_is (at_row p) is of = ap (λ (y : Link). y.generation) (sym is) ∙ inv.sorted.generation q p f.is_head of
+
+    sorted_after : Sorted c.words.control head' link' c.words.event chain'
+    sorted_after = let old = inv.sorted in record {
+      rises = put_all c.chain q more (λ h xs. IsHead h → Rises (ranks c.words.event) 0 xs)
+          (λ _. cell_rises cell c.words.head c.words.link (ranks c.words.event) q r (c.chain q) (λ s i. (inv.holders.in_chain q s f.is_head i).0.0) f.of leads (old.rises q f.is_head) (rank_some (c.words.event r) r f.row.0) f.below
+          (subst (λ (y : Link). (y.row ≡ 0) ⊎ (ranks c.words.event r < ranks c.words.event y.row)) (sym f.cell_is) f.next))
+          (λ h _. old.rises h);
+      belongs = λ h s. put_all c.chain q more (λ h xs. IsHead h → In s xs → head_of c.words.control (c.words.event s) ≡ h)
+          (λ b i. ⊎_elim (λ (z : s ≡ r). ap (λ y. head_of c.words.control (c.words.event y)) z ∙ ap (head_of c.words.control) f.event_is) (old.belongs q s b) (in_cell cell r s (c.chain q) i))
+          (λ h _. old.belongs h s) h;
+      generation = λ h s b i. same_generation s ∙ (put_all c.chain q more (λ h xs. IsHead h → In s xs → (c.words.link s).generation ≡ (c.words.head h).generation)
+          (λ b i. ⊎_elim (λ (z : s ≡ r). ap (λ y. (c.words.link y).generation) z ∙ (ap (λ (y : Link). y.generation) f.link_is ∙ generation_is cell f.cell_is f.of)) (old.generation q s b) (in_cell cell r s (c.chain q) i))
+          (λ h _. old.generation h s) h b i ∙ sym (same_head h));
+    }
+
+    -- what a guard covers now is the row r, or was covered before
+    covers_before : (k g s : ℕ) → Covers c.start.layout.workers link' c.words.twin c.guard c.position c.debts k g s → (s ≡ r) ⊎ Covers c.start.layout.workers c.words.link c.words.twin c.guard c.position c.debts k g s
+    covers_before k g s v = ⊎_elim inl (λ t. inr (record { inside = v.inside; on = v.on; at = v.at; stands = v.stands; reaches = t }))
+        (reaches_before cell c.words.head c.words.link c.words.twin r v.at s new refl same_row f.twin_is
+        (λ t. inv.cover.free k g r j (record { inside = v.inside; on = v.on; at = v.at; stands = v.stands; reaches = t }) f.held) v.reaches)
+
+    other_covered : (k g s : ℕ) → s ≢ r → Covers c.start.layout.workers link' c.words.twin c.guard c.position c.debts k g s → Covers c.start.layout.workers c.words.link c.words.twin c.guard c.position c.debts k g s
+    other_covered k g s ne v = ⊎_elim (λ z. absurd (ne z)) (λ v. v) (covers_before k g s v)
+
+    cover_after : Cover c.start.layout.workers link' c.words.twin c.guard c.position c.debts c.cut holding'
+    cover_after = let n = c.start.layout.workers in let old = inv.cover in record {
+      free = λ k g s i v is. put_all c.holding r (listed q) (λ s h. Covers n link' c.words.twin c.guard c.position c.debts k g s → h ≡ in_hand i → ⊥) (λ _ z. let z : ◌≡◌ {A = ℕ} 1 0 = ap sort z in omega arith)
+          (λ s ne v. old.free k g s i (other_covered k g s ne v)) s v is;
+      tags = λ k g s t v has. put_all c.holding r (listed q) (λ s h. Covers n link' c.words.twin c.guard c.position c.debts k g s → HasTag n c.cut c.holding s t ⊎ (h ≡ retired t) → g ≤ t)
+          (λ _ has. absurd (⊎_elim untagged (λ z. let z : ◌≡◌ {A = ℕ} 1 3 = ap sort z in omega arith) has))
+          (λ s ne v has. old.tags k g s t (other_covered k g s ne v) (⊎_elim (λ h. h) inl has)) s v (⊎_elim inr (λ h. inl (inr h)) has);
+      resting = old.resting;
+    }
+      where
+        untagged : {t : ℕ} → HasTag c.start.layout.workers c.cut c.holding r t → ⊥
+        untagged has = ⊎_elim (λ z. let z : ◌≡◌ {A = ℕ} 0 3 = ap sort (sym f.held ∙ z) in omega arith)
+            (λ h. let z : ◌≡◌ {A = ℕ} 0 2 = ap sort (sym f.held ∙ (ap c.holding (sym h.4) ∙ (inv.holders.is_cut h.0 h.1 h.2 h.3).1)) in omega arith) has
+
+    -- a link that is the last one stays
+    link_last : (cell : Cell) → link_at c.words.head c.words.link cell ≡ l → (s : ℕ) → IsFinal (c.words.link s).mark → links_set c.words.link cell new s ≡ c.words.link s
+    link_last (at_head h) is s final = refl
+    link_last (at_row p) is s final = put_else c.words.link p new s (λ (z : s ≡ p). not_final (c.words.link s).mark (ap (λ y. (c.words.link y).mark) z ∙ (ap (λ (y : Link). y.mark) is ∙ f.mark_is)) final)
+
+    standing_after : Standing c.start.layout.workers link' c.words.event c.position
+    standing_after = record {
+      holds = inv.standing.holds;
+      last = λ k s x b i is. let t = inv.standing.last k s x b i is in (link_last cell f.cell_is s.row (subst (λ (y : Link). IsFinal y.mark) (sym t.0) t.1) ∙ t.0, t.1);
+    }
+
+    -- a link that changes is that of a listed row below the row r
+    link_either : (cell : Cell) → IsOf cell q (c.chain q) → IsBelow (ranks c.words.event) cell r → (s : ℕ)
+        → (links_set c.words.link cell new s ≡ c.words.link s) ⊎ ((links_set c.words.link cell new s ≡ new) × (ranks c.words.event s < ranks c.words.event r) × In s (c.chain q))
+    link_either (at_head h) of below s = inl refl
+    link_either (at_row p) of below s = dite (ℕ_discrete s p)
+        (λ (z : s ≡ p). inr (ap (put c.words.link p new) z ∙ put_here c.words.link p new, subst (λ y. ranks c.words.event y < ranks c.words.event r) (sym z) below, subst (λ y. In y (c.chain q)) (sym z) of))
+        (λ ne. inl (put_else c.words.link p new s ne))
+
+    -- the link y of the row s leads on to a greater row of the same list
+    abbrev Lane : ℕ → Link → Type 0
+    Lane s y = 0 < y.row → (ranks c.words.event s < ranks c.words.event y.row) × (head_of c.words.control (c.words.event y.row) ≡ head_of c.words.control (c.words.event s)) × ((link' y.row).generation ≡ y.generation)
+
+    lane_of_new : Lane r l
+    lane_of_new some = let listed_next : In l.row (c.chain q) = ⊎_elim (λ z. absurd (let e = ap (λ (y : Link). y.row) f.cell_is in omega arith)) (λ i. subst (λ (y : Link). In y.row (c.chain q)) f.cell_is i)
+        (cell_next cell c.words.head c.words.link q (c.chain q) f.of leads) in (
+          ⊎_elim (λ z. absurd (omega arith)) (λ low. low) f.next,
+          inv.sorted.belongs q l.row f.is_head listed_next ∙ ap (head_of c.words.control) (sym f.event_is),
+          same_generation l.row ∙ (inv.sorted.generation q l.row f.is_head listed_next ∙ sym (generation_is cell f.cell_is f.of)),
+        )
+
+    lane : (k g s : ℕ) → Covers c.start.layout.workers link' c.words.twin c.guard c.position c.debts k g s → Lane s (link' s)
+    lane k g s v = ⊎_elim
+        (λ same. subst (Lane s) (sym same) (⊎_elim
+        (λ (z : s ≡ r). subst (λ y. Lane y (c.words.link y)) (sym z) (subst (Lane r) (sym f.link_is) lane_of_new))
+        (λ v some. (inv.lanes.rises k g s v some, inv.lanes.stays k g s v some, same_generation (c.words.link s).row ∙ inv.lanes.generation k g s v some)) (covers_before k g s v)))
+        (λ (h : (link' s ≡ new) × (ranks c.words.event s < ranks c.words.event r) × In s (c.chain q)). subst (Lane s) (sym h.0) (λ some. (
+          h.1,
+          ap (head_of c.words.control) f.event_is ∙ sym (inv.sorted.belongs q s f.is_head h.2),
+          same_generation r ∙ ap (λ (y : Link). y.generation) f.link_is,
+        )))
+        (link_either cell f.of f.below s)
+
+    lanes_after : Lanes c.start.layout c.words.control link' c.words.twin c.words.event c.guard c.position c.debts
+    lanes_after = record {
+      is_row = λ k g s v. ⊎_elim (λ z. subst (IsRow c.start.layout) (sym z) f.row) (inv.lanes.is_row k g s) (covers_before k g s v);
+      rises = λ k g s v some. (lane k g s v some).0;
+      stays = λ k g s v some. (lane k g s v some).1;
+      generation = λ k g s v some. (lane k g s v some).2;
+    }
+
+    writing_after : Writing c.start.layout.workers link' c.words.twin c.words.event hand' (put c.written j (forgotten r (c.written j)))
+    writing_after = let n = c.start.layout.workers in let old = inv.writing in record {
+      placed = λ k x. put_all c.written j (forgotten r (c.written j)) (λ k xs. k < n → In x xs → x.place < 6) (λ b i. old.placed j x b (in_forgotten r (c.written j) x i).0) (λ k _. old.placed k x) k;
+      in_hand_is = λ k x. put_all c.written j (forgotten r (c.written j)) (λ k xs. k < n → In x xs → In x.row (hand' k))
+          (λ b i. let t = in_forgotten r (c.written j) x i in subst (In x.row) (sym (put_here c.hand j less)) (unhanded_in r x.row (c.hand j) (old.in_hand_is j x b t.0) t.1))
+          (λ k ne b i. subst (In x.row) (sym (put_else c.hand j less k ne)) (old.in_hand_is k x b i)) k;
+      stands = λ k x. put_all c.written j (forgotten r (c.written j)) (λ k xs. k < n → In x xs → row_word (link' x.row) (c.words.twin x.row) (c.words.event x.row) x.place ≡ x.word)
+          (λ b i. still j x b (in_forgotten r (c.written j) x i).0) (λ k _ b i. still k x b i) k;
+    }
+      where
+        still : (k : ℕ) (x : Wrote) → k < c.start.layout.workers → In x (c.written k) → row_word (link' x.row) (c.words.twin x.row) (c.words.event x.row) x.place ≡ x.word
+        still k x b i = subst (λ y. row_word y (c.words.twin x.row) (c.words.event x.row) x.place ≡ x.word) (sym (link_of_hand k x.row (inv.holders.held k x.row b (inv.writing.in_hand_is k x b i)).1)) (inv.writing.stands k x b i)
+
+    naming_after : Naming c.start.layout c.words.control link' c.words.event c.debts holding'
+    naming_after = record {
+      named = λ s h. put_all c.holding r (listed q) (λ s x. IsRow c.start.layout s → x ≡ listed h → (link' s).mark ≡ Del → (k : ℕ) × (k < c.start.layout.workers) × (IsNamed (c.debts k).cut s (c.words.event s) ⊎ IsNamed (c.debts k).second_cut s (c.words.event s)))
+          (λ _ _ is. absurd (val_del (sym f.mark_is ∙ (ap (λ (y : Link). y.mark) (sym f.link_is) ∙ (sym (same_mark r) ∙ is)))))
+          (λ s _ b at is. inv.naming.named s h b at (sym (same_mark s) ∙ is)) s;
+      place = inv.naming.place;
+    }
+
+    -- the row r is live now, and all that were stay so
+    live_here : IsLive c.start.layout link' holding' r
+    live_here = (f.row, (q, put_here c.holding r (listed q)), same_mark r ∙ (ap (λ (y : Link). y.mark) f.link_is ∙ f.mark_is))
+
+    live_after : (s : ℕ) → IsLive c.start.layout c.words.link c.holding s → IsLive c.start.layout link' holding' s
+    live_after s live = (live.0, (live.1.0, stays s (listed live.1.0) live.1.1 (omega arith)), same_mark s ∙ live.2)
+
+    live_before : (s : ℕ) → IsLive c.start.layout link' holding' s → (s ≡ r) ⊎ IsLive c.start.layout c.words.link c.holding s
+    live_before s live = dite (ℕ_discrete s r) inl (λ ne. inr (live.0, (live.1.0, sym (put_else c.holding r (listed q) s ne) ∙ live.1.1), sym (same_mark s) ∙ live.2))
+
+    module _ (none : Contains (puts c.history) e → ⊥) where
+      carriers_after : Carriers c.start.layout (c.history ++ put_entries j e) link' c.words.event holding'
+      carriers_after = let old = inv.carriers in record {
+        carried = λ x pending. ⊎_elim (λ p. let t = old.carried x p in (t.0, live_after t.0 t.1, t.2)) (λ (is : x ≡ e). (r, live_here, f.event_is ∙ sym is)) (pending_put c.history j e x pending);
+        pending = λ s live. put_pending c.history j e (c.words.event s) (⊎_elim
+            (λ (z : s ≡ r). inr (ap c.words.event z ∙ f.event_is, not_out c.start.layout.workers c.history c.deal c.own c.begun e inv.told none))
+            (λ live. inl (old.pending s live)) (live_before s live));
+        one = λ s t at at' same. ⊎_elim
+            (λ (z : s ≡ r). ⊎_elim (λ (y : t ≡ r). z ∙ sym y) (λ live. absurd (other t live (sym same ∙ (ap c.words.event z ∙ f.event_is)))) (live_before t at'))
+            (λ live. ⊎_elim (λ (y : t ≡ r). absurd (other s live (same ∙ (ap c.words.event y ∙ f.event_is)))) (λ live'. old.one s t live live' same) (live_before t at')) (live_before s at);
+      }
+        where
+          other : (s : ℕ) → IsLive c.start.layout c.words.link c.holding s → c.words.event s ≡ e → ⊥
+          other s live is = none (subst (Contains (puts c.history)) is (inv.carriers.pending s live).put)
+
+    walkers_after : Walkers c.start.layout c.words.control (c.history ++ put_entries j e) c.begun link' c.words.twin c.words.event holding' c.position c.walk
+    walkers_after = let old = inv.walkers in record {
+      opened = old.opened;
+      at_stand = old.at_stand;
+      left = λ k w front back x b is parts size here was kept.
+          let rest = front_of c.history (put_entries j e) front back (c.begun k) parts size (inv.told.begun_low k b) in
+          let t = old.left k w front rest.0 x b is rest.1 size here was (λ out. kept (subst (λ xs. Contains xs x) (sym (outs_put c.history j e)) out)) in record {
+            row = t.row;
+            some_row = t.some_row;
+            live = live_after t.row t.live;
+            holds = t.holds;
+            reached = reaches_after cell c.words.head c.words.link c.words.twin q r w.at t.row (c.chain q) new refl same_row f.row.0 f.of (unlisted q f.is_head) t.reached;
+          };
+    }
+
+-- Link keeps the invariant
+pub link_keeps : (c : Core) (j : ℕ) (cell : Cell) (l : Link) (r : ℕ) (e : Event) → j < c.start.layout.workers → MayLink c.start.layout.workers c.words.control cell l r e (caller_of c j) → link_at c.words.head c.words.link cell ≡ l → Inv c → Inv (linked c j cell l r e)
+link_keeps c j cell l r e b may is inv = let f = known c j cell l r e b may is inv in record {
+  spelled = spelled_after c j cell l r e f inv;
+  reading = inv.reading;
+  guards = inv.guards;
+  holders = holders_after c j cell l r e f inv;
+  cutting = inv.cutting;
+  stamps = stamps_after c j cell l r e f inv;
+  chains = chains_after c j cell l r e f inv;
+  cover = cover_after c j cell l r e f inv;
+  heads = heads_after c j cell l r e f inv;
+  sorted = sorted_after c j cell l r e f inv;
+  marks = marks_after c j cell l r e f inv;
+  standing = standing_after c j cell l r e f inv;
+  lanes = lanes_after c j cell l r e f inv;
+  writing = writing_after c j cell l r e f inv;
+  naming = naming_after c j cell l r e f inv;
+  carriers = carriers_after c j cell l r e f inv (fresh_put c.start.layout.workers c.history c.deal c.own c.begun j e b may.fresh inv.told);
+  told = told_put c.start.layout.workers c.history c.deal c.own c.begun j e b may.fresh inv.told;
+  walkers = walkers_after c j cell l r e f inv;
+}

@@ -1,0 +1,93 @@
+-- A new table has empty lists, and all rows in hand: it meets the parts of the invariant on lists and on the history.
+use Rattle.std.proofs.Common.{◌≡◌, ℕ, ◌+◌, ◌<◌, ◌≤◌, cond, ◌&&◌, Bool, true, false, ltb, leb, List, [], ◌∷◌, ◌++◌, Some, None, sym, refl, ap, subst, arith}
+use Rattle.std.proofs.lemmas.Bool.{lt-ltb, ltb-true, le-leb, leb-true}
+use Rattle.crq_base.specs.declared.entry.Entry.{Entry}
+use Rattle.crq_base.specs.declared.entry.Entry.TheVariants.{Begin}
+use Rattle.crq_base.specs.declared.words.Link.{Link}
+use Rattle.crq_base.specs.Starts.{IsFirst}
+use Rattle.crq_rule.specs.declared.debts.CutDebt.{CutDebt}
+use Rattle.crq_rule.specs.declared.layout.Start.{Start}
+use Rattle.crq_rule.specs.declared.view.Guard.TheVariants.{Off, On}
+use Rattle.crq_rule.specs.declared.view.Walk.{Walk}
+use Rattle.crq_rule.specs.Core.{in_hand, listed}
+use Rattle.crq_rule.specs.Ranks.{IsOpen}
+use Rattle.crq_rule.specs.ListParts.{Heads, Sorted, Marks, Standing, Lanes, Writing, Naming, IsOpenHead, IsShutHead}
+use Rattle.crq_rule.specs.HistoryParts.{Carriers, Told, Walkers, IsLive}
+use Rattle.crq_rule.specs.Opening.{opening_core, opening_head, first_head_of, open_head, shut_head}
+use Rattle.crq_rule.proofs.PartLaws.{sort}
+
+hand_listed : (j q : ℕ) → in_hand j ≡ listed q → ⊥
+hand_listed j q e = let z : ◌≡◌ {A = ℕ} 0 1 = ap sort e in absurd (omega arith)
+
+pub off_on : (g : ℕ) → Off ≡ On g → ⊥
+off_on g e = cc
+
+pub no_walk : (w : Walk) → None ≡ Some w → ⊥
+no_walk w e = cc
+
+no_debt : (d : CutDebt) → None ≡ Some d → ⊥
+no_debt d e = cc
+
+no_begin : (front : List Entry) (j : ℕ) → [] ≡ front ++ Begin j ∷ [] → ⊥
+no_begin [] j e = cc
+no_begin (x ∷ xs) j e = cc
+
+module _ (s : Start) (first : IsFirst s.first) where
+  pub opening_heads : Heads (opening_core s).words.control (opening_core s).words.head
+  opening_heads = record { steady = refl; one = refl; opened = λ q _ o. opened q o.0 o.1; shut = λ q _ out. shut q (leb (first_head_of s.first.generation) q) (ltb q (first_head_of s.first.generation + 1)) refl refl out }
+    where
+      opened : (q : ℕ) → first_head_of s.first.generation ≤ q → q < first_head_of s.first.generation + 1 → IsOpenHead (opening_core s).words.control (opening_head s.first.generation q)
+      opened q low high = subst (λ (l : Link). IsOpenHead (opening_core s).words.control l)
+          (λ i. cond (sym (le-leb (first_head_of s.first.generation) q low) i && sym (lt-ltb q (first_head_of s.first.generation + 1) high) i) (open_head s.first.generation) shut_head) (refl, refl)
+
+      shut : (q : ℕ) (a b : Bool) → leb (first_head_of s.first.generation) q ≡ a → ltb q (first_head_of s.first.generation + 1) ≡ b → (IsOpen (opening_core s).words.control q → ⊥)
+          → IsShutHead (opening_core s).words.control (cond (a && b) (open_head s.first.generation) shut_head)
+      shut q true true e f out = absurd (out (leb-true (first_head_of s.first.generation) q e, ltb-true q (first_head_of s.first.generation + 1) f))
+      shut q false b e f out = (refl, refl, let above = first.from in omega arith)
+      shut q true false e f out = (refl, refl, let above = first.from in omega arith)
+
+  pub opening_sorted : Sorted (opening_core s).words.control (opening_core s).words.head (opening_core s).words.link (opening_core s).words.event (opening_core s).chain
+  opening_sorted = record { rises = λ _ _. tt; belongs = λ _ _ _ i. absurd i; generation = λ _ _ _ i. absurd i }
+
+  pub opening_marks : Marks s.layout (opening_core s).words.link (opening_core s).words.twin (opening_core s).holding
+  opening_marks = record { mark = λ _ _. tt; twin_is = λ _ _. tt }
+
+  pub opening_standing : Standing s.layout.workers (opening_core s).words.link (opening_core s).words.event (opening_core s).position
+  opening_standing = record { holds = λ _ _ _ i. absurd i; last = λ _ _ _ _ i _. absurd i }
+
+  pub opening_lanes : Lanes s.layout (opening_core s).words.control (opening_core s).words.link (opening_core s).words.twin (opening_core s).words.event (opening_core s).guard (opening_core s).position (opening_core s).debts
+  opening_lanes = record {
+    is_row = λ k g r v. absurd (off_on g v.on);
+    rises = λ k g r v _. absurd (off_on g v.on);
+    stays = λ k g r v _. absurd (off_on g v.on);
+    generation = λ k g r v _. absurd (off_on g v.on);
+  }
+
+  pub opening_writing : Writing s.layout.workers (opening_core s).words.link (opening_core s).words.twin (opening_core s).words.event (opening_core s).hand (opening_core s).written
+  opening_writing = record { placed = λ _ _ _ i. absurd i; in_hand_is = λ _ _ _ i. absurd i; stands = λ _ _ _ i. absurd i }
+
+  pub opening_naming : Naming s.layout (opening_core s).words.control (opening_core s).words.link (opening_core s).words.event (opening_core s).debts (opening_core s).holding
+  opening_naming = record { named = λ r q _ at _. absurd (hand_listed _ q at); place = λ k d _ at. absurd (no_debt d at) }
+
+  none_live : (r : ℕ) → IsLive s.layout (opening_core s).words.link (opening_core s).holding r → ⊥
+  none_live r live = hand_listed _ live.1.0 live.1.1
+
+  pub opening_carriers : Carriers s.layout (opening_core s).history (opening_core s).words.link (opening_core s).words.event (opening_core s).holding
+  opening_carriers = record { carried = λ e p. let low = p.put.1 in absurd (omega arith); pending = λ r live. absurd (none_live r live); one = λ r t live _ _. absurd (none_live r live) }
+
+  pub opening_told : Told s.layout.workers (opening_core s).history (opening_core s).deal (opening_core s).own (opening_core s).begun
+  opening_told = record {
+    legal = tt;
+    spans = omega arith;
+    since = [];
+    extends = refl;
+    each = λ _ _. refl;
+    inside = λ _ i. absurd i;
+    sourced = λ _ _ i. absurd i;
+    settled = λ _ i. i;
+    begun_low = λ _ _. omega arith;
+    began = λ j _ e. absurd (no_begin e.0 e.1 e.2);
+  }
+
+  pub opening_walkers : Walkers s.layout (opening_core s).words.control (opening_core s).history (opening_core s).begun (opening_core s).words.link (opening_core s).words.twin (opening_core s).words.event (opening_core s).holding (opening_core s).position (opening_core s).walk
+  opening_walkers = record { opened = λ k w _ at. absurd (no_walk w at); at_stand = λ k w _ at. absurd (no_walk w at); left = λ k w _ _ _ _ at _ _ _ _ _. absurd (no_walk w at) }

@@ -1,0 +1,297 @@
+-- What a step function asks of each kind on lists.
+use Rattle.std.proofs.Common.{◌≡◌, ◌≢◌, ◌⊎◌, inl, inr, ℕ, zero, suc, ◌+◌, ◌*◌, ◌^◌, ◌<◌, ◌≤◌, Bool, List, [], ◌∷◌, ◌++◌, None, Some, cond, get_or, set, eqb, sym, refl, ap, ◌∙◌, subst, arith, eq-eqb, ne_eqb}
+use mathlib.Core.Logic.{dite}
+use native.Mathlib.Decide.{ℕ_discrete}
+use prog.Atomic.{either}
+use Rattle.crq_base.specs.declared.event.Event.{Event}
+use Rattle.crq_base.specs.declared.entry.Entry.TheVariants.{Begin as BeginEntry, Take as TakeEntry, Miss as MissEntry}
+use Rattle.crq_base.specs.declared.kinds.StepKind.{StepKind}
+use Rattle.crq_base.specs.declared.kinds.StepKind.TheVariants.{Write, Walk as WalkKind, Link as LinkKind, ControlLoad, Begin, Mark as MarkKind, Cut as CutKind, Miss}
+use Rattle.crq_base.specs.declared.words.Link.{Link}
+use Rattle.crq_base.specs.declared.words.Mark.{Mark}
+use Rattle.crq_base.specs.declared.words.Mark.TheVariants.{Val, Del}
+use Rattle.crq_base.specs.declared.words.Control.{Control}
+use Rattle.crq_base.specs.Words.{link_word, IsLink}
+use Rattle.crq_rule.specs.declared.layout.Start.{Start}
+use Rattle.crq_rule.specs.declared.view.Stand.{Stand}
+use Rattle.crq_rule.specs.declared.view.Caller.{Caller}
+use Rattle.crq_rule.specs.Lists.{In}
+use Rattle.crq_rule.specs.Places.{index, control, link, IsPlace, IsRow, word_of}
+use Rattle.crq_rule.specs.Core.{Core, Holding, caller_of, in_hand, listed, cut_by, retired}
+use Rattle.crq_rule.specs.Parts.{IsOn, Leads, Covers, standing, rows_of_old, rows_of_copy}
+use Rattle.crq_rule.specs.ListParts.{row_word, MarkFits}
+use Rattle.crq_rule.specs.Invariant.{Inv}
+use Rattle.crq_rule.specs.Ranks.{rank, head_of, IsOpen, Cell, at_head, at_row, cell_place, link_at, heads_set, links_set}
+use Rattle.crq_rule.specs.ListKinds.{stands_after, walk_after, relieved, Content, new_link, no_twin, new_time, new_source, new_sequence, new_load, IsContent, content_number, content_word, row_place, wrote, writes, links, event_word, loads_control, begins, marks, cuts, misses, MayWalk, MaySeek, MayLink, MayMark, MayCut, MayMiss, ComesAfter, put_entries, unhanded, forgotten, cut_debt, without_stand, unnamed}
+use Rattle.crq_rule.specs.Steps.{Kind, write, walk, link as link_kind, link_fails, control_load, begin, mark, mark_fails, cut, cut_fails, miss, May, After, kind_of, place_of}
+use Rattle.crq_rule.specs.Rule.{IsWords, MovesBy, By, Walked, WalksOn, IsWalkable, FoundControl, wins, quiet}
+use Rattle.crq_base.proofs.WordLaws.{link_one}
+use Rattle.crq_rule.proofs.Puts.{put_here, stand_in}
+use Rattle.crq_rule.proofs.Placing.{shows_set}
+use Rattle.crq_rule.proofs.GuardSteps.{same_words}
+use Rattle.crq_rule.proofs.Lawfuls.{stand_covered}
+use Rattle.crq_rule.proofs.Keeps.{words_stay, rest_stays}
+
+-- the word at the place of a step of this kind becomes a, and no other does
+words_after : (key : Start) (k : Kind) (c : Core) (j : ℕ) (ws : List ℕ) (a : ℕ) → IsPlace key.layout (place_of k j) → word_of (After k c j).words (place_of k j) ≡ a → IsWords key c ws
+    → IsWords key (After k c j) (set ws (index key.layout (place_of k j)) a)
+words_after key k c j ws a place new old = record {
+  start = (rest_stays k c j).0 ∙ old.start;
+  shows = shows_set key.layout c.words (After k c j).words ws (place_of k j) a place new (words_stay k c j) old.shows;
+}
+
+-- what is written stands at its place
+written_there : (c : Core) (j r : ℕ) (x : Content) → word_of (After (write r x) c j).words (row_place r (content_number x)) ≡ content_word x
+written_there c j r (new_link l) = ap link_word (put_here c.words.link r l)
+written_there c j r no_twin = put_here c.words.twin r 0
+written_there c j r (new_time t d) = ap (λ (e : Event). e.time * 2 ^ 32 + e.dst) (put_here c.words.event r (record (c.words.event r) { time = t; dst = d }))
+written_there c j r (new_source s) = ap (λ (e : Event). e.src) (put_here c.words.event r (record (c.words.event r) { src = s }))
+written_there c j r (new_sequence n) = ap (λ (e : Event). e.seq) (put_here c.words.event r (record (c.words.event r) { seq = n }))
+written_there c j r (new_load n) = ap (λ (e : Event). e.load) (put_here c.words.event r (record (c.words.event r) { load = n }))
+
+pub row_place_is : (key : Start) (r n : ℕ) → IsRow key.layout r → IsPlace key.layout (row_place r n)
+row_place_is key r zero b = b
+row_place_is key r (suc zero) b = b
+row_place_is key r (suc (suc zero)) b = b
+row_place_is key r (suc (suc (suc zero))) b = b
+row_place_is key r (suc (suc (suc (suc zero)))) b = b
+row_place_is key r (suc (suc (suc (suc (suc n))))) b = b
+
+pub row_word_is : (c : Core) (r n : ℕ) → word_of c.words (row_place r n) ≡ row_word (c.words.link r) (c.words.twin r) (c.words.event r) n
+row_word_is c r zero = refl
+row_word_is c r (suc zero) = refl
+row_word_is c r (suc (suc zero)) = refl
+row_word_is c r (suc (suc (suc zero))) = refl
+row_word_is c r (suc (suc (suc (suc zero)))) = refl
+row_word_is c r (suc (suc (suc (suc (suc n))))) = refl
+
+cell_word : (c : Core) (cell : Cell) → word_of c.words (cell_place cell) ≡ link_word (link_at c.words.head c.words.link cell)
+cell_word c (at_head q) = refl
+cell_word c (at_row r) = refl
+
+pub event_word_is : (l : Link) (t : ℕ) (e : Event) (n : ℕ) → 2 ≤ n → row_word l t e n ≡ event_word e n
+event_word_is l t e zero b = absurd (omega arith)
+event_word_is l t e (suc zero) b = absurd (omega arith)
+event_word_is l t e (suc (suc zero)) b = refl
+event_word_is l t e (suc (suc (suc zero))) b = refl
+event_word_is l t e (suc (suc (suc (suc zero)))) b = refl
+event_word_is l t e (suc (suc (suc (suc (suc n))))) b = refl
+
+module _ (key : Start) (p : Caller) where
+  abbrev j : ℕ
+  j = p.number
+
+  pub write_moves : (r : ℕ) (x : Content) → IsRow key.layout r → In r p.hand → IsContent x → MovesBy Write key p (index key.layout (row_place r (content_number x))) (λ _. content_word x) (By (λ _. writes r (content_number x) (content_word x)) quiet)
+  write_moves r x row held ok c ws inv words b is = (
+    write r x,
+    refl,
+    (subst (λ (q : Caller). In r q.hand) is held, ok),
+    words_after key (write r x) c j ws (content_word x) (row_place_is key r (content_number x) row) (written_there c j r x) words,
+    (ap (writes r (content_number x) (content_word x)) is ∙ (λ i. record (caller_of c j) { written = sym (put_here c.written j (wrote r (content_number x) (content_word x) (c.written j))) i }), tt),
+  )
+
+  -- a cell that may be walked has a place
+  cell_is : (cell : Cell) (c : Core) (ws : List ℕ) → j < c.start.layout.workers → Inv c → IsWords key c ws → MayWalk (c.position j).rows cell → IsPlace key.layout (cell_place cell)
+  cell_is (at_head q) c ws b inv words may = may
+  cell_is (at_row r) c ws b inv words may = subst (λ (z : Start). IsRow z.layout r) words.start (subst (λ r. IsRow c.start.layout r) may.1.2 (stood c b inv may.1.0 may.1.1))
+    where
+      stood : (c : Core) → j < c.start.layout.workers → Inv c → (s : Stand) → In s (c.position j).rows → IsRow c.start.layout s.row
+      stood c b inv s i = let v = stand_covered c j s b i inv in inv.lanes.is_row j v.0 s.row v.1
+
+  cell_link : (cell : Cell) (c : Core) → j < c.start.layout.workers → Inv c → MayWalk (c.position j).rows cell → IsLink (link_at c.words.head c.words.link cell)
+  cell_link (at_head q) c b inv may = inv.spelled.heads q may
+  cell_link (at_row r) c b inv may = subst (λ r. IsLink (c.words.link r)) may.1.2 (let v = stand_covered c j may.1.0 b may.1.1 inv in inv.spelled.links may.1.0.row (inv.lanes.is_row j v.0 may.1.0.row v.1))
+
+  same_event : (f e : Event) → f ≡ e → e ≡ f
+  same_event f e q = sym q
+
+  -- the row that a walked cell names
+  named : (cell : Cell) (c : Core) → j < c.start.layout.workers → Inv c → MayWalk (c.position j).rows cell → let l = link_at c.words.head c.words.link cell in 0 < l.row
+      → IsRow c.start.layout l.row × WalksOn cell l (c.words.event l.row) (caller_of c j)
+  named (at_head q) c b inv may some = let i = first_in (c.chain q) (inv.chains.leads q may) in
+      ((inv.holders.in_chain q (c.words.head q).row may i).0, λ x is _. subst (λ z. head_of z (c.words.event (c.words.head q).row) ≡ q) (sym (inv.reading.read_control j x b is)) (inv.sorted.belongs q (c.words.head q).row may i))
+    where
+      first_in : (rs : List ℕ) → Leads c.words.link (c.words.head q).row rs → In (c.words.head q).row rs
+      first_in [] l = absurd (omega arith)
+      first_in (r ∷ rs) l = inl l.0
+  named (at_row r) c b inv may some = let s = may.1.0 in let v = stand_covered c j s b may.1.1 inv in let row : s.row ≡ r = may.1.2 in
+      let from : Covers c.start.layout.workers c.words.link c.words.twin c.guard c.position c.debts j v.0 r = subst (Covers c.start.layout.workers c.words.link c.words.twin c.guard c.position c.debts j v.0) row v.1 in
+      let on : Covers c.start.layout.workers c.words.link c.words.twin c.guard c.position c.debts j v.0 (c.words.link r).row
+      = record { inside = b; on = v.1.on; at = r; stands = subst (λ z. In z (standing (c.position j) (c.debts j))) row (stand_in (c.position j).rows (rows_of_old (c.position j).old ++ rows_of_copy (c.debts j).copy) s may.1.1); reaches = record { through = (c.words.link r).row ∷ []; path = ((some, inl refl), refl) } } in (
+        inv.lanes.is_row j v.0 (c.words.link r).row on,
+        λ f is _. let holds : c.words.event r ≡ f = subst (λ (z : ℕ × Event). c.words.event z.0 ≡ z.1) (λ i. (is.2 i, is.3 i)) (inv.standing.holds j is.0 b is.1) in (
+          subst (λ e. rank e r < rank (c.words.event (c.words.link r).row) (c.words.link r).row) holds (inv.lanes.rises j v.0 r from some),
+          λ x ctl. let z = inv.reading.read_control j x b ctl in subst (λ y. head_of y (c.words.event (c.words.link r).row) ≡ head_of y f) (sym z) (inv.lanes.stays j v.0 r from some ∙ ap (head_of c.words.control) holds),
+        ),
+      )
+
+  walkable : (cell : Cell) (c : Core) → j < c.start.layout.workers → Inv c → MayWalk (c.position j).rows cell → IsWalkable cell (link_at c.words.head c.words.link cell) (caller_of c j)
+  walkable (at_head q) c b inv may = λ x is opened. let z = inv.reading.read_control j x b is in let h = inv.heads.opened q may (subst (λ y. IsOpen y q) z opened) in (h.0, h.1 ∙ ap (λ (y : Control). y.generation) (sym z))
+  walkable (at_row r) c b inv may = let s = may.1.0 in let v = stand_covered c j s b may.1.1 inv in let row = inv.lanes.is_row j v.0 s.row v.1 in
+      subst (λ r. ((c.words.link r).mark ≡ Val) ⊎ ((c.words.link r).mark ≡ Del)) may.1.2 (by_holder (c.holding s.row) (λ i is. inv.cover.free j v.0 s.row i v.1 is) (inv.marks.mark s.row row))
+    where
+      by_holder : {m : Mark} (h : Holding) → ((i : ℕ) → h ≡ in_hand i → ⊥) → MarkFits h m → (m ≡ Val) ⊎ (m ≡ Del)
+      by_holder (in_hand i) free fits = absurd (free i refl)
+      by_holder (listed q) free fits = fits
+      by_holder (cut_by i) free fits = inr fits
+      by_holder (retired t) free fits = inr fits
+
+  pub walk_moves : (cell : Cell) (seeks : Bool) → IsOn p.guard → MayWalk p.position.rows cell → MaySeek p.own p.walk cell seeks → MovesBy WalkKind key p (index key.layout (cell_place cell)) (λ w. w) (Walked cell seeks)
+  walk_moves cell seeks on may seek c ws inv words b is = let l = link_at c.words.head c.words.link cell in let e = c.words.event l.row in
+      let may' : MayWalk (c.position j).rows cell = subst (λ (q : Caller). MayWalk q.position.rows cell) is may in
+      let place = cell_is cell c ws b inv words may' in let at = words.shows.each (cell_place cell) place in (
+        walk cell seeks,
+        refl,
+        (subst (λ (q : Caller). IsOn q.guard) is on, may', subst (λ (q : Caller). MaySeek q.own q.walk cell seeks) is seek),
+        same_words key c (After (walk cell seeks) c j) ws (index key.layout (cell_place cell)) refl refl words,
+        subst (λ (z : ℕ × Caller). Walked cell seeks z.0 z.1 (caller_of (After (walk cell seeks) c j) j)) (λ i. (sym (at ∙ cell_word c cell) i, sym is i)) record {
+          link = l;
+          event = e;
+          is_link = cell_link cell c b inv may';
+          word = refl;
+          after = λ i. record (caller_of c j) {
+            position = sym (put_here c.position j (record { rows = stands_after cell seeks l e (c.position j).rows; old = (c.position j).old })) i;
+            walk = sym (put_here c.walk j (walk_after cell seeks l (c.walk j))) i;
+            debts = sym (put_here c.debts j (record (c.debts j) { cut = relieved (c.found j).control cell (c.position j).rows l e (c.debts j).cut })) i;
+          };
+          row = λ some. let n = named cell c b inv may' some in (n.0, inv.spelled.events l.row n.0);
+          next = next_of cell c b inv may';
+          marked = walkable cell c b inv may';
+        },
+      )
+    where
+      next_of : (cell : Cell) (c : Core) → j < c.start.layout.workers → (inv : Inv c) → (may : MayWalk (c.position j).rows cell) → WalksOn cell (link_at c.words.head c.words.link cell) (c.words.event (link_at c.words.head c.words.link cell).row) (caller_of c j)
+      next_of (at_head q) c b inv may = λ x is some. (named (at_head q) c b inv may some).1 x is some
+      next_of (at_row r) c b inv may = λ f is some. (named (at_row r) c b inv may some).1 f is some
+
+  -- an exchange that found another word than it expected
+  lost : (name : StepKind) (k : Kind) (w old new : ℕ) (f : Caller → Caller) → kind_of k ≡ name → ((c : Core) → May k c j) → ((c : Core) → After k c j ≡ c) → (c : Core) (ws : List ℕ) → IsWords key c ws → p ≡ caller_of c j → get_or ws w 0 ≢ old
+      → (k : Kind) × (kind_of k ≡ name) × May k c j × IsWords key (After k c j) (set ws w (either (eqb (get_or ws w 0) old) new (get_or ws w 0))) × By (wins old f) quiet (get_or ws w 0) p (caller_of (After k c j) j)
+  lost name k w old new f is may same c ws words mine apart = let b = ne_eqb (get_or ws w 0) old apart in (
+    k,
+    is,
+    may c,
+    subst (λ (z : Core × Bool). IsWords key z.0 (set ws w (either z.1 new (get_or ws w 0)))) (λ i. (sym (same c) i, sym b i)) (same_words key c c ws w refl refl words),
+    ((λ i. cond (b i) (f (mine i)) (mine i)) ∙ ap (λ z. caller_of z j) (sym (same c)), tt),
+  )
+
+  -- one that found what it expected
+  won : (name : StepKind) (k : Kind) (w old new : ℕ) (f : Caller → Caller) → kind_of k ≡ name → (c : Core) (ws : List ℕ) → May k c j → p ≡ caller_of c j → get_or ws w 0 ≡ old → IsWords key (After k c j) (set ws w new) → f (caller_of c j) ≡ caller_of (After k c j) j
+      → (k : Kind) × (kind_of k ≡ name) × May k c j × IsWords key (After k c j) (set ws w (either (eqb (get_or ws w 0) old) new (get_or ws w 0))) × By (wins old f) quiet (get_or ws w 0) p (caller_of (After k c j) j)
+  won name k w old new f is c ws may mine hit words after = let b = eq-eqb (get_or ws w 0) old hit in (
+    k,
+    is,
+    may,
+    subst (λ (z : Bool). IsWords key (After k c j) (set ws w (either z new (get_or ws w 0)))) (sym b) words,
+    ((λ i. cond (b i) (f (mine i)) (mine i)) ∙ after, tt),
+  )
+
+  -- the cell of a link: its place, and its word
+  linked_cell : (cell : Cell) (x : Control) (c : Core) (ws : List ℕ) (r : ℕ) (e : Event) → j < c.start.layout.workers → Inv c → IsWords key c ws → ComesAfter x (c.position j).rows cell r e → MayWalk (c.position j).rows cell
+  linked_cell (at_head q) x c ws r e b inv words after = after.0
+  linked_cell (at_row s) x c ws r e b inv words after = (after.0, after.1)
+
+  -- the word of a link that is set at a cell
+  set_there : (c c' : Core) (cell : Cell) (l : Link) → c'.words.head ≡ heads_set c.words.head cell l → c'.words.link ≡ links_set c.words.link cell l → word_of c'.words (cell_place cell) ≡ link_word l
+  set_there c c' (at_head q) l heads links = ap (λ (f : ℕ → Link). link_word (f q)) heads ∙ ap link_word (put_here c.words.head q l)
+  set_there c c' (at_row r) l heads links = ap (λ (f : ℕ → Link). link_word (f r)) links ∙ ap link_word (put_here c.words.link r l)
+
+  pub link_moves : (x : Control) (cell : Cell) (l : Link) (r : ℕ) (e : Event) → MayLink key.layout.workers x cell l r e p
+      → MovesBy LinkKind key p (index key.layout (cell_place cell)) (λ w. either (eqb w (link_word l)) (link_word (record l { row = r })) w) (By (wins (link_word l) (links r e)) quiet)
+  link_moves x cell l r e may c ws inv words b is = let new : Link = record l { row = r } in let w = index key.layout (cell_place cell) in
+      let may' : MayLink c.start.layout.workers c.words.control cell l r e (caller_of c j) = subst (λ (z : Start × Caller). MayLink z.0.layout.workers c.words.control cell l r e z.1) (λ i. (sym words.start i, is i))
+      (subst (λ z. MayLink key.layout.workers z cell l r e p) (inv.reading.read_control j x b (ap (λ (q : Caller). q.found.control) (sym is) ∙ may.control)) may) in
+      let walkable' = linked_cell cell c.words.control c ws r e b inv words may'.after in let place = cell_is cell c ws b inv words walkable' in let at = words.shows.each (cell_place cell) place in
+      dite (ℕ_discrete (get_or ws w 0) (link_word l))
+      (λ hit. let found : link_at c.words.head c.words.link cell ≡ l = link_one _ _ (cell_link cell c b inv walkable') may.expected.0 (sym (cell_word c cell) ∙ (sym at ∙ hit)) in let k = link_kind cell l r e in
+      won LinkKind k w (link_word l) (link_word new) (links r e) refl c ws (may', found) is hit
+      (words_after key k c j ws (link_word new) place (set_there c (After k c j) cell new refl refl) words)
+      (λ i. record (caller_of c j) {
+        own = sym (put_here c.own j (c.own j ++ put_entries j e)) i;
+        hand = sym (put_here c.hand j (unhanded r (c.hand j))) i;
+        written = sym (put_here c.written j (forgotten r (c.written j))) i;
+      }))
+      (λ apart. lost LinkKind (link_fails cell) w (link_word l) (link_word new) (links r e) refl (λ _. tt) (λ _. refl) c ws words is apart)
+
+  pub cut_moves : (cell : Cell) (l : Link) (y : ℕ) (last : Link) → IsLink l → l.mark ≡ Val → l.row ≡ y → MayCut cell y last p
+      → MovesBy CutKind key p (index key.layout (cell_place cell)) (λ w. either (eqb w (link_word l)) (link_word (record l { row = last.row })) w) (By (wins (link_word l) (cuts y)) quiet)
+  cut_moves cell l y last bits val row may c ws inv words b is = let new : Link = record l { row = last.row } in let w = index key.layout (cell_place cell) in
+      let may' : MayCut cell y last (caller_of c j) = subst (MayCut cell y last) is may in
+      let place = cell_is cell c ws b inv words may'.cell_is in let at = words.shows.each (cell_place cell) place in
+      dite (ℕ_discrete (get_or ws w 0) (link_word l))
+      (λ hit. let found : link_at c.words.head c.words.link cell ≡ l = link_one _ _ (cell_link cell c b inv may'.cell_is) bits (sym (cell_word c cell) ∙ (sym at ∙ hit)) in let k = cut cell y last in
+      won CutKind k w (link_word l) (link_word new) (cuts y) refl c ws (may', (ap (λ (z : Link). z.mark) found ∙ val, ap (λ (z : Link). z.row) found ∙ row)) is hit
+      (words_after key k c j ws (link_word new) place (set_there c (After k c j) cell (record (link_at c.words.head c.words.link cell) { row = last.row }) refl refl ∙ ap (λ (z : Link). link_word (record z { row = last.row })) found) words)
+      (λ i. record (caller_of c j) {
+        cut = sym (put_here c.cut j (Some (record { row = y; tags = [] }))) i;
+        walk = sym (put_here c.walk j None) i;
+        position = sym (put_here c.position j (record (c.position j) { rows = without_stand y (c.position j).rows })) i;
+        debts = sym (put_here c.debts j (record (c.debts j) { cut = unnamed y (c.debts j).cut })) i;
+      }))
+      (λ apart. lost CutKind (cut_fails cell) w (link_word l) (link_word new) (cuts y) refl (λ _. tt) (λ _. refl) c ws words is apart)
+
+  pub mark_moves : (x : Control) (r : ℕ) (e : Event) (l : Link) → IsLink l → l.mark ≡ Val → MayMark x r e p
+      → MovesBy MarkKind key p (index key.layout (link r)) (λ w. either (eqb w (link_word l)) (link_word (record l { mark = Del })) w) (By (wins (link_word l) (marks x r e)) quiet)
+  mark_moves x r e l bits val may c ws inv words b is = let new : Link = record l { mark = Del } in let w = index key.layout (link r) in
+      let same : x ≡ c.words.control = inv.reading.read_control j x b (ap (λ (q : Caller). q.found.control) (sym is) ∙ may.control) in
+      let may' : MayMark c.words.control r e (caller_of c j) = subst (λ (z : Control × Caller). MayMark z.0 r e z.1) (λ i. (same i, is i)) may in
+      let on : MayWalk (c.position j).rows (at_row r) = (e, may'.on) in
+      let place = cell_is (at_row r) c ws b inv words on in let at = words.shows.each (link r) place in
+      dite (ℕ_discrete (get_or ws w 0) (link_word l))
+      (λ hit. let found : c.words.link r ≡ l = link_one _ _ (cell_link (at_row r) c b inv on) bits (sym at ∙ hit) in let k = mark r e in
+      won MarkKind k w (link_word l) (link_word new) (marks x r e) refl c ws (may', ap (λ (z : Link). z.mark) found ∙ val) is hit
+      (words_after key k c j ws (link_word new) place (ap link_word (put_here c.words.link r (record (c.words.link r) { mark = Del })) ∙ ap (λ (z : Link). link_word (record z { mark = Del })) found) words)
+      (λ i. record (caller_of c j) {
+        own = sym (put_here c.own j (c.own j ++ TakeEntry j e ∷ [])) i;
+        walk = sym (put_here c.walk j None) i;
+        debts = (ap (λ z. record (c.debts j) { cut = Some (cut_debt z r e) }) same ∙ sym (put_here c.debts j (record (c.debts j) { cut = Some (cut_debt c.words.control r e) }))) i;
+      }))
+      (λ apart. lost MarkKind (mark_fails r) w (link_word l) (link_word new) (marks x r e) refl (λ _. tt) (λ _. refl) c ws words is apart)
+
+  -- the control word was found
+  control_found : (k : Kind) (f : Control → Caller → Caller) (c : Core) (ws : List ℕ) → Inv c → IsWords key c ws → p ≡ caller_of c j → f c.words.control (caller_of c j) ≡ caller_of (After k c j) j
+      → FoundControl f (get_or ws (index key.layout control) 0) p (caller_of (After k c j) j)
+  control_found k f c ws inv words is after = let at = words.shows.each control tt in
+      subst (λ (z : ℕ × Caller). FoundControl f z.0 z.1 (caller_of (After k c j) j)) (λ i. (sym at i, sym is i)) record {
+        control = c.words.control;
+        is_control = inv.spelled.is_control;
+        word = refl;
+        after = after;
+        steady = inv.heads.steady;
+        one = inv.heads.one;
+      }
+
+  pub control_moves : MovesBy ControlLoad key p (index key.layout control) (λ w. w) (FoundControl loads_control)
+  control_moves c ws inv words b is = (
+    control_load,
+    refl,
+    tt,
+    same_words key c (After control_load c j) ws (index key.layout control) refl refl words,
+    control_found control_load loads_control c ws inv words is (λ i. record (caller_of c j) { found = sym (put_here c.found j (record (c.found j) { control = Some c.words.control })) i }),
+  )
+
+  pub begin_moves : MovesBy Begin key p (index key.layout control) (λ w. w) (FoundControl begins)
+  begin_moves c ws inv words b is = (
+    begin,
+    refl,
+    tt,
+    same_words key c (After begin c j) ws (index key.layout control) refl refl words,
+    control_found begin begins c ws inv words is (λ i. record (caller_of c j) {
+      own = sym (put_here c.own j (c.own j ++ BeginEntry j ∷ [])) i;
+      walk = sym (put_here c.walk j None) i;
+      found = sym (put_here c.found j (record (c.found j) { control = Some c.words.control })) i;
+    }),
+  )
+
+  pub miss_moves : (x : Control) (limit : ℕ) → MayMiss x limit p → MovesBy Miss key p (index key.layout control) (λ w. w) (FoundControl (misses limit))
+  miss_moves x limit may c ws inv words b is = let same : x ≡ c.words.control = inv.reading.read_control j x b (ap (λ (q : Caller). q.found.control) (sym is) ∙ may.control) in (
+    miss limit,
+    refl,
+    subst (λ (z : Control × Caller). MayMiss z.0 limit z.1) (λ i. (same i, is i)) may,
+    same_words key c (After (miss limit) c j) ws (index key.layout control) refl refl words,
+    control_found (miss limit) (misses limit) c ws inv words is (λ i. record (caller_of c j) {
+      own = sym (put_here c.own j (c.own j ++ MissEntry j limit ∷ [])) i;
+      walk = sym (put_here c.walk j None) i;
+      found = sym (put_here c.found j (record (c.found j) { control = Some c.words.control })) i;
+    }),
+  )

@@ -1,0 +1,286 @@
+-- A take that marks a row dead keeps the invariant.
+use Rattle.std.proofs.Common.{◌≡◌, ◌≢◌, ◌⊎◌, ⊎_elim, inl, inr, ℕ, ◌<◌, List, [], ◌∷◌, ◌++◌, Option, Some, None, sym, refl, ap, ◌∙◌, subst, append-nil, arith}
+use Rattle.std.specs.List.{Contains}
+use Rattle.std.proofs.lemmas.List.Elements.{Contains-append_cases, Contains-push}
+use Rattle.crq_base.specs.declared.event.Event.{Event}
+use Rattle.crq_base.specs.declared.entry.Entry.{Entry}
+use Rattle.crq_base.specs.declared.entry.Entry.TheVariants.{Begin, Take}
+use Rattle.crq_base.specs.declared.words.Link.{Link}
+use Rattle.crq_base.specs.declared.words.Mark.{Mark}
+use Rattle.crq_base.specs.declared.words.Mark.TheVariants.{Val, Del}
+use Rattle.crq_base.specs.declared.words.Control.{Control}
+use Rattle.crq_base.specs.Words.{IsLink}
+use Rattle.crq_base.specs.Histories.{puts, outs, IsPending, MayFollow}
+use Rattle.crq_base.proofs.HistoryLaws.{outs-append, puts-append}
+use Rattle.crq_base.proofs.Deeds.{alone}
+use Rattle.crq_rule.specs.declared.debts.CutDebt.{CutDebt}
+use Rattle.crq_rule.specs.declared.debts.Debts.{Debts}
+use Rattle.crq_rule.specs.declared.layout.Layout.{Layout}
+use Rattle.crq_rule.specs.declared.view.Guard.{Guard}
+use Rattle.crq_rule.specs.declared.view.CutRow.{CutRow}
+use Rattle.crq_rule.specs.declared.view.Position.{Position}
+use Rattle.crq_rule.specs.declared.view.Stand.{Stand}
+use Rattle.crq_rule.specs.declared.view.Wrote.{Wrote}
+use Rattle.crq_rule.specs.Lists.{put, In}
+use Rattle.crq_rule.specs.Places.{IsRow}
+use Rattle.crq_rule.specs.Core.{Core, Holding, in_hand, listed, cut_by, retired, caller_of}
+use Rattle.crq_rule.specs.Parts.{IsEvent, Leads, Chains, IsPath, Reaches, Covers, Cover, rows_of, rows_of_old, rows_of_copy}
+use Rattle.crq_rule.specs.ListParts.{ranks, Sorted, Marks, MarkFits, Standing, IsFinal, Lanes, Writing, row_word, Naming, IsNamed}
+use Rattle.crq_rule.specs.HistoryParts.{IsLive, Carriers, StandsFrom}
+use Rattle.crq_rule.specs.Ranks.{head_of}
+use Rattle.crq_rule.specs.Invariant.{Inv}
+use Rattle.crq_rule.specs.ListKinds.{MayMark, cut_debt, marked}
+use Rattle.crq_rule.proofs.Puts.{put_here, put_else, put_all}
+use Rattle.crq_rule.proofs.PartLaws.{apart}
+use Rattle.crq_rule.proofs.HistoryLaws.{told_other, out_later}
+use Rattle.crq_rule.proofs.CallLaws.{walkers_entry}
+use Rattle.crq_rule.proofs.SearchLaws.{stand_covered, stand_row, left_beyond, beyond_key}
+
+take_begin : (j k : ℕ) (e : Event) → Take j e ≡ Begin k → ⊥
+take_begin j k e q = cc
+
+del_val : Del ≡ Val → ⊥
+del_val e = cc
+
+final_val : (l m : Link) → l ≡ m → l.mark ≡ Val → IsFinal m.mark → ⊥
+final_val l m e val final = subst IsFinal (sym (ap (λ (z : Link). z.mark) e) ∙ val) final
+
+some_event : (x y : Event) → Some x ≡ Some y → x ≡ y
+some_event x y e = cc
+
+some_debt : (x y : CutDebt) → Some x ≡ Some y → x ≡ y
+some_debt x y e = cc
+
+-- Links that lead to the same rows
+
+module _ (link link' : ℕ → Link) (same : (s : ℕ) → (link' s).row ≡ (link s).row) where
+  leads_same : (a : ℕ) (xs : List ℕ) → Leads link a xs → Leads link' a xs
+  leads_same a [] h = h
+  leads_same a (x ∷ xs) h = (h.0, subst (λ z. Leads link' z xs) (sym (same x)) (leads_same (link x).row xs h.1))
+
+  path_same : (twin : ℕ → ℕ) (a b : ℕ) (xs : List ℕ) → IsPath link' twin a xs b → IsPath link twin a xs b
+  path_same twin a b [] p = p
+  path_same twin a b (x ∷ xs) p = ((p.0.0, subst (λ z. (z ≡ x) ⊎ (twin a ≡ x)) (same a) p.0.1), path_same twin x b xs p.1)
+
+  pub reaches_same : (twin : ℕ → ℕ) (a b : ℕ) → Reaches link' twin a b → Reaches link twin a b
+  reaches_same twin a b h = record { through = h.through; path = path_same twin a b h.through h.path }
+
+  pub covers_same : (n : ℕ) (twin : ℕ → ℕ) (guard : ℕ → Guard) (position : ℕ → Position) (debts debts' : ℕ → Debts) → ((k : ℕ) → (debts' k).copy ≡ (debts k).copy) → (k g r : ℕ)
+      → Covers n link' twin guard position debts' k g r → Covers n link twin guard position debts k g r
+  covers_same n twin guard position debts debts' copies k g r v = record {
+    inside = v.inside;
+    on = v.on;
+    at = v.at;
+    stands = subst (λ z. In v.at (rows_of (position k).rows ++ (rows_of_old (position k).old ++ rows_of_copy z))) (copies k) v.stands;
+    reaches = reaches_same twin v.at r v.reaches;
+  }
+
+-- Histories with a take
+
+puts_take : (history : List Entry) (j : ℕ) (e : Event) → puts (history ++ Take j e ∷ []) ≡ puts history
+puts_take history j e = puts-append history (Take j e ∷ []) ∙ append-nil (puts history)
+
+taken_out : (history : List Entry) (j : ℕ) (e : Event) → Contains (outs (history ++ Take j e ∷ [])) e
+taken_out history j e = subst (λ z. Contains z e) (sym (outs-append history (Take j e ∷ []))) (Contains-push (outs history) e)
+
+out_before : (history : List Entry) (j : ℕ) (e f : Event) → Contains (outs (history ++ Take j e ∷ [])) f → Contains (outs history) f ⊎ (f ≡ e)
+out_before history j e f o = ⊎_elim inl (λ i. inr (sym (some_event e f (alone (Some e) f i)))) (Contains-append_cases (outs history) (e ∷ []) f (subst (λ z. Contains z f) (outs-append history (Take j e ∷ [])) o))
+
+pending_before : (history : List Entry) (j : ℕ) (e f : Event) → IsPending (history ++ Take j e ∷ []) f → IsPending history f
+pending_before history j e f p = record { put = subst (λ z. Contains z f) (puts_take history j e) p.put; kept = λ o. p.kept (out_later history (Take j e) f o) }
+
+-- The row r is dead, and all else stays
+
+abbrev pub dead : (ℕ → Link) → ℕ → ℕ → Link
+dead link r = put link r (record (link r) { mark = Del })
+
+dead_row : (link : ℕ → Link) (r s : ℕ) → (dead link r s).row ≡ (link s).row
+dead_row link r = put_all link r (record (link r) { mark = Del }) (λ s l. l.row ≡ (link s).row) refl (λ s _. refl)
+
+dead_generation : (link : ℕ → Link) (r s : ℕ) → (dead link r s).generation ≡ (link s).generation
+dead_generation link r = put_all link r (record (link r) { mark = Del }) (λ s l. l.generation ≡ (link s).generation) refl (λ s _. refl)
+
+-- the row r itself isn't present any more
+dead_gone : (link : ℕ → Link) (r s : ℕ) → (dead link r s).mark ≡ Val → s ≢ r
+dead_gone link r s val e = del_val (sym (ap (λ (z : Link). z.mark) (ap (dead link r) e ∙ put_here link r (record (link r) { mark = Del }))) ∙ val)
+
+-- each holder's row may be dead
+dead_fits : (h : Holding) → MarkFits h Del
+dead_fits (in_hand j) = tt
+dead_fits (listed q) = inr refl
+dead_fits (cut_by j) = refl
+dead_fits (retired t) = refl
+
+-- a present row that nobody has in hand is listed
+present_listed : (h : Holding) (m : Mark) → m ≡ Val → ((j : ℕ) → h ≡ in_hand j → ⊥) → MarkFits h m → (q : ℕ) × (h ≡ listed q)
+present_listed (in_hand j) m val out fits = absurd (out j refl)
+present_listed (listed q) m val out fits = (q, refl)
+present_listed (cut_by j) m val out fits = absurd (del_val (sym fits ∙ val))
+present_listed (retired t) m val out fits = absurd (del_val (sym fits ∙ val))
+
+module _ (l : Layout) (control : Control) (link : ℕ → Link) (twin : ℕ → ℕ) (event : ℕ → Event) (holding : ℕ → Holding) (r : ℕ) where
+  chains_dead : (head : ℕ → Link) (chain : ℕ → List ℕ) → Chains head link twin chain → Chains head (dead link r) twin chain
+  chains_dead head chain old = record { leads = λ q b. leads_same link (dead link r) (dead_row link r) (head q).row (chain q) (old.leads q b); twins = old.twins }
+
+  sorted_dead : (head : ℕ → Link) (chain : ℕ → List ℕ) → Sorted control head link event chain → Sorted control head (dead link r) event chain
+  sorted_dead head chain old = record { rises = old.rises; belongs = old.belongs; generation = λ q s b i. dead_generation link r s ∙ old.generation q s b i }
+
+  marks_dead : Marks l link twin holding → Marks l (dead link r) twin holding
+  marks_dead old = record { mark = put_all link r (record (link r) { mark = Del }) (λ s m. IsRow l s → MarkFits (holding s) m.mark) (λ _. dead_fits (holding r)) (λ s _. old.mark s); twin_is = old.twin_is }
+
+  standing_dead : (n : ℕ) (position : ℕ → Position) → (link r).mark ≡ Val → Standing n link event position → Standing n (dead link r) event position
+  standing_dead n position val old = record {
+    holds = old.holds;
+    last = λ k s m b i is. let was = old.last k s m b i is in
+        (put_else link r (record (link r) { mark = Del }) s.row (λ e. final_val (link r) m (ap link (sym e) ∙ was.0) val was.1) ∙ was.0, was.1);
+  }
+
+  writing_dead : (n : ℕ) (hand : ℕ → List ℕ) (written : ℕ → List Wrote) → ((k s : ℕ) → k < n → In s (hand k) → s ≢ r) → Writing n link twin event hand written → Writing n (dead link r) twin event hand written
+  writing_dead n hand written out old = record {
+    placed = old.placed;
+    in_hand_is = old.in_hand_is;
+    stands = λ k x b i. ap (λ m. row_word m (twin x.row) (event x.row) x.place) (put_else link r (record (link r) { mark = Del }) x.row (out k x.row b (old.in_hand_is k x b i))) ∙ old.stands k x b i;
+  }
+
+  -- where the debts of copies stay
+  module _ (guard : ℕ → Guard) (position : ℕ → Position) (debts debts' : ℕ → Debts) (copies : (k : ℕ) → (debts' k).copy ≡ (debts k).copy) where
+    was : (n k g s : ℕ) → Covers n (dead link r) twin guard position debts' k g s → Covers n link twin guard position debts k g s
+    was n = covers_same link (dead link r) (dead_row link r) n twin guard position debts debts' copies
+
+    cover_dead : (n : ℕ) (cut : ℕ → Option CutRow) → Cover n link twin guard position debts cut holding → Cover n (dead link r) twin guard position debts' cut holding
+    cover_dead n cut old = record {
+      free = λ k g s j v. old.free k g s j (was n k g s v);
+      tags = λ k g s t v. old.tags k g s t (was n k g s v);
+      resting = λ k b off. subst (λ z. rows_of (position k).rows ++ (rows_of_old (position k).old ++ rows_of_copy z) ≡ []) (sym (copies k)) (old.resting k b off);
+    }
+
+    lanes_dead : Lanes l control link twin event guard position debts → Lanes l control (dead link r) twin event guard position debts'
+    lanes_dead old = record {
+      is_row = λ k g s v. old.is_row k g s (was l.workers k g s v);
+      rises = λ k g s v. subst (λ z. 0 < z → ranks event s < ranks event z) (sym (dead_row link r s)) (old.rises k g s (was l.workers k g s v));
+      stays = λ k g s v. subst (λ z. 0 < z → head_of control (event z) ≡ head_of control (event s)) (sym (dead_row link r s)) (old.stays k g s (was l.workers k g s v));
+      generation = λ k g s v. subst (λ z. 0 < z → (dead link r z).generation ≡ (dead link r s).generation) (sym (dead_row link r s))
+          (λ some. dead_generation link r (link s).row ∙ (old.generation k g s (was l.workers k g s v) some ∙ sym (dead_generation link r s)));
+    }
+
+  -- the caller j, which named no dead row, names this one
+  naming_dead : (j : ℕ) (e : Event) (debts : ℕ → Debts) → j < l.workers → (debts j).cut ≡ None → event r ≡ e → IsRow l r → IsEvent e → Naming l control link event debts holding
+      → Naming l control (dead link r) event (put debts j (record (debts j) { cut = Some (cut_debt control r e) })) holding
+  naming_dead j e debts b free is row fits old = record {
+    named = λ s q c at. put_all link r (record (link r) { mark = Del }) (λ s m. IsRow l s → holding s ≡ listed q → m.mark ≡ Del → Named s)
+        (λ _ _ _. (j, b, inl (subst (λ (d : Debts). IsNamed d.cut r (event r)) (sym (put_here debts j new)) (refl, sym is))))
+        (λ s _ c at del. let n = old.named s q c at del in (n.0, n.1, stays n.0 s n.2)) s c at;
+    place = λ k d. put_all debts j new (λ k x. k < l.workers → x.cut ≡ Some d → (d.head ≡ head_of control d.event) × IsRow l d.row × IsEvent d.event)
+        (λ _ q. subst (λ (z : CutDebt). (z.head ≡ head_of control z.event) × IsRow l z.row × IsEvent z.event) (some_debt (cut_debt control r e) d q) (refl, row, fits)) (λ k _. old.place k d) k;
+  }
+    where
+      new : Debts
+      new = record (debts j) { cut = Some (cut_debt control r e) }
+
+      Named : ℕ → Type 0
+      Named s = (k : ℕ) × (k < l.workers) × (IsNamed (put debts j new k).cut s (event s) ⊎ IsNamed (put debts j new k).second_cut s (event s))
+
+      stays : (k s : ℕ) → IsNamed (debts k).cut s (event s) ⊎ IsNamed (debts k).second_cut s (event s) → IsNamed (put debts j new k).cut s (event s) ⊎ IsNamed (put debts j new k).second_cut s (event s)
+      stays k s = put_all debts j new (λ k x. IsNamed (debts k).cut s (event s) ⊎ IsNamed (debts k).second_cut s (event s) → IsNamed x.cut s (event s) ⊎ IsNamed x.second_cut s (event s))
+          (⊎_elim (λ n. absurd (subst (λ o. IsNamed o s (event s)) free n)) inr) (λ k _ n. n) k
+
+  -- another row that is live stays so, and no row comes to be live
+  live_stays : (s : ℕ) → s ≢ r → IsLive l link holding s → IsLive l (dead link r) holding s
+  live_stays s ne v = (v.0, v.1, ap (λ (m : Link). m.mark) (put_else link r (record (link r) { mark = Del }) s ne) ∙ v.2)
+
+  live_was : (s : ℕ) → IsLive l (dead link r) holding s → IsLive l link holding s
+  live_was s v = (v.0, v.1, sym (ap (λ (m : Link). m.mark) (put_else link r (record (link r) { mark = Del }) s (dead_gone link r s v.2))) ∙ v.2)
+
+  -- the event e of the row is taken
+  module _ (history : List Entry) (j : ℕ) (e : Event) (is : event r ≡ e) where
+    -- the row of an event that isn't out is another one
+    else_row : (s : ℕ) (f : Event) → event s ≡ f → (Contains (outs (history ++ Take j e ∷ [])) f → ⊥) → s ≢ r
+    else_row s f holds kept same = kept (subst (Contains (outs (history ++ Take j e ∷ []))) (sym is ∙ (ap event (sym same) ∙ holds)) (taken_out history j e))
+
+    carriers_dead : IsLive l link holding r → Carriers l history link event holding → Carriers l (history ++ Take j e ∷ []) (dead link r) event holding
+    carriers_dead live old = record {
+      carried = λ f p. let at = old.carried f (pending_before history j e f p) in (at.0, live_stays at.0 (else_row at.0 f at.2 p.kept) at.1, at.2);
+      pending = λ s v. let p = old.pending s (live_was s v) in record {
+        put = subst (λ z. Contains z (event s)) (sym (puts_take history j e)) p.put;
+        kept = λ o. ⊎_elim p.kept (λ (q : event s ≡ e). dead_gone link r s v.2 (old.one s r (live_was s v) live (q ∙ sym is))) (out_before history j e (event s) o);
+      };
+      one = λ s t v w. old.one s t (live_was s v) (live_was t w);
+    }
+
+    stands_dead : (at : ℕ) (f : Event) → (Contains (outs (history ++ Take j e ∷ [])) f → ⊥) → StandsFrom l link twin event holding at f → StandsFrom l (dead link r) twin event holding at f
+    stands_dead at f kept old = record {
+      row = old.row;
+      some_row = old.some_row;
+      live = live_stays old.row (else_row old.row f old.holds kept) old.live;
+      holds = old.holds;
+      reached = reaches_same (dead link r) link (λ s. sym (dead_row link r s)) twin at old.row old.reached;
+    }
+
+-- Mark
+
+-- the event at which the caller's search came to rest is pending, and no event of a lesser key was left
+take_legal : (c : Core) (j r : ℕ) (e : Event) → j < c.start.layout.workers → MayMark c.words.control r e (caller_of c j) → IsPending c.history e → c.words.event r ≡ e → Inv c → MayFollow c.history (Take j e)
+take_legal c j r e b may pending is inv = let from = inv.told.began j b may.began in let w = may.walks.0 in (
+  pending.put,
+  pending.kept,
+  (
+    from.0,
+    from.2,
+    λ f settled kept less. beyond_key c inv w.at e f (ap c.words.event may.walks.2 ∙ is)
+        (left_beyond c inv j w from.0 (Begin j ∷ from.2.back) f b may.walks.1 may.one_list from.2.parts from.1 settled kept) less,
+  ),
+)
+
+pub mark_keeps : (c : Core) (j r : ℕ) (e : Event) → j < c.start.layout.workers → MayMark c.words.control r e (caller_of c j) → (c.words.link r).mark ≡ Val → Inv c → Inv (marked c j r e)
+mark_keeps c j r e b may val inv = let l = c.start.layout in let x = c.words.control in let k = c.words.link in let t = c.words.twin in let v = c.words.event in let h = c.holding in record {
+  spelled = record {
+    is_control = inv.spelled.is_control;
+    is_current = inv.spelled.is_current;
+    is_pin = inv.spelled.is_pin;
+    heads = inv.spelled.heads;
+    links = put_all c.words.link r (record (c.words.link r) { mark = Del }) (λ s m. IsRow c.start.layout s → IsLink m) (λ at. let was = inv.spelled.links r at in record { generation = was.generation; row = was.row }) (λ s _. inv.spelled.links s);
+    twins = inv.spelled.twins;
+    events = inv.spelled.events;
+  };
+  reading = inv.reading;
+  guards = inv.guards;
+  holders = inv.holders;
+  cutting = inv.cutting;
+  stamps = inv.stamps;
+  chains = chains_dead l x k t v h r _ _ inv.chains;
+  cover = cover_dead l x k t v h r _ _ c.debts _ copies _ _ inv.cover;
+  heads = inv.heads;
+  sorted = sorted_dead l x k t v h r _ _ inv.sorted;
+  marks = marks_dead l x k t v h r inv.marks;
+  standing = standing_dead l x k t v h r _ _ val inv.standing;
+  lanes = lanes_dead l x k t v h r _ _ c.debts _ copies inv.lanes;
+  writing = writing_dead l x k t v h r _ _ _ (λ k s i at. apart c.holding r s (listed held.0) (in_hand k) held.1 (inv.holders.held k s i at).1 (omega arith)) inv.writing;
+  naming = naming_dead l x k t v h r j e c.debts b may.free is row (subst IsEvent is (inv.spelled.events r row)) inv.naming;
+  carriers = carriers_dead l x k t v h r _ j e is live inv.carriers;
+  told = told_other _ _ _ _ _ j (Take j e) b (take_legal c j r e b may pending is inv) refl refl (λ k. take_begin j k e) inv.told;
+  walkers = walkers_entry _ _ _ _ c.begun _ _ _ _ _ _ _ j (Take j e) inv.told.begun_low (λ _ _. refl) (stands_dead l x k t v h r c.history j e is) inv.walkers;
+}
+  where
+    at : (s : Stand) × In s (c.position j).rows × (s.row ≡ r) × (s.event ≡ e)
+    at = may.on
+
+    is : c.words.event r ≡ e
+    is = ap c.words.event (sym at.2) ∙ (inv.standing.holds j at.0 b at.1 ∙ at.3)
+
+    covered : (g : ℕ) × Covers c.start.layout.workers c.words.link c.words.twin c.guard c.position c.debts j g r
+    covered = stand_covered c inv j r b (subst (λ z. In z (rows_of (c.position j).rows)) at.2 (stand_row (c.position j).rows at.0 at.1))
+
+    row : IsRow c.start.layout r
+    row = inv.lanes.is_row j covered.0 r covered.1
+
+    held : (q : ℕ) × (c.holding r ≡ listed q)
+    held = present_listed (c.holding r) (c.words.link r).mark val (λ i. inv.cover.free j covered.0 r i covered.1) (inv.marks.mark r row)
+
+    live : IsLive c.start.layout c.words.link c.holding r
+    live = (row, held, val)
+
+    pending : IsPending c.history e
+    pending = subst (IsPending c.history) is (inv.carriers.pending r live)
+
+    copies : (k : ℕ) → (put c.debts j (record (c.debts j) { cut = Some (cut_debt c.words.control r e) }) k).copy ≡ (c.debts k).copy
+    copies = put_all c.debts j (record (c.debts j) { cut = Some (cut_debt c.words.control r e) }) (λ k d. d.copy ≡ (c.debts k).copy) refl (λ _ _. refl)

@@ -1,0 +1,156 @@
+-- What a take that walks a list leaves behind: no event that comes before the row at which it is.
+use Rattle.std.proofs.Common.{◌≡◌, ⊎_elim, inl, inr, ℕ, ◌+◌, ◌*◌, ◌/◌, ◌%◌, ◌^◌, ◌<◌, ◌≤◌, true, List, [], ◌∷◌, ◌++◌, length, Some, sym, refl, ap, subst, arith, le_refl}
+use Rattle.std.specs.List.{Contains}
+use Rattle.std.specs.Ordering.{nat_cmp, ordering_then, is_lt, MatchOrdering}
+use Rattle.std.specs.declared.cmp.Ordering.{Ordering}
+use Rattle.std.specs.declared.cmp.Ordering.TheVariants.{Less, Equal, Greater}
+use Rattle.std.proofs.lemmas.Cmp.{ranked}
+use Rattle.crq_base.specs.declared.event.Event.{Event}
+use Rattle.crq_base.specs.declared.entry.Entry.{Entry}
+use Rattle.crq_base.specs.declared.words.Link.{Link}
+use Rattle.crq_base.specs.declared.words.Control.{Control}
+use Rattle.crq_base.specs.Histories.{settleds, outs, IsEarlier, IsLegal}
+use Rattle.crq_base.proofs.HistoryLaws.{legal_front}
+use Rattle.crq_rule.specs.declared.debts.Debts.{Debts}
+use Rattle.crq_rule.specs.declared.view.Guard.{Guard}
+use Rattle.crq_rule.specs.declared.view.Guard.TheVariants.{Off, Entering, On}
+use Rattle.crq_rule.specs.declared.view.Position.{Position}
+use Rattle.crq_rule.specs.declared.view.Stand.{Stand}
+use Rattle.crq_rule.specs.declared.view.Walk.{Walk}
+use Rattle.crq_rule.specs.Lists.{In}
+use Rattle.crq_rule.specs.Places.{IsRow}
+use Rattle.crq_rule.specs.Core.{Core, Holding, in_hand, listed, cut_by, retired}
+use Rattle.crq_rule.specs.Parts.{IsEvent, IsOn, Names, IsPath, Covers, standing, rows_of, rows_of_old, rows_of_copy}
+use Rattle.crq_rule.specs.ListParts.{ranks, TwinFits}
+use Rattle.crq_rule.specs.Ranks.{rank, head_of, IsOpen}
+use Rattle.crq_rule.specs.Invariant.{Inv}
+use Rattle.crq_rule.proofs.HistoryLaws.{settled_put}
+
+-- Ranks
+
+-- an event with a lesser key has a lesser rank, in any row
+pub earlier_rank : (f e : Event) (y r : ℕ) → IsEvent f → y < 2 ^ 24 → IsEarlier f e → rank f y < rank e r
+unfolding rank
+earlier_rank f e y r fits low h =
+    below (nat_cmp f.time e.time) (nat_cmp f.src e.src) (nat_cmp f.seq e.seq) (ranked f.time e.time _ refl) (ranked f.src e.src _ refl) (ranked f.seq e.seq _ refl) h
+  where
+    below : (a b c : Ordering) → MatchOrdering a (f.time < e.time) (f.time ≡ e.time) (e.time < f.time) → MatchOrdering b (f.src < e.src) (f.src ≡ e.src) (e.src < f.src)
+        → MatchOrdering c (f.seq < e.seq) (f.seq ≡ e.seq) (e.seq < f.seq) → is_lt (ordering_then (ordering_then a b) c) ≡ true
+        → ((f.time * 2 ^ 32 + f.src) * 2 ^ 64 + f.seq) * 2 ^ 24 + y < ((e.time * 2 ^ 32 + e.src) * 2 ^ 64 + e.seq) * 2 ^ 24 + r
+    below Less b c t s q h = let u = fits.src in let v = fits.seq in omega arith
+    below Equal Less c t s q h = let u = fits.src in let v = fits.seq in omega arith
+    below Equal Equal Less t s q h = let u = fits.src in let v = fits.seq in omega arith
+    below Equal Equal Equal t s q h = absurd (cc)
+    below Equal Equal Greater t s q h = absurd (cc)
+    below Equal Greater c t s q h = absurd (cc)
+    below Greater b c t s q h = absurd (cc)
+
+pub time_rank : (f e : Event) (y r : ℕ) → IsEvent f → y < 2 ^ 24 → f.time < e.time → rank f y < rank e r
+unfolding rank
+time_rank f e y r a low h = let s = a.src in let q = a.seq in omega arith
+
+-- an open table of one list has one head
+pub one_head : (x : Control) (e : Event) (q : ℕ) → x.log ≡ 0 → IsOpen x q → head_of x e ≡ q
+unfolding head_of
+one_head x e q none opened = let low = opened.0 in let high : q < x.generation % 2 * 32768 + 1 = subst (λ z. q < x.generation % 2 * 32768 + 2 ^ z) none opened.1 in
+    let one : e.time / 2 ^ x.shift % 2 ^ x.log ≡ 0 = subst (λ z. e.time / 2 ^ x.shift % 2 ^ z ≡ 0) (sym none) (omega arith) in omega arith
+
+-- Covered rows
+
+-- a path, with one step more
+path_more : (link : ℕ → Link) (twin : ℕ → ℕ) (a b d : ℕ) (xs : List ℕ) → IsPath link twin a xs b → Names link twin b d → IsPath link twin a (xs ++ d ∷ []) d
+path_more link twin a b d [] p n = (subst (λ z. Names link twin z d) (sym p) n, refl)
+path_more link twin a b d (x ∷ xs) p n = (p.0, path_more link twin x b d xs p.1 n)
+
+-- what a covered row names is covered
+pub covers_next : (n : ℕ) (link : ℕ → Link) (twin : ℕ → ℕ) (guard : ℕ → Guard) (position : ℕ → Position) (debts : ℕ → Debts) (k g a b : ℕ) → Names link twin a b
+    → Covers n link twin guard position debts k g a → Covers n link twin guard position debts k g b
+covers_next n link twin guard position debts k g a b names v = record {
+  inside = v.inside;
+  on = v.on;
+  at = v.at;
+  stands = v.stands;
+  reaches = record { through = v.reaches.through ++ b ∷ []; path = path_more link twin v.at a b v.reaches.through v.reaches.path names };
+}
+
+-- the guard of a caller that stands on a row is on
+guard_on : (g : Guard) → ((IsOn g → ⊥) → ⊥) → (x : ℕ) × (g ≡ On x)
+guard_on Off h = absurd (h (λ n. n))
+guard_on (Entering x) h = absurd (h (λ n. n))
+guard_on (On x) h = (x, refl)
+
+pub in_rows : (r : ℕ) (p : Position) (d : Debts) → In r (rows_of p.rows) → In r (standing p d)
+in_rows r p d i = go (rows_of p.rows) i
+  where
+    go : (xs : List ℕ) → In r xs → In r (xs ++ (rows_of_old p.old ++ rows_of_copy d.copy))
+    go [] i = absurd i
+    go (x ∷ xs) i = ⊎_elim inl (λ t. inr (go xs t)) i
+
+-- a row on which a caller stands is covered by its guard
+pub stand_covered : (c : Core) → Inv c → (j r : ℕ) → j < c.start.layout.workers → In r (rows_of (c.position j).rows)
+    → (g : ℕ) × Covers c.start.layout.workers c.words.link c.words.twin c.guard c.position c.debts j g r
+stand_covered c inv j r b i = let at = in_rows r (c.position j) (c.debts j) i in
+    let on = guard_on (c.guard j) (λ off. subst (In r) (inv.cover.resting j b off) at) in
+    (on.0, record { inside = b; on = on.1; at = r; stands = at; reaches = record { through = []; path = refl } })
+
+-- a row that nobody has in hand has no twin
+no_twin : (h : Holding) (t : ℕ) → ((j : ℕ) → h ≡ in_hand j → ⊥) → TwinFits h t → t ≡ 0
+no_twin (in_hand j) t out fits = absurd (out j refl)
+no_twin (listed q) t out fits = fits
+no_twin (cut_by j) t out fits = fits
+no_twin (retired s) t out fits = fits
+
+-- ranks rise on the way from a covered row
+pub path_rises : (c : Core) → Inv c → (k g a b : ℕ) (xs : List ℕ) → Covers c.start.layout.workers c.words.link c.words.twin c.guard c.position c.debts k g a
+    → IsPath c.words.link c.words.twin a xs b → ranks c.words.event a ≤ ranks c.words.event b
+path_rises c inv k g a b [] v p = subst (λ z. ranks c.words.event a ≤ ranks c.words.event z) p (le_refl _)
+path_rises c inv k g a b (x ∷ xs) v p = let later = path_rises c inv k g x b xs (covers_next _ _ _ _ _ _ k g a x p.0 v) p.1 in ⊎_elim
+    (λ (is : (c.words.link a).row ≡ x). let first = subst (λ z. 0 < z → ranks c.words.event a < ranks c.words.event z) is (inv.lanes.rises k g a v) p.0.0 in omega arith)
+    (λ (is : c.words.twin a ≡ x). let some = p.0.0 in
+    let none = no_twin (c.holding a) (c.words.twin a) (λ j. inv.cover.free k g a j v) (inv.marks.twin_is a (inv.lanes.is_row k g a v)) in absurd (omega arith))
+    p.0.1
+
+-- Walks
+
+-- an event that was settled before the caller's Begin and isn't out stands in a row that isn't before the one at which the caller's walk is
+pub record IsBeyond (c : Core) (at : ℕ) (f : Event) : Type 0 where
+  pub row : ℕ
+  pub some_row : 0 < at
+  pub is_row : IsRow c.start.layout row
+  pub holds : c.words.event row ≡ f
+  pub later : ranks c.words.event at ≤ ranks c.words.event row
+
+pub left_beyond : (c : Core) → Inv c → (j : ℕ) (w : Walk) (front back : List Entry) (f : Event) → j < c.start.layout.workers → c.walk j ≡ Some w → c.words.control.log ≡ 0
+    → c.history ≡ front ++ back → length front ≡ c.begun j → Contains (settleds front) f → (Contains (outs c.history) f → ⊥) → IsBeyond c w.at f
+left_beyond c inv j w front back f b walks one parts long settled kept =
+    let opened = inv.walkers.opened j w b walks in
+    let legal : IsLegal front = legal_front [] front back (subst IsLegal parts inv.told.legal) in
+    let from = inv.walkers.left j w front back f b walks parts long (one_head c.words.control f w.head one opened.1) (settled_put front legal f settled) kept in
+    let v = stand_covered c inv j w.at b (⊎_elim (λ none. let some = from.some_row in absurd (omega arith)) (λ i. i) (inv.walkers.at_stand j w b walks)) in record {
+      row = from.row;
+      some_row = from.some_row;
+      is_row = from.live.0;
+      holds = from.holds;
+      later = path_rises c inv j v.0 w.at from.row from.reached.through v.1 from.reached.path;
+    }
+
+beyond_fits : (c : Core) → Inv c → (at : ℕ) (f : Event) (beyond : IsBeyond c at f) → IsEvent f × (beyond.row < 2 ^ 24)
+beyond_fits c inv at f beyond = let low = beyond.is_row.1 in let fit = c.start.layout.all_fit in (subst IsEvent beyond.holds (inv.spelled.events beyond.row beyond.is_row), omega arith)
+
+beyond_rank : (c : Core) (at : ℕ) (e f : Event) → c.words.event at ≡ e → (beyond : IsBeyond c at f) → rank e at ≤ rank f beyond.row
+beyond_rank c at e f is beyond = subst (λ (z : Event × Event). rank z.0 at ≤ rank z.1 beyond.row) (λ i. (is i, beyond.holds i)) beyond.later
+
+-- and so it isn't of a lesser time
+pub beyond_time : (c : Core) → Inv c → (at : ℕ) (e f : Event) → c.words.event at ≡ e → IsBeyond c at f → e.time ≤ f.time
+beyond_time c inv at e f is beyond = let fits = beyond_fits c inv at f beyond in let high = beyond_rank c at e f is beyond in
+    let not_less : ¬ (f.time < e.time) = λ (l : f.time < e.time). let less = time_rank f e beyond.row at fits.0 fits.1 l in omega arith in omega arith
+
+-- nor of a lesser key
+pub beyond_key : (c : Core) → Inv c → (at : ℕ) (e f : Event) → c.words.event at ≡ e → IsBeyond c at f → IsEarlier f e → ⊥
+beyond_key c inv at e f is beyond less = let fits = beyond_fits c inv at f beyond in let high = beyond_rank c at e f is beyond in
+    let low = earlier_rank f e beyond.row at fits.0 fits.1 less in omega arith
+
+-- the row of a stand
+pub stand_row : (ss : List Stand) (s : Stand) → In s ss → In s.row (rows_of ss)
+stand_row [] s i = absurd i
+stand_row (x ∷ ss) s i = ⊎_elim (λ e. inl (ap (λ (z : Stand). z.row) e)) (λ t. inr (stand_row ss s t)) i

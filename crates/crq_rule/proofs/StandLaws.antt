@@ -1,0 +1,108 @@
+-- How the parts on stands, lanes and walkers stay where a caller changes its guard or leaves, and how the parts that read holders stay where a row changes that isn't listed.
+use Rattle.std.proofs.Common.{◌≡◌, ◌≢◌, ◌⊎◌, ℕ, ◌<◌, List, [], ◌∷◌, ◌++◌, length, Option, Some, None, sym, ap, ◌∙◌, subst, inl}
+use Rattle.crq_base.specs.declared.event.Event.{Event}
+use Rattle.crq_base.specs.declared.entry.Entry.{Entry}
+use Rattle.crq_base.specs.declared.words.Link.{Link}
+use Rattle.crq_base.specs.declared.words.Control.{Control}
+use Rattle.crq_rule.specs.declared.debts.Debts.{Debts}
+use Rattle.crq_rule.specs.declared.layout.Layout.{Layout}
+use Rattle.crq_rule.specs.declared.view.Guard.{Guard}
+use Rattle.crq_rule.specs.declared.view.Position.{Position}
+use Rattle.crq_rule.specs.declared.view.Wrote.{Wrote}
+use Rattle.crq_rule.specs.declared.view.Walk.{Walk}
+use Rattle.crq_rule.specs.Lists.{put, In}
+use Rattle.crq_rule.specs.Places.{IsRow, IsHead}
+use Rattle.crq_rule.specs.Core.{Holding, in_hand, listed}
+use Rattle.crq_rule.specs.Parts.{Covers, standing, rows_of}
+use Rattle.crq_rule.specs.ListParts.{IsFinal, Marks, MarkFits, TwinFits, Standing, Lanes, Writing, Naming}
+use Rattle.crq_rule.specs.HistoryParts.{Carriers, Walkers, IsLive, StandsFrom}
+use Rattle.crq_rule.specs.Ranks.{head_of, IsOpen}
+use Rattle.crq_rule.specs.Kinds.{nowhere}
+use Rattle.crq_base.specs.Histories.{puts, outs}
+use Rattle.std.specs.Prelude.{Contains}
+use Rattle.crq_rule.proofs.Puts.{put_else, put_all, snoc_in}
+use Rattle.crq_rule.proofs.PartLaws.{sort}
+use Rattle.crq_rule.proofs.CoverLaws.{covered_guard, covered_nowhere}
+
+module _ (l : Layout) (control : Control) (link : ℕ → Link) (twin : ℕ → ℕ) (event : ℕ → Event) (guard : ℕ → Guard) (position : ℕ → Position) (debts : ℕ → Debts) where
+  -- lanes, where what is covered was covered before
+  pub lanes_before : (guard' : ℕ → Guard) (position' : ℕ → Position) (debts' : ℕ → Debts) → ((k g r : ℕ) → Covers l.workers link twin guard' position' debts' k g r → Covers l.workers link twin guard position debts k g r)
+      → Lanes l control link twin event guard position debts → Lanes l control link twin event guard' position' debts'
+  lanes_before guard' position' debts' before old = record {
+    is_row = λ k g r v. old.is_row k g r (before k g r v);
+    rises = λ k g r v. old.rises k g r (before k g r v);
+    stays = λ k g r v. old.stays k g r (before k g r v);
+    generation = λ k g r v. old.generation k g r (before k g r v);
+  }
+
+  pub lanes_guard : (j : ℕ) (g : Guard) → (j < l.workers → standing (position j) (debts j) ≡ []) → Lanes l control link twin event guard position debts → Lanes l control link twin event (put guard j g) position debts
+  lanes_guard j g none = lanes_before (put guard j g) position debts (covered_guard l.workers link twin guard position debts (λ _. None) (λ _. in_hand 0) j g none)
+
+  pub lanes_nowhere : (j : ℕ) → standing nowhere (debts j) ≡ [] → Lanes l control link twin event guard position debts → Lanes l control link twin event guard (put position j nowhere) debts
+  lanes_nowhere j none = lanes_before guard (put position j nowhere) debts (covered_nowhere l.workers link twin guard position debts (λ _. None) (λ _. in_hand 0) j none)
+
+-- a caller comes to stand nowhere
+pub standing_nowhere : (n : ℕ) (link : ℕ → Link) (event : ℕ → Event) (position : ℕ → Position) (j : ℕ) → Standing n link event position → Standing n link event (put position j nowhere)
+standing_nowhere n link event position j old = record {
+  holds = λ k s. put_all position j nowhere (λ k p. k < n → In s p.rows → event s.row ≡ s.event) (λ _ i. absurd i) (λ k _. old.holds k s) k;
+  last = λ k s l. put_all position j nowhere (λ k p. k < n → In s p.rows → s.last ≡ Some l → (link s.row ≡ l) × IsFinal l.mark) (λ _ i _. absurd i) (λ k _. old.last k s l) k;
+}
+
+none_walk : (w : Walk) → None ≡ Some w → ⊥
+none_walk w e = cc
+
+module _ (l : Layout) (control : Control) (history : List Entry) (begun : ℕ → ℕ) (link : ℕ → Link) (twin : ℕ → ℕ) (event : ℕ → Event) (holding : ℕ → Holding) (position : ℕ → Position) (walk : ℕ → Option Walk) where
+  -- a caller gives up its walk, and moves
+  pub walkers_none : (j : ℕ) (p : Position) → Walkers l control history begun link twin event holding position walk → Walkers l control history begun link twin event holding (put position j p) (put walk j None)
+  walkers_none j p old = record {
+    opened = λ k w. put_all walk j None (λ k o. k < l.workers → o ≡ Some w → IsHead w.head × IsOpen control w.head) (λ _ e. absurd (none_walk w e)) (λ k _. old.opened k w) k;
+    at_stand = λ k w. put_all walk j None (λ k o. k < l.workers → o ≡ Some w → (w.at ≡ 0) ⊎ In w.at (rows_of (put position j p k).rows)) (λ _ e. absurd (none_walk w e))
+        (λ k ne b e. subst (λ (q : Position). (w.at ≡ 0) ⊎ In w.at (rows_of q.rows)) (sym (put_else position j p k ne)) (old.at_stand k w b e)) k;
+    left = λ k w front back e. put_all walk j None (λ k o. k < l.workers → o ≡ Some w → history ≡ front ++ back → length front ≡ begun k → head_of control e ≡ w.head → Contains (puts front) e → (Contains (outs history) e → ⊥) → StandsFrom l link twin event holding w.at e) (λ _ q. absurd (none_walk w q)) (λ k _. old.left k w front back e) k;
+  }
+
+-- A row changes hands and isn't listed, neither before nor after
+module _ (l : Layout) (link : ℕ → Link) (holding : ℕ → Holding) (r : ℕ) (h : Holding) where
+  listed_stays : sort (holding r) ≢ 1 → sort h ≢ 1 → (s q : ℕ) → holding s ≡ listed q → put holding r h s ≡ listed q
+  listed_stays was is s q e = put_else holding r h s (λ z. was (ap (λ y. sort (holding y)) (sym z) ∙ ap sort e)) ∙ e
+
+  listed_was : sort h ≢ 1 → (s q : ℕ) → put holding r h s ≡ listed q → holding s ≡ listed q
+  listed_was is s q = put_all holding r h (λ s g. g ≡ listed q → holding s ≡ listed q) (λ e. absurd (is (ap sort e))) (λ s _ e. e) s
+
+  live_stays : sort (holding r) ≢ 1 → sort h ≢ 1 → (s : ℕ) → IsLive l link holding s → IsLive l link (put holding r h) s
+  live_stays was is s v = (v.0, (v.1.0, listed_stays was is s v.1.0 v.1.1), v.2)
+
+  live_was : sort h ≢ 1 → (s : ℕ) → IsLive l link (put holding r h) s → IsLive l link holding s
+  live_was is s v = (v.0, (v.1.0, listed_was is s v.1.0 v.1.1), v.2)
+
+  pub marks_held : (twin : ℕ → ℕ) → (IsRow l r → MarkFits h (link r).mark × TwinFits h (twin r)) → Marks l link twin holding → Marks l link twin (put holding r h)
+  marks_held twin fits old = record {
+    mark = put_all holding r h (λ s g. IsRow l s → MarkFits g (link s).mark) (λ b. (fits b).0) (λ s _. old.mark s);
+    twin_is = put_all holding r h (λ s g. IsRow l s → TwinFits g (twin s)) (λ b. (fits b).1) (λ s _. old.twin_is s);
+  }
+
+  pub naming_held : (control : Control) (event : ℕ → Event) (debts : ℕ → Debts) → sort h ≢ 1 → Naming l control link event debts holding → Naming l control link event debts (put holding r h)
+  naming_held control event debts is old = record { named = λ s q b e. old.named s q b (listed_was is s q e); place = old.place }
+
+  pub carriers_held : (history : List Entry) (event : ℕ → Event) → sort (holding r) ≢ 1 → sort h ≢ 1 → Carriers l history link event holding → Carriers l history link event (put holding r h)
+  carriers_held history event was is old = record {
+    carried = λ e p. let c = old.carried e p in (c.0, live_stays was is c.0 c.1, c.2);
+    pending = λ s v. old.pending s (live_was is s v);
+    one = λ s t v w. old.one s t (live_was is s v) (live_was is t w);
+  }
+
+  pub walkers_held : (control : Control) (history : List Entry) (begun : ℕ → ℕ) (twin : ℕ → ℕ) (event : ℕ → Event) (position : ℕ → Position) (walk : ℕ → Option Walk) → sort (holding r) ≢ 1 → sort h ≢ 1
+      → Walkers l control history begun link twin event holding position walk → Walkers l control history begun link twin event (put holding r h) position walk
+  walkers_held control history begun twin event position walk was is old = record {
+    opened = old.opened;
+    at_stand = old.at_stand;
+    left = λ k w front back e b q f n m p o. let s = old.left k w front back e b q f n m p o in record { row = s.row; some_row = s.some_row; live = live_stays was is s.row s.live; holds = s.holds; reached = s.reached };
+  }
+
+-- a caller takes one more row in hand
+pub writing_more : (n : ℕ) (link : ℕ → Link) (twin : ℕ → ℕ) (event : ℕ → Event) (hand : ℕ → List ℕ) (written : ℕ → List Wrote) (j r : ℕ) → Writing n link twin event hand written → Writing n link twin event (put hand j (hand j ++ r ∷ [])) written
+writing_more n link twin event hand written j r old = record {
+  placed = old.placed;
+  in_hand_is = λ k x. put_all hand j (hand j ++ r ∷ []) (λ k xs. k < n → In x (written k) → In x.row xs) (λ b i. snoc_in (hand j) r x.row (inl (old.in_hand_is j x b i))) (λ k _. old.in_hand_is k x) k;
+  stands = old.stands;
+}

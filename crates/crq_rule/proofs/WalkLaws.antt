@@ -1,0 +1,382 @@
+-- A walk keeps the invariant: it comes to rows that its guard covers, or to the first row of a list.
+use Rattle.std.proofs.Common.{◌≡◌, ◌≢◌, ◌⊎◌, ⊎_elim, inl, inr, ℕ, ◌<◌, ◌≤◌, Bool, true, false, cond, eqb, ltb, leb, ◌&&◌, ◌||◌, List, [], ◌∷◌, ◌++◌, length, Option, Some, None, sym, refl, ap, ◌∙◌, subst, arith}
+use Rattle.std.proofs.lemmas.Bool.{cond_both, eqb-true, ltb-true, leb-true, and_parts, or_cases, cases_lt, false≢true}
+use Rattle.std.proofs.lemmas.Option.{same_Some, none-some}
+use Rattle.std.proofs.lemmas.List.Elements.{Contains-append_left, filter_map-append}
+use Rattle.std.specs.Prelude.{Contains}
+use mathlib.Core.Logic.{dite}
+use native.Mathlib.Decide.{ℕ_discrete}
+use Rattle.crq_base.specs.declared.event.Event.{Event}
+use Rattle.crq_base.specs.declared.entry.Entry.{Entry}
+use Rattle.crq_base.specs.Histories.{puts, outs, put_of, IsPending}
+use Rattle.crq_base.specs.declared.words.Link.{Link}
+use Rattle.crq_base.specs.declared.words.Mark.{Mark}
+use Rattle.crq_base.specs.declared.words.Mark.TheVariants.{Val, Inv as Invalid, Mov, Del}
+use Rattle.crq_base.specs.declared.words.Control.{Control}
+use Rattle.crq_rule.specs.declared.debts.CutDebt.{CutDebt}
+use Rattle.crq_rule.specs.declared.debts.Debts.{Debts}
+use Rattle.crq_rule.specs.declared.view.Guard.{Guard}
+use Rattle.crq_rule.specs.declared.view.Guard.TheVariants.{Off, Entering, On}
+use Rattle.crq_rule.specs.declared.view.CutRow.{CutRow}
+use Rattle.crq_rule.specs.declared.view.Position.{Position}
+use Rattle.crq_rule.specs.declared.view.Stand.{Stand}
+use Rattle.crq_rule.specs.declared.view.Walk.{Walk}
+use Rattle.crq_rule.specs.Lists.{put, In}
+use Rattle.crq_rule.specs.Places.{IsRow, IsHead}
+use Rattle.crq_rule.specs.Core.{Core, Holding, in_hand, listed, cut_by, retired}
+use Rattle.crq_rule.specs.Parts.{IsEvent, Covers, HasTag, IsOn, Names, IsPath, Reaches, standing, rows_of, rows_of_old, rows_of_copy}
+use Rattle.crq_rule.specs.ListParts.{ranks, MarkFits, TwinFits, IsFinal, IsNamed}
+use Rattle.crq_rule.specs.HistoryParts.{StandsFrom}
+use Rattle.crq_rule.specs.Invariant.{Inv}
+use Rattle.crq_rule.specs.Ranks.{rank, head_of, IsOpen, Cell, at_head, at_row, link_at}
+use Rattle.crq_rule.specs.ListKinds.{is_final, is_passed, is_val, stands_after, walk_after, walked, is_beyond, relieved, next_stand, walked_from, MayWalk, MaySeek}
+use Rattle.crq_rule.proofs.Puts.{put_here, put_else, put_all}
+use Rattle.crq_rule.proofs.PartLaws.{sort}
+use Rattle.crq_rule.proofs.Standings.{least, first_in, next_above, adjacent, longer, reached, path_in, in_join, join_in, rows_in, next_in, stood, row_stood, row_stays, row_next}
+
+-- the guard of caller k, which found g, covers the row r
+abbrev pub IsCovered : Core → ℕ → ℕ → ℕ → Type 0
+IsCovered c k g r = Covers c.start.layout.workers c.words.link c.words.twin c.guard c.position c.debts k g r
+
+-- the row is in a list
+abbrev pub IsListed : Core → ℕ → Type 0
+IsListed c r = (q : ℕ) × IsHead q × In r (c.chain q)
+
+-- what the walk found, and what its caller knows after it
+abbrev cell_link : Core → Cell → Link
+cell_link c cell = link_at c.words.head c.words.link cell
+
+abbrev cell_event : Core → Cell → Event
+cell_event c cell = c.words.event (cell_link c cell).row
+
+abbrev new_position : Core → ℕ → Cell → Bool → Position
+new_position c j cell seeks = record { rows = stands_after cell seeks (cell_link c cell) (cell_event c cell) (c.position j).rows; old = (c.position j).old }
+
+abbrev new_debts : Core → ℕ → Cell → Debts
+new_debts c j cell = record (c.debts j) { cut = relieved (c.found j).control cell (c.position j).rows (cell_link c cell) (cell_event c cell) (c.debts j).cut }
+
+abbrev new_walk : Core → ℕ → Cell → Bool → Option Walk
+new_walk c j cell seeks = walk_after cell seeks (cell_link c cell) (c.walk j)
+
+val_del : Val ≡ Del → ⊥
+val_del e = cc
+
+module _ (c : Core) (inv : Inv c) where
+  listed_some : (q : ℕ) → IsHead q → (r : ℕ) → In r (c.chain q) → 0 < r
+  listed_some q b r i = (inv.holders.in_chain q r b i).0.0
+
+  listed_twin : (q r : ℕ) → IsHead q → In r (c.chain q) → c.words.twin r ≡ 0
+  listed_twin q r b i = let h = inv.holders.in_chain q r b i in subst (λ z. TwinFits z (c.words.twin r)) h.1 (inv.marks.twin_is r h.0)
+
+  chain_next : (q r : ℕ) → IsHead q → In r (c.chain q) → 0 < (c.words.link r).row → In (c.words.link r).row (c.chain q) × (ranks c.words.event r < ranks c.words.event (c.words.link r).row)
+  chain_next q r b i some = next_above c.words.link (ranks c.words.event) (c.words.head q).row 0 r (c.chain q) (inv.chains.leads q b) (inv.sorted.rises q b) i some
+
+  -- what a listed row names is listed after it
+  names_listed : (q : ℕ) → IsHead q → (r s : ℕ) → In r (c.chain q) → Names c.words.link c.words.twin r s → In s (c.chain q)
+  names_listed q b r s i names = ⊎_elim
+      (λ (e : (c.words.link r).row ≡ s). subst (λ z. In z (c.chain q)) e (chain_next q r b i (subst (λ z. 0 < z) (sym e) names.0)).0)
+      (λ (e : c.words.twin r ≡ s). let z = listed_twin q r b i in let p = names.0 in absurd (omega arith)) names.1
+
+  listed_sort : (q r : ℕ) → IsHead q → In r (c.chain q) → sort (c.holding r) ≡ 1
+  listed_sort q r b i = ap sort (inv.holders.in_chain q r b i).1
+
+  -- a listed row isn't in hand, and has no tag
+  listed_free : (q r i : ℕ) → IsHead q → In r (c.chain q) → c.holding r ≡ in_hand i → ⊥
+  listed_free q r i b h is = let e = listed_sort q r b h in let d : sort (c.holding r) ≡ 0 = ap sort is in omega arith
+
+  listed_untagged : (q r t : ℕ) → IsHead q → In r (c.chain q) → HasTag c.start.layout.workers c.cut c.holding r t → ⊥
+  listed_untagged q r t b h has = let e = listed_sort q r b h in ⊎_elim
+      (λ (is : c.holding r ≡ retired t). let d : sort (c.holding r) ≡ 3 = ap sort is in omega arith)
+      (λ (is : (j : ℕ) × (x : CutRow) × (j < c.start.layout.workers) × (c.cut j ≡ Some x) × (x.row ≡ r) × In t x.tags).
+      let d : sort (c.holding r) ≡ 2 = subst (λ z. sort (c.holding z) ≡ 2) is.4 (ap sort (inv.holders.is_cut is.0 is.1 is.2 is.3).1) in omega arith) has
+
+  -- a covered row has no twin, and one that is present is listed
+  covered_twin : (k g r : ℕ) → IsCovered c k g r → c.words.twin r ≡ 0
+  covered_twin k g r v = go (c.holding r) refl (inv.marks.twin_is r (inv.lanes.is_row k g r v))
+    where
+      go : (h : Holding) → c.holding r ≡ h → TwinFits h (c.words.twin r) → c.words.twin r ≡ 0
+      go (in_hand i) e f = absurd (inv.cover.free k g r i v e)
+      go (listed q) e f = f
+      go (cut_by i) e f = f
+      go (retired t) e f = f
+
+  covered_present : (k g r : ℕ) → IsCovered c k g r → (c.words.link r).mark ≡ Val → IsListed c r
+  covered_present k g r v val = go (c.holding r) refl (inv.marks.mark r row)
+    where
+      row : IsRow c.start.layout r
+      row = inv.lanes.is_row k g r v
+
+      go : (h : Holding) → c.holding r ≡ h → MarkFits h (c.words.link r).mark → IsListed c r
+      go (in_hand i) e f = absurd (inv.cover.free k g r i v e)
+      go (listed q) e f = let o = inv.holders.of_chain q r row e in (q, o.0, o.1)
+      go (cut_by i) e f = absurd (val_del (sym val ∙ f))
+      go (retired t) e f = absurd (val_del (sym val ∙ f))
+
+  -- what the cell's link leads to is led to from a row that the caller stands on, or listed
+  from_cell : (j : ℕ) (cell : Cell) (r : ℕ) → MayWalk (c.position j).rows cell → 0 < (cell_link c cell).row
+      → Reaches c.words.link c.words.twin (cell_link c cell).row r → ((a : ℕ) × In a (rows_of (c.position j).rows) × Reaches c.words.link c.words.twin a r) ⊎ IsListed c r
+  from_cell j (at_head q) r may some reaches = inr (
+    q,
+    may,
+    path_in c.words.link c.words.twin (c.chain q) (names_listed q may) (c.words.head q).row r reaches.through
+        (first_in c.words.link (ranks c.words.event) (c.words.head q).row (c.chain q) (inv.chains.leads q may) some) reaches.path,
+  )
+  from_cell j (at_row p) r may some reaches = inl (
+    p,
+    subst (λ z. In z (rows_of (c.position j).rows)) may.1.2 (rows_in (c.position j).rows may.1.0 may.1.1),
+    longer c.words.link c.words.twin p (c.words.link p).row r (some, inl refl) reaches,
+  )
+
+module _ (c : Core) (j : ℕ) (cell : Cell) (seeks : Bool) where
+  -- what the caller stands on after the walk
+  stands_j : (k : ℕ) → k ≡ j → standing ((walked_from c j cell seeks).position k) ((walked_from c j cell seeks).debts k)
+      ≡ rows_of (new_position c j cell seeks).rows ++ (rows_of_old (c.position j).old ++ rows_of_copy (c.debts j).copy)
+  stands_j k e = let n = walked_from c j cell seeks in
+      ap (λ z. standing (n.position z) (n.debts z)) e ∙ (λ i. standing (put_here c.position j (new_position c j cell seeks) i) (put_here c.debts j (new_debts c j cell) i))
+
+  stands_else : (k : ℕ) → k ≢ j → standing ((walked_from c j cell seeks).position k) ((walked_from c j cell seeks).debts k) ≡ standing (c.position k) (c.debts k)
+  stands_else k ne = λ i. standing (put_else c.position j (new_position c j cell seeks) k ne i) (put_else c.debts j (new_debts c j cell) k ne i)
+
+  -- what is covered after the walk was covered before it, or is listed
+  before : MayWalk (c.position j).rows cell → Inv c → (k g r : ℕ) → IsCovered (walked_from c j cell seeks) k g r → IsCovered c k g r ⊎ IsListed c r
+  before may inv k g r v = dite (ℕ_discrete k j)
+      (λ (e : k ≡ j).
+      let same : (a : ℕ) → In a (standing (c.position j) (c.debts j)) → Reaches c.words.link c.words.twin a r → IsCovered c k g r =
+      λ a i to. record { inside = v.inside; on = v.on; at = a; stands = subst (λ z. In a (standing (c.position z) (c.debts z))) (sym e) i; reaches = to } in
+      let rest = rows_of_old (c.position j).old ++ rows_of_copy (c.debts j).copy in
+      let rows = rows_of (c.position j).rows in
+      ⊎_elim
+      (λ h. ⊎_elim (λ i. inl (same v.at (join_in rows rest v.at (inl i)) v.reaches))
+      (λ h. ⊎_elim (λ t. inl (same t.0 (join_in rows rest t.0 (inl t.1)) t.2)) inr (from_cell c inv j cell r may h.0 (subst (λ z. Reaches c.words.link c.words.twin z r) (sym h.1) v.reaches)))
+      (row_stood cell seeks (cell_link c cell) (cell_event c cell) (c.position j).rows v.at h))
+      (λ h. inl (same v.at (join_in rows rest v.at (inr h)) v.reaches))
+      (in_join (rows_of (new_position c j cell seeks).rows) rest v.at (subst (λ z. In v.at z) (stands_j k e) v.stands)))
+      (λ ne. inl (record { inside = v.inside; on = v.on; at = v.at; stands = subst (λ z. In v.at z) (stands_else k ne) v.stands; reaches = v.reaches }))
+
+on_is : (g : Guard) → IsOn g → (x : ℕ) × (g ≡ On x)
+on_is Off on = absurd on
+on_is (Entering x) on = absurd on
+on_is (On x) on = (x, refl)
+
+val_is : (m : Mark) → is_val m ≡ true → m ≡ Val
+val_is Val e = refl
+val_is Invalid e = absurd (false≢true e)
+val_is Mov e = absurd (false≢true e)
+val_is Del e = absurd (false≢true e)
+
+final_is : (m : Mark) → is_final m ≡ true → IsFinal m
+final_is Val e = absurd (false≢true e)
+final_is Invalid e = absurd (false≢true e)
+final_is Mov e = tt
+final_is Del e = tt
+
+-- what the walk found where it goes past a debt
+beyond_is : (x : Option Control) (p : ℕ) (ss : List Stand) (d : CutDebt) → is_beyond x (at_row p) ss d ≡ true
+    → (y : Control) × (x ≡ Some y) × ((s : Stand) × In s ss × (s.row ≡ p) × (head_of y s.event ≡ d.head) × (rank s.event p ≤ rank d.event d.row))
+beyond_is None p ss d t = absurd (false≢true t)
+beyond_is (Some y) p [] d t = absurd (false≢true t)
+beyond_is (Some y) p (s ∷ ss) d t = cond_both (eqb s.row p) (eqb (head_of y s.event) d.head && leb (rank s.event p) (rank d.event d.row)) (is_beyond (Some y) (at_row p) ss d)
+    (λ b. b ≡ true → (z : Control) × (Some y ≡ Some z) × ((u : Stand) × In u (s ∷ ss) × (u.row ≡ p) × (head_of z u.event ≡ d.head) × (rank u.event p ≤ rank d.event d.row)))
+    (λ yes h. let parts = and_parts (eqb (head_of y s.event) d.head) (leb (rank s.event p) (rank d.event d.row)) h in
+    (y, refl, (s, inl refl, eqb-true s.row p yes, eqb-true (head_of y s.event) d.head parts.0, leb-true (rank s.event p) (rank d.event d.row) parts.1)))
+    (λ _ h. let r = beyond_is (Some y) p ss d h in (r.0, r.1, (r.2.0, inr r.2.1, r.2.2, r.2.3, r.2.4))) t
+
+-- the walk found the dead row gone
+abbrev is_past : Option Control → Cell → List Stand → Link → Event → CutDebt → Bool
+is_past x cell ss l e d = is_val l.mark && (is_beyond x cell ss d && (eqb l.row 0 || ltb (rank d.event d.row) (rank e l.row)))
+
+-- a debt that the walk isn't past stays, and one that is left was there
+relieved_named : (x : Option Control) (cell : Cell) (ss : List Stand) (l : Link) (e : Event) (o : Option CutDebt) (r : ℕ) (f : Event)
+    → ((d : CutDebt) → o ≡ Some d → d.row ≡ r → d.event ≡ f → is_past x cell ss l e d ≡ true → ⊥) → IsNamed o r f → IsNamed (relieved x cell ss l e o) r f
+relieved_named x cell ss l e None r f still named = absurd named
+relieved_named x cell ss l e (Some d) r f still named = cond_both (is_past x cell ss l e d) None (Some d) (λ o. IsNamed o r f) (λ t. absurd (still d refl named.0 named.1 t)) (λ _. named)
+
+relieved_some : (x : Option Control) (cell : Cell) (ss : List Stand) (l : Link) (e : Event) (o : Option CutDebt) (d : CutDebt) → relieved x cell ss l e o ≡ Some d → o ≡ Some d
+relieved_some x cell ss l e None d is = is
+relieved_some x cell ss l e (Some a) d is = cond_both (is_past x cell ss l e a) None (Some a) (λ o. o ≡ Some d → Some a ≡ Some d) (λ _ n. absurd (none-some d n)) (λ _ i. i) is
+
+module _ (c : Core) (j g : ℕ) (b : j < c.start.layout.workers) (on : c.guard j ≡ On g) (inv : Inv c) where
+  -- the rows that the caller stands on are covered
+  covered_at : (r : ℕ) → In r (rows_of (c.position j).rows) → IsCovered c j g r
+  covered_at r i = record {
+    inside = b;
+    on = on;
+    at = r;
+    stands = join_in (rows_of (c.position j).rows) (rows_of_old (c.position j).old ++ rows_of_copy (c.debts j).copy) r (inl i);
+    reaches = record { through = []; path = refl };
+  }
+
+  -- where the row after the cell isn't above the row r, the walk isn't past it
+  not_past : (q r : ℕ) (l : Link) (d : CutDebt) → IsHead q → In l.row (c.chain q) → ranks c.words.event l.row ≤ ranks c.words.event r → rank d.event d.row ≡ ranks c.words.event r
+      → (eqb l.row 0 || ltb (rank d.event d.row) (rank (c.words.event l.row) l.row)) ≡ true → ⊥
+  not_past q r l d h i low same t = ⊎_elim
+      (λ z. let e = eqb-true l.row 0 z in let some = listed_some c inv q h l.row i in omega arith)
+      (λ z. let e = ltb-true (rank d.event d.row) (rank (c.words.event l.row) l.row) z in omega arith)
+      (or_cases (eqb l.row 0) (ltb (rank d.event d.row) (rank (c.words.event l.row) l.row)) t)
+
+  -- a dead row that is listed stays owed
+  still_owed : (cell : Cell) (d : CutDebt) (q r : ℕ) → MayWalk (c.position j).rows cell → d.head ≡ head_of c.words.control d.event → IsHead q → In r (c.chain q) → (c.words.link r).mark ≡ Del → d.row ≡ r → d.event ≡ c.words.event r
+      → is_past (c.found j).control cell (c.position j).rows (cell_link c cell) (cell_event c cell) d ≡ true → ⊥
+  still_owed (at_head p) d q r may place h i del row event past = let l = c.words.head p in
+      let t = (and_parts (is_val l.mark) (eqb d.head p && (eqb l.row 0 || ltb (rank d.event d.row) (rank (c.words.event l.row) l.row))) past).1 in
+      let u = and_parts (eqb d.head p) (eqb l.row 0 || ltb (rank d.event d.row) (rank (c.words.event l.row) l.row)) t in
+      let same : q ≡ p = sym (inv.sorted.belongs q r h i) ∙ (ap (head_of c.words.control) (sym event) ∙ (sym place ∙ eqb-true d.head p u.0)) in
+      let m = least c.words.link (ranks c.words.event) l.row 0 r (c.chain p) (inv.chains.leads p may) (inv.sorted.rises p may) (subst (λ z. In r (c.chain z)) same i) in
+      not_past p r l d may m.0 m.1 (λ k. rank (event k) (row k)) u.1
+  still_owed (at_row p) d q r may place h i del row event past = let l = c.words.link p in let x = (c.found j).control in let ss = (c.position j).rows in
+      let t = and_parts (is_val l.mark) (is_beyond x (at_row p) ss d && (eqb l.row 0 || ltb (rank d.event d.row) (rank (c.words.event l.row) l.row))) past in
+      let u = and_parts (is_beyond x (at_row p) ss d) (eqb l.row 0 || ltb (rank d.event d.row) (rank (c.words.event l.row) l.row)) t.1 in
+      let s = beyond_is x p ss d u.0 in
+      let val = val_is l.mark t.0 in
+      let in_list = covered_present c inv j g p (covered_at p (subst (λ z. In z (rows_of ss)) s.2.2 (rows_in ss s.2.0 s.2.1))) val in
+      let holds : c.words.event p ≡ s.2.0.event = ap c.words.event (sym s.2.2) ∙ inv.standing.holds j s.2.0 b s.2.1 in
+      let control : s.0 ≡ c.words.control = inv.reading.read_control j s.0 b s.1 in
+      let same : in_list.0 ≡ q = sym (inv.sorted.belongs in_list.0 p in_list.1 in_list.2) ∙ ((λ k. head_of (sym control k) (holds k)) ∙ (s.2.3 ∙ (place ∙ (ap (head_of c.words.control) event ∙ inv.sorted.belongs q r h i)))) in
+      let rank_is : rank d.event d.row ≡ ranks c.words.event r = λ k. rank (event k) (row k) in
+      let low : ranks c.words.event p ≤ ranks c.words.event r = subst (λ z. ranks c.words.event p ≤ z) rank_is (subst (λ z. rank z p ≤ rank d.event d.row) (sym holds) s.2.4) in
+      let m = adjacent c.words.link (ranks c.words.event) (c.words.head q).row 0 p r (c.chain q) (inv.chains.leads q h) (inv.sorted.rises q h) (subst (λ z. In p (c.chain z)) same in_list.2) i
+      (λ e. val_del (sym val ∙ (ap (λ z. (c.words.link z).mark) e ∙ del))) low in
+      not_past q r l d h m.0 m.1 rank_is u.1
+
+-- what is known of the walk w of the caller j, which stands on these rows
+record WalkFits (c : Core) (j : ℕ) (rows : List ℕ) (w : Walk) : Type 0 where
+  opened : IsHead w.head × IsOpen c.words.control w.head
+  at_stand : (w.at ≡ 0) ⊎ In w.at rows
+  left : (front back : List Entry) (e : Event) → c.history ≡ front ++ back → length front ≡ c.begun j → head_of c.words.control e ≡ w.head → Contains (puts front) e → (Contains (outs c.history) e → ⊥)
+      → StandsFrom c.start.layout c.words.link c.words.twin c.words.event c.holding w.at e
+
+-- what can't fail to hold of two numbers holds
+between : (a b q : ℕ) → (((a ≤ q) × (q < b) → ⊥) → ⊥) → (a ≤ q) × (q < b)
+between a b q h = (⊎_elim (λ (l : q < a). absurd (h (λ o. let p = o.0 in omega arith))) (λ l. l) (cases_lt q a), ⊎_elim (λ l. l) (λ (l : b ≤ q). absurd (h (λ o. let p = o.1 in omega arith))) (cases_lt q b))
+
+val_mov : Val ≡ Mov → ⊥
+val_mov e = cc
+
+-- the first step of a path from a row that has no twin is by its link
+first_step : (link : ℕ → Link) (twin : ℕ → ℕ) (r y : ℕ) (ps : List ℕ) → r ≢ y → twin r ≡ 0 → IsPath link twin r ps y → (0 < (link r).row) × Reaches link twin (link r).row y
+first_step link twin r y [] ne none path = absurd (ne path)
+first_step link twin r y (p ∷ ps) ne none path = ⊎_elim
+    (λ (e : (link r).row ≡ p). (subst (λ z. 0 < z) (sym e) path.0.0, record { through = ps; path = subst (λ z. IsPath link twin z ps y) (sym e) path.1 }))
+    (λ (e : twin r ≡ p). let some = path.0.0 in absurd (omega arith)) path.0.1
+
+module _ (c : Core) (j g : ℕ) (b : j < c.start.layout.workers) (on : c.guard j ≡ On g) (inv : Inv c) where
+  -- a walk that begins at a head
+  at_first : (q : ℕ) → IsHead q → (c.words.head q).mark ≡ Val → WalkFits c j (rows_of (next_stand (c.words.head q) (c.words.event (c.words.head q).row))) (record { head = q; at = (c.words.head q).row })
+  at_first q h val = record {
+    opened = (h, between _ _ q (λ no. val_mov (sym val ∙ (inv.heads.shut q h no).0)));
+    at_stand = next_in (c.words.head q) (c.words.event (c.words.head q).row);
+    left = λ front back e parts _ at put kept.
+        let pending : IsPending c.history e = record {
+          put = subst (λ z. Contains (puts z) e) (sym parts) (subst (λ z. Contains z e) (sym (filter_map-append put_of front back)) (Contains-append_left (puts front) (puts back) e put));
+          kept = kept;
+        } in
+        let y = inv.carriers.carried e pending in
+        let in_list = inv.holders.of_chain y.1.1.0 y.0 y.1.0 y.1.1.1 in
+        let same : y.1.1.0 ≡ q = sym (inv.sorted.belongs y.1.1.0 y.0 in_list.0 in_list.1) ∙ (ap (head_of c.words.control) y.2 ∙ at) in
+        let to = reached c.words.link c.words.twin (c.words.head q).row y.0 (c.chain q) (listed_some c inv q h) (inv.chains.leads q h) (subst (λ z. In y.0 (c.chain z)) same in_list.1) in
+        record { row = y.0; some_row = to.0; live = y.1; holds = y.2; reached = to.1 };
+  }
+
+  -- a walk that stays at its row, or goes past it
+  at_next : (r : ℕ) (rows : List ℕ) (x : Walk) → c.walk j ≡ Some x → x.at ≡ r → In r (rows_of (c.position j).rows) → In r rows → ((c.words.link r).row ≡ 0) ⊎ In (c.words.link r).row rows
+      → WalkFits c j rows (cond (is_passed (c.words.link r).mark) (record x { at = (c.words.link r).row }) x)
+  at_next r rows x is at i stays next = let l = c.words.link r in cond_both (is_passed l.mark) (record x { at = l.row }) x (WalkFits c j rows)
+      (λ passed. record {
+        opened = inv.walkers.opened j x b is;
+        at_stand = next;
+        left = λ front back e parts len of put kept. let f = inv.walkers.left j x front back e b is parts len of put kept in
+            let ne : r ≢ f.row = λ same. false≢true (sym (ap (λ z. is_passed (c.words.link z).mark) same ∙ ap is_passed f.live.2) ∙ passed) in
+            let to = first_step c.words.link c.words.twin r f.row f.reached.through ne (covered_twin c inv j g r (covered_at c j g b on inv r i)) (subst (λ z. IsPath c.words.link c.words.twin z f.reached.through f.row) at f.reached.path) in
+            record { row = f.row; some_row = to.0; live = f.live; holds = f.holds; reached = to.1 };
+      })
+      (λ _. record { opened = inv.walkers.opened j x b is; at_stand = inr (subst (λ z. In z rows) (sym at) stays); left = λ front back e. inv.walkers.left j x front back e b is })
+
+  -- each walk that there is after the step
+  walk_fits : (cell : Cell) (seeks : Bool) (w : Walk) → MayWalk (c.position j).rows cell → MaySeek (c.own j) (c.walk j) cell seeks → walk_after cell seeks (cell_link c cell) (c.walk j) ≡ Some w
+      → WalkFits c j (rows_of (new_position c j cell seeks).rows) w
+  walk_fits (at_head q) seeks w may seek is = let l = c.words.head q in let rows = rows_of (next_stand l (c.words.event l.row)) in
+      cond_both (seeks && is_val l.mark) (Some (record { head = q; at = l.row })) None (λ o. o ≡ Some w → WalkFits c j rows w)
+      (λ yes e. subst (WalkFits c j rows) (same_Some (record { head = q; at = l.row }) w e) (at_first q may (val_is l.mark (and_parts seeks (is_val l.mark) yes).1)))
+      (λ _ n. absurd (none-some w n)) is
+  walk_fits (at_row r) false w may seek is = absurd (none-some w is)
+  walk_fits (at_row r) true w may seek is = let l = c.words.link r in let e = c.words.event l.row in let ss = (c.position j).rows in
+      let i = subst (λ z. In z (rows_of ss)) may.1.2 (rows_in ss may.1.0 may.1.1) in
+      let x = seek.0 in
+      subst (WalkFits c j (rows_of (stands_after (at_row r) true l e ss))) (same_Some (cond (is_passed l.mark) (record x { at = l.row }) x) w (sym (ap (walked l) seek.1) ∙ is))
+      (at_next r (rows_of (stands_after (at_row r) true l e ss)) x seek.1 seek.2 i (row_stays r true l e ss i) (row_next r true l e ss))
+
+-- A walk keeps the invariant
+pub walk_keeps : (c : Core) (j : ℕ) (cell : Cell) (seeks : Bool) → j < c.start.layout.workers → IsOn (c.guard j) → MayWalk (c.position j).rows cell → MaySeek (c.own j) (c.walk j) cell seeks → Inv c → Inv (walked_from c j cell seeks)
+walk_keeps c j cell seeks b is_on may seek inv = record {
+  spelled = inv.spelled;
+  reading = inv.reading;
+  guards = inv.guards;
+  holders = inv.holders;
+  cutting = inv.cutting;
+  stamps = inv.stamps;
+  chains = inv.chains;
+  cover = record {
+    free = λ k x r i v held. ⊎_elim (λ o. inv.cover.free k x r i o held) (λ h. listed_free c inv h.0 r i h.1 h.2 held) (old k x r v);
+    tags = λ k x r t v has. ⊎_elim (λ o. inv.cover.tags k x r t o has) (λ h. absurd (listed_untagged c inv h.0 r t h.1 h.2 has)) (old k x r v);
+    resting = λ k d off. dite (ℕ_discrete k j) (λ (e : k ≡ j). absurd (off (subst (λ z. IsOn (c.guard z)) (sym e) is_on))) (λ ne. stands_else c j cell seeks k ne ∙ inv.cover.resting k d off);
+  };
+  heads = inv.heads;
+  sorted = inv.sorted;
+  marks = inv.marks;
+  standing = record {
+    holds = λ k s. put_all c.position j (new_position c j cell seeks) (λ k p. k < c.start.layout.workers → In s p.rows → c.words.event s.row ≡ s.event)
+        (λ d i. ⊎_elim (inv.standing.holds j s d) (⊎_elim
+        (λ h. subst (λ (z : Stand). c.words.event z.row ≡ z.event) (sym h.1) refl)
+        (λ h. subst (λ (z : Stand). c.words.event z.row ≡ z.event) (sym h.3) (inv.standing.holds j h.0 d h.1)))
+        (stood cell seeks (cell_link c cell) (cell_event c cell) (c.position j).rows s i))
+        (λ k _. inv.standing.holds k s) k;
+    last = λ k s m. put_all c.position j (new_position c j cell seeks) (λ k p. k < c.start.layout.workers → In s p.rows → s.last ≡ Some m → (c.words.link s.row ≡ m) × IsFinal m.mark)
+        (λ d i is. ⊎_elim (λ h. inv.standing.last j s m d h is) (⊎_elim
+        (λ h. absurd (none-some m (sym (ap (λ (z : Stand). z.last) h.1) ∙ is)))
+        (λ h. let same : cell_link c cell ≡ m = same_Some (cell_link c cell) m (sym (ap (λ (z : Stand). z.last) h.3) ∙ is) in
+        (ap (λ (z : Stand). c.words.link z.row) h.3 ∙ (sym (ap (link_at c.words.head c.words.link) h.2) ∙ same), subst (λ z. IsFinal z.mark) same (final_is (cell_link c cell).mark h.4))))
+        (stood cell seeks (cell_link c cell) (cell_event c cell) (c.position j).rows s i))
+        (λ k _. inv.standing.last k s m) k;
+  };
+  lanes = record {
+    is_row = λ k x r v. ⊎_elim (inv.lanes.is_row k x r) (λ h. (inv.holders.in_chain h.0 r h.1 h.2).0) (old k x r v);
+    rises = λ k x r v some. ⊎_elim (λ o. inv.lanes.rises k x r o some) (λ h. (chain_next c inv h.0 r h.1 h.2 some).1) (old k x r v);
+    stays = λ k x r v some. ⊎_elim (λ o. inv.lanes.stays k x r o some)
+        (λ h. inv.sorted.belongs h.0 (c.words.link r).row h.1 (chain_next c inv h.0 r h.1 h.2 some).0 ∙ sym (inv.sorted.belongs h.0 r h.1 h.2)) (old k x r v);
+    generation = λ k x r v some. ⊎_elim (λ o. inv.lanes.generation k x r o some)
+        (λ h. inv.sorted.generation h.0 (c.words.link r).row h.1 (chain_next c inv h.0 r h.1 h.2 some).0 ∙ sym (inv.sorted.generation h.0 r h.1 h.2)) (old k x r v);
+  };
+  writing = inv.writing;
+  naming = record {
+    named = λ r q row held del. let o = inv.naming.named r q row held del in let in_list = inv.holders.of_chain q r row held in (
+      o.0,
+      o.1,
+      put_all c.debts j (new_debts c j cell) (λ k t. k < c.start.layout.workers → IsNamed (c.debts k).cut r (c.words.event r) ⊎ IsNamed (c.debts k).second_cut r (c.words.event r) → IsNamed t.cut r (c.words.event r) ⊎ IsNamed t.second_cut r (c.words.event r))
+          (λ d h. ⊎_elim (λ named. inl (relieved_named (c.found j).control cell (c.position j).rows (cell_link c cell) (cell_event c cell) (c.debts j).cut r (c.words.event r)
+          (λ x is same same' past. still_owed c j on.0 b on.1 inv cell x q r may (inv.naming.place j x d is).0 in_list.0 in_list.1 del same same' past) named)) inr h)
+          (λ k _ _ h. h) o.0 o.1 o.2,
+    );
+    place = λ k x. put_all c.debts j (new_debts c j cell) (λ k t. k < c.start.layout.workers → t.cut ≡ Some x → (x.head ≡ head_of c.words.control x.event) × IsRow c.start.layout x.row × IsEvent x.event)
+        (λ d is. inv.naming.place j x d (relieved_some (c.found j).control cell (c.position j).rows (cell_link c cell) (cell_event c cell) (c.debts j).cut x is)) (λ k _. inv.naming.place k x) k;
+  };
+  carriers = inv.carriers;
+  told = inv.told;
+  walkers = record {
+    opened = λ k w. put_all c.walk j (new_walk c j cell seeks) (λ k o. k < c.start.layout.workers → o ≡ Some w → IsHead w.head × IsOpen c.words.control w.head) (λ _ is. (fits w is).opened) (λ k _. inv.walkers.opened k w) k;
+    at_stand = λ k w. put_all c.walk j (new_walk c j cell seeks) (λ k o. k < c.start.layout.workers → o ≡ Some w → (w.at ≡ 0) ⊎ In w.at (rows_of (put c.position j (new_position c j cell seeks) k).rows))
+        (λ _ is. subst (λ p. (w.at ≡ 0) ⊎ In w.at (rows_of p.rows)) (sym (put_here c.position j (new_position c j cell seeks))) (fits w is).at_stand)
+        (λ k ne d is. subst (λ p. (w.at ≡ 0) ⊎ In w.at (rows_of p.rows)) (sym (put_else c.position j (new_position c j cell seeks) k ne)) (inv.walkers.at_stand k w d is)) k;
+    left = λ k w front back e. put_all c.walk j (new_walk c j cell seeks) (λ k o. k < c.start.layout.workers → o ≡ Some w → c.history ≡ front ++ back → length front ≡ c.begun k → head_of c.words.control e ≡ w.head → Contains (puts front) e → (Contains (outs c.history) e → ⊥)
+        → StandsFrom c.start.layout c.words.link c.words.twin c.words.event c.holding w.at e)
+        (λ _ is. (fits w is).left front back e) (λ k _. inv.walkers.left k w front back e) k;
+  };
+}
+  where
+    on : (g : ℕ) × (c.guard j ≡ On g)
+    on = on_is (c.guard j) is_on
+
+    old : (k x r : ℕ) → IsCovered (walked_from c j cell seeks) k x r → IsCovered c k x r ⊎ IsListed c r
+    old k x r v = before c j cell seeks may inv k x r v
+
+    fits : (w : Walk) → new_walk c j cell seeks ≡ Some w → WalkFits c j (rows_of (new_position c j cell seeks).rows) w
+    fits w is = walk_fits c j on.0 b on.1 inv cell seeks w may seek is

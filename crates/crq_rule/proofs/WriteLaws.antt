@@ -1,0 +1,349 @@
+-- Writing into a row in hand keeps the invariant: no guard covers the row, so all that is known of covered and listed rows stays.
+use Rattle.std.proofs.Common.{◌≡◌, ◌≢◌, ◌⊎◌, ⊎_elim, inl, inr, ℕ, zero, suc, ◌<◌, ◌≤◌, cond, ◌&&◌, eqb, Bool, true, false, List, [], ◌∷◌, ◌++◌, Option, Some, sym, refl, ap, ◌∙◌, subst, arith, eq-eqb}
+use mathlib.Core.Logic.{dite}
+use native.Mathlib.Decide.{ℕ_discrete}
+use Rattle.crq_base.specs.declared.event.Event.{Event}
+use Rattle.crq_base.specs.declared.words.Link.{Link}
+use Rattle.crq_base.specs.declared.words.Mark.TheVariants.{Del}
+use Rattle.crq_base.specs.Words.{IsLink}
+use Rattle.crq_base.specs.Histories.{IsPending}
+use Rattle.crq_rule.specs.declared.debts.Debts.{Debts}
+use Rattle.crq_rule.specs.declared.view.Guard.{Guard}
+use Rattle.crq_rule.specs.declared.view.Guard.TheVariants.{Off, Entering, On}
+use Rattle.crq_rule.specs.declared.view.CutRow.{CutRow}
+use Rattle.crq_rule.specs.declared.view.Position.{Position}
+use Rattle.crq_rule.specs.declared.view.Stand.{Stand}
+use Rattle.crq_rule.specs.declared.view.Walk.{Walk}
+use Rattle.crq_rule.specs.declared.view.Wrote.{Wrote}
+use Rattle.crq_rule.specs.Lists.{put, In}
+use Rattle.crq_rule.specs.Places.{IsRow, IsHead}
+use Rattle.crq_rule.specs.Core.{Core, Holding, in_hand, listed}
+use Rattle.crq_rule.specs.Parts.{IsEvent, IsOn, Leads, Names, IsPath, Reaches, Covers, Cover, rows_of, standing}
+use Rattle.crq_rule.specs.Ranks.{rank, head_of, Rises}
+use Rattle.crq_rule.specs.ListParts.{ranks, MarkFits, TwinFits, IsNamed, row_word}
+use Rattle.crq_rule.specs.HistoryParts.{IsLive}
+use Rattle.crq_rule.specs.Invariant.{Inv}
+use Rattle.crq_rule.specs.ListKinds.{Content, new_link, no_twin, new_time, new_source, new_sequence, new_load, IsContent, content_number, content_word, link_after, twin_after, event_after, unwritten, wrote, written_at}
+use Rattle.crq_rule.proofs.Puts.{put_here, put_else, put_all}
+use Rattle.crq_rule.proofs.PartLaws.{sort, of_whom}
+
+-- Covered rows
+
+on_or_not : (g : Guard) → ((x : ℕ) × (g ≡ On x)) ⊎ (IsOn g → ⊥)
+on_or_not Off = inr (λ n. n)
+on_or_not (Entering x) = inr (λ n. n)
+on_or_not (On x) = inl (x, refl)
+
+pub in_front : (xs ys : List ℕ) (a : ℕ) → In a xs → In a (xs ++ ys)
+in_front [] ys a i = absurd i
+in_front (x ∷ xs) ys a i = ⊎_elim inl (λ t. inr (in_front xs ys a t)) i
+
+pub row_of_stand : (ss : List Stand) (s : Stand) → In s ss → In s.row (rows_of ss)
+row_of_stand [] s i = absurd i
+row_of_stand (x ∷ xs) s i = ⊎_elim (λ e. inl (ap (λ (z : Stand). z.row) e)) (λ t. inr (row_of_stand xs s t)) i
+
+-- a path of one more row
+pub path_on : (link : ℕ → Link) (twin : ℕ → ℕ) (a r s : ℕ) (xs : List ℕ) → IsPath link twin a xs r → Names link twin r s → IsPath link twin a (xs ++ s ∷ []) s
+path_on link twin a r s [] path names = (subst (λ z. Names link twin z s) (sym path) names, refl)
+path_on link twin a r s (x ∷ xs) path names = (path.0, path_on link twin x r s xs path.1 names)
+
+module _ (n : ℕ) (link : ℕ → Link) (twin : ℕ → ℕ) (guard : ℕ → Guard) (position : ℕ → Position) (debts : ℕ → Debts) where
+  -- what a covered row names is covered
+  pub named_covered : (k g r s : ℕ) → Covers n link twin guard position debts k g r → Names link twin r s → Covers n link twin guard position debts k g s
+  named_covered k g r s v names = record {
+    inside = v.inside;
+    on = v.on;
+    at = v.at;
+    stands = v.stands;
+    reaches = record { through = v.reaches.through ++ s ∷ []; path = path_on link twin v.at r s v.reaches.through v.reaches.path names };
+  }
+
+  -- a caller's guard covers each row that the caller stands on
+  pub stand_covered : (cut : ℕ → Option CutRow) (holding : ℕ → Holding) → Cover n link twin guard position debts cut holding → (k a : ℕ) → k < n → In a (standing (position k) (debts k)) → (g : ℕ) × Covers n link twin guard position debts k g a
+  stand_covered cut holding cover k a b i = ⊎_elim
+      (λ g. (g.0, record { inside = b; on = g.1; at = a; stands = i; reaches = record { through = []; path = refl } }))
+      (λ off. absurd (subst (In a) (cover.resting k b off) i)) (on_or_not (guard k))
+
+-- Links and twins that change at the row r alone
+
+module _ (link link' : ℕ → Link) (twin twin' : ℕ → ℕ) (r : ℕ) (same : (a : ℕ) → a ≢ r → link' a ≡ link a) (same' : (a : ℕ) → a ≢ r → twin' a ≡ twin a) where
+  names_back : (a b : ℕ) → a ≢ r → Names link' twin' a b → Names link twin a b
+  names_back a b ne names = (names.0, ⊎_elim (λ e. inl (ap (λ (l : Link). l.row) (sym (same a ne)) ∙ e)) (λ e. inr (sym (same' a ne) ∙ e)) names.1)
+
+  names_on : (a b : ℕ) → a ≢ r → Names link twin a b → Names link' twin' a b
+  names_on a b ne names = (names.0, ⊎_elim (λ e. inl (ap (λ (l : Link). l.row) (same a ne) ∙ e)) (λ e. inr (same' a ne ∙ e)) names.1)
+
+  -- a path by the new ones is one by the old, where the old ones don't lead to r
+  pub path_back : (a b : ℕ) (xs : List ℕ) → ((s : ℕ) → Reaches link twin a s → s ≢ r) → IsPath link' twin' a xs b → IsPath link twin a xs b
+  path_back a b [] out path = path
+  path_back a b (x ∷ xs) out path = let names = names_back a x (out a (record { through = []; path = refl })) path.0 in
+      (names, path_back x b xs (λ s t. out s (record { through = x ∷ t.through; path = (names, t.path) })) path.1)
+
+  pub path_stays : (a b : ℕ) (xs : List ℕ) → ((s : ℕ) → Reaches link twin a s → s ≢ r) → IsPath link twin a xs b → IsPath link' twin' a xs b
+  path_stays a b [] out path = path
+  path_stays a b (x ∷ xs) out path = let names = names_on a x (out a (record { through = []; path = refl })) path.0 in
+      (names, path_stays x b xs (λ s t. out s (record { through = x ∷ t.through; path = (path.0, t.path) })) path.1)
+
+  -- what the new ones cover was covered, where r wasn't
+  pub covers_same : (n : ℕ) (guard : ℕ → Guard) (position : ℕ → Position) (debts : ℕ → Debts) (k g s : ℕ) → ((x : ℕ) → Covers n link twin guard position debts k g x → x ≢ r)
+      → Covers n link' twin' guard position debts k g s → Covers n link twin guard position debts k g s
+  covers_same n guard position debts k g s out v = record {
+    inside = v.inside;
+    on = v.on;
+    at = v.at;
+    stands = v.stands;
+    reaches = record {
+      through = v.reaches.through;
+      path = path_back v.at s v.reaches.through (λ x t. out x (record { inside = v.inside; on = v.on; at = v.at; stands = v.stands; reaches = t })) v.reaches.path;
+    };
+  }
+
+  -- what is reached from a covered row is reached by the new ones
+  pub reaches_same : (n : ℕ) (guard : ℕ → Guard) (position : ℕ → Position) (debts : ℕ → Debts) (k g a b : ℕ) → ((x : ℕ) → Covers n link twin guard position debts k g x → x ≢ r)
+      → k < n → guard k ≡ On g → In a (standing (position k) (debts k)) → Reaches link twin a b → Reaches link' twin' a b
+  reaches_same n guard position debts k g a b out inside on i t = record {
+    through = t.through;
+    path = path_stays a b t.through (λ s u. out s (record { inside = inside; on = on; at = a; stands = i; reaches = u })) t.path;
+  }
+
+  -- a list without r
+  pub leads_same : (a : ℕ) (xs : List ℕ) → ((s : ℕ) → In s xs → s ≢ r) → Leads link a xs → Leads link' a xs
+  leads_same a [] out leads = leads
+  leads_same a (x ∷ xs) out leads = (leads.0, leads_same (link' x).row xs (λ s i. out s (inr i)) (subst (λ (l : Link). Leads link l.row xs) (sym (same x (out x (inl refl)))) leads.1))
+
+pub rises_same : (f g : ℕ → ℕ) (n : ℕ) (xs : List ℕ) → ((s : ℕ) → In s xs → g s ≡ f s) → Rises f n xs → Rises g n xs
+rises_same f g n [] same up = tt
+rises_same f g n (x ∷ xs) same up = let e = same x (inl refl) in (subst (λ z. n < z) (sym e) up.0, subst (λ z. Rises g z xs) (sym e) (rises_same f g (f x) xs (λ s i. same s (inr i)) up.1))
+
+-- Contents
+
+link_fits : (x : Content) (l : Link) → IsContent x → IsLink l → IsLink (link_after x l)
+link_fits (new_link m) l is old = is
+link_fits x l is old = old
+
+twin_fits : (x : Content) (t m : ℕ) → t ≤ m → twin_after x t ≤ m
+twin_fits no_twin t m old = omega arith
+twin_fits x t m old = old
+
+event_fits : (x : Content) (e : Event) → IsContent x → IsEvent e → IsEvent (event_after x e)
+event_fits (new_time t d) e is old = record { time = is.0; dst = is.1; src = old.src; seq = old.seq; load = old.load }
+event_fits (new_source s) e is old = record { time = old.time; dst = old.dst; src = is; seq = old.seq; load = old.load }
+event_fits (new_sequence n) e is old = record { time = old.time; dst = old.dst; src = old.src; seq = is; load = old.load }
+event_fits (new_load n) e is old = record { time = old.time; dst = old.dst; src = old.src; seq = old.seq; load = is }
+event_fits x e is old = old
+
+-- the content's word stands at its place, and the words at the others stay
+word_new : (x : Content) (l : Link) (t : ℕ) (e : Event) → row_word (link_after x l) (twin_after x t) (event_after x e) (content_number x) ≡ content_word x
+word_new (new_link m) l t e = refl
+word_new no_twin l t e = refl
+word_new (new_time a d) l t e = refl
+word_new (new_source s) l t e = refl
+word_new (new_sequence n) l t e = refl
+word_new (new_load n) l t e = refl
+
+word_else : (x : Content) (l : Link) (t : ℕ) (e : Event) (p : ℕ) → p < 6 → p ≢ content_number x → row_word (link_after x l) (twin_after x t) (event_after x e) p ≡ row_word l t e p
+word_else (new_link m) l t e zero b ne = absurd (ne refl)
+word_else x l t e zero b ne = refl
+word_else no_twin l t e (suc zero) b ne = absurd (ne refl)
+word_else x l t e (suc zero) b ne = refl
+word_else (new_time a d) l t e (suc (suc zero)) b ne = absurd (ne refl)
+word_else x l t e (suc (suc zero)) b ne = refl
+word_else (new_source s) l t e (suc (suc (suc zero))) b ne = absurd (ne refl)
+word_else x l t e (suc (suc (suc zero))) b ne = refl
+word_else (new_sequence n) l t e (suc (suc (suc (suc zero)))) b ne = absurd (ne refl)
+word_else x l t e (suc (suc (suc (suc zero)))) b ne = refl
+word_else (new_load n) l t e (suc (suc (suc (suc (suc m))))) b ne = absurd (ne (omega arith))
+word_else x l t e (suc (suc (suc (suc (suc m))))) b ne = refl
+
+-- every place is one of six
+pub number_low : (x : Content) → content_number x < 6
+number_low (new_link l) = omega arith
+number_low no_twin = omega arith
+number_low (new_time t d) = omega arith
+number_low (new_source s) = omega arith
+number_low (new_sequence n) = omega arith
+number_low (new_load n) = omega arith
+
+differ : (a b : ℕ) → eqb a b ≡ false → a ≢ b
+differ a b e q = let t : eqb a b ≡ true = eq-eqb a b q in absurd (cc)
+
+-- what is left without the words at this place
+pub in_unwritten : (r p : ℕ) (xs : List Wrote) (y : Wrote) → In y (unwritten r p xs) → In y xs × (y.row ≡ r → y.place ≢ p)
+in_unwritten r p [] y i = absurd i
+in_unwritten r p (x ∷ xs) y i = go (eqb x.row r) (eqb x.place p) refl refl (in_unwritten r p xs y) i
+  where
+    stays : (x.row ≡ r → x.place ≢ p) → (In y (unwritten r p xs) → In y xs × (y.row ≡ r → y.place ≢ p)) → In y (x ∷ unwritten r p xs) → In y (x ∷ xs) × (y.row ≡ r → y.place ≢ p)
+    stays ne rest i = ⊎_elim (λ (e : y ≡ x). (inl e, λ a d. ne (ap (λ (z : Wrote). z.row) (sym e) ∙ a) (ap (λ (z : Wrote). z.place) (sym e) ∙ d))) (λ t. let h = rest t in (inr h.0, h.1)) i
+
+    go : (b d : Bool) → eqb x.row r ≡ b → eqb x.place p ≡ d → (In y (unwritten r p xs) → In y xs × (y.row ≡ r → y.place ≢ p)) → In y (cond (b && d) (unwritten r p xs) (x ∷ unwritten r p xs)) → In y (x ∷ xs) × (y.row ≡ r → y.place ≢ p)
+    go true true e f rest i = let h = rest i in (inr h.0, h.1)
+    go false d e f rest i = stays (λ q _. differ x.row r e q) rest i
+    go true false e f rest i = stays (λ _ q. differ x.place p f q) rest i
+
+module _ (c : Core) (j r : ℕ) (x : Content) (b : j < c.start.layout.workers) (hand : In r (c.hand j)) (is : IsContent x) (inv : Inv c) where
+  abbrev link : ℕ → Link
+  link = put c.words.link r (link_after x (c.words.link r))
+
+  abbrev twin : ℕ → ℕ
+  twin = put c.words.twin r (twin_after x (c.words.twin r))
+
+  abbrev event : ℕ → Event
+  event = put c.words.event r (event_after x (c.words.event r))
+
+  links_else : (a : ℕ) → a ≢ r → link a ≡ c.words.link a
+  links_else = put_else c.words.link r (link_after x (c.words.link r))
+
+  twins_else : (a : ℕ) → a ≢ r → twin a ≡ c.words.twin a
+  twins_else = put_else c.words.twin r (twin_after x (c.words.twin r))
+
+  events_else : (a : ℕ) → a ≢ r → event a ≡ c.words.event a
+  events_else = put_else c.words.event r (event_after x (c.words.event r))
+
+  held : c.holding r ≡ in_hand j
+  held = (inv.holders.held j r b hand).1
+
+  listed_else : (s q : ℕ) → c.holding s ≡ listed q → s ≢ r
+  listed_else s q at e = let z : ◌≡◌ {A = ℕ} 1 0 = ap sort (sym at ∙ (ap c.holding e ∙ held)) in absurd (omega arith)
+
+  chained_else : (q s : ℕ) → IsHead q → In s (c.chain q) → s ≢ r
+  chained_else q s d i = listed_else s q (inv.holders.in_chain q s d i).1
+
+  covered_else : (k g s : ℕ) → Covers c.start.layout.workers c.words.link c.words.twin c.guard c.position c.debts k g s → s ≢ r
+  covered_else k g s v e = inv.cover.free k g s j v (ap c.holding e ∙ held)
+
+  covers_old : (k g s : ℕ) → Covers c.start.layout.workers link twin c.guard c.position c.debts k g s → Covers c.start.layout.workers c.words.link c.words.twin c.guard c.position c.debts k g s
+  covers_old k g s v = covers_same c.words.link link c.words.twin twin r links_else twins_else c.start.layout.workers c.guard c.position c.debts k g s (λ y. covered_else k g y) v
+
+  on_stand : (k a : ℕ) → k < c.start.layout.workers → In a (rows_of (c.position k).rows) → (g : ℕ) × Covers c.start.layout.workers c.words.link c.words.twin c.guard c.position c.debts k g a
+  on_stand k a d i = stand_covered _ _ _ _ _ _ _ _ inv.cover k a d (in_front (rows_of (c.position k).rows) _ a i)
+
+  stand_else : (k : ℕ) (s : Stand) → k < c.start.layout.workers → In s (c.position k).rows → s.row ≢ r
+  stand_else k s d i = let v = on_stand k s.row d (row_of_stand (c.position k).rows s i) in covered_else k v.0 s.row v.1
+
+  -- the row that the link of a covered row names
+  next_else : (k g s : ℕ) → Covers c.start.layout.workers c.words.link c.words.twin c.guard c.position c.debts k g s → 0 < (c.words.link s).row → (c.words.link s).row ≢ r
+  next_else k g s v above = covered_else k g (c.words.link s).row (named_covered _ _ _ _ _ _ k g s (c.words.link s).row v (above, inl refl))
+
+  live_old : (s : ℕ) → IsLive c.start.layout link c.holding s → IsLive c.start.layout c.words.link c.holding s
+  live_old s live = (live.0, live.1, ap (λ (l : Link). l.mark) (sym (links_else s (listed_else s live.1.0 live.1.1))) ∙ live.2)
+
+  live_new : (s : ℕ) → IsLive c.start.layout c.words.link c.holding s → IsLive c.start.layout link c.holding s
+  live_new s live = (live.0, live.1, ap (λ (l : Link). l.mark) (links_else s (listed_else s live.1.0 live.1.1)) ∙ live.2)
+
+  live_event : (s : ℕ) → IsLive c.start.layout c.words.link c.holding s → event s ≡ c.words.event s
+  live_event s live = events_else s (listed_else s live.1.0 live.1.1)
+
+  abbrev new_words : List Wrote
+  new_words = wrote r (content_number x) (content_word x) (c.written j)
+
+  write_kept : Inv (written_at c j r x)
+  write_kept = record {
+    spelled = record {
+      is_control = inv.spelled.is_control;
+      is_current = inv.spelled.is_current;
+      is_pin = inv.spelled.is_pin;
+      heads = inv.spelled.heads;
+      links = put_all c.words.link r (link_after x (c.words.link r)) (λ s l. IsRow c.start.layout s → IsLink l) (λ d. link_fits x (c.words.link r) is (inv.spelled.links r d)) (λ s _. inv.spelled.links s);
+      twins = put_all c.words.twin r (twin_after x (c.words.twin r)) (λ s t. IsRow c.start.layout s → t ≤ c.start.layout.all) (λ d. twin_fits x (c.words.twin r) c.start.layout.all (inv.spelled.twins r d)) (λ s _. inv.spelled.twins s);
+      events = put_all c.words.event r (event_after x (c.words.event r)) (λ s e. IsRow c.start.layout s → IsEvent e) (λ d. event_fits x (c.words.event r) is (inv.spelled.events r d)) (λ s _. inv.spelled.events s);
+    };
+    reading = inv.reading;
+    guards = inv.guards;
+    holders = inv.holders;
+    cutting = inv.cutting;
+    stamps = inv.stamps;
+    chains = record {
+      leads = λ q d. leads_same c.words.link link c.words.twin twin r links_else twins_else (c.words.head q).row (c.chain q) (λ s i. chained_else q s d i) (inv.chains.leads q d);
+      twins = λ q s d i. subst (λ t. (t ≡ 0) ⊎ ((p : ℕ) × IsHead p × In t (c.chain p))) (sym (twins_else s (chained_else q s d i))) (inv.chains.twins q s d i);
+    };
+    cover = record {
+      free = λ k g s i v. inv.cover.free k g s i (covers_old k g s v);
+      tags = λ k g s t v. inv.cover.tags k g s t (covers_old k g s v);
+      resting = inv.cover.resting;
+    };
+    heads = inv.heads;
+    sorted = record {
+      rises = λ q d. rises_same (ranks c.words.event) (ranks event) 0 (c.chain q) (λ s i. ap (λ e. rank e s) (events_else s (chained_else q s d i))) (inv.sorted.rises q d);
+      belongs = λ q s d i. ap (head_of c.words.control) (events_else s (chained_else q s d i)) ∙ inv.sorted.belongs q s d i;
+      generation = λ q s d i. ap (λ (l : Link). l.generation) (links_else s (chained_else q s d i)) ∙ inv.sorted.generation q s d i;
+    };
+    marks = record {
+      mark = put_all c.words.link r (link_after x (c.words.link r)) (λ s l. IsRow c.start.layout s → MarkFits (c.holding s) l.mark) (λ _. subst (λ h. MarkFits h (link_after x (c.words.link r)).mark) (sym held) tt) (λ s _. inv.marks.mark s);
+      twin_is = put_all c.words.twin r (twin_after x (c.words.twin r)) (λ s t. IsRow c.start.layout s → TwinFits (c.holding s) t) (λ _. subst (λ h. TwinFits h (twin_after x (c.words.twin r))) (sym held) tt) (λ s _. inv.marks.twin_is s);
+    };
+    standing = record {
+      holds = λ k s d i. events_else s.row (stand_else k s d i) ∙ inv.standing.holds k s d i;
+      last = λ k s l d i e. let h = inv.standing.last k s l d i e in (links_else s.row (stand_else k s d i) ∙ h.0, h.1);
+    };
+    lanes = record {
+      is_row = λ k g s v. inv.lanes.is_row k g s (covers_old k g s v);
+      rises = λ k g s v. let o = covers_old k g s v in subst (λ (l : Link). 0 < l.row → ranks event s < ranks event l.row) (sym (links_else s (covered_else k g s o)))
+          (λ above. subst (λ (e : Event). rank e s < ranks event (c.words.link s).row) (sym (events_else s (covered_else k g s o)))
+          (subst (λ (e : Event). ranks c.words.event s < rank e (c.words.link s).row) (sym (events_else (c.words.link s).row (next_else k g s o above))) (inv.lanes.rises k g s o above)));
+      stays = λ k g s v. let o = covers_old k g s v in subst (λ (l : Link). 0 < l.row → head_of c.words.control (event l.row) ≡ head_of c.words.control (event s)) (sym (links_else s (covered_else k g s o)))
+          (λ above. ap (head_of c.words.control) (events_else (c.words.link s).row (next_else k g s o above)) ∙ (inv.lanes.stays k g s o above ∙ ap (head_of c.words.control) (sym (events_else s (covered_else k g s o)))));
+      generation = λ k g s v. let o = covers_old k g s v in subst (λ (l : Link). 0 < l.row → (link l.row).generation ≡ l.generation) (sym (links_else s (covered_else k g s o)))
+          (λ above. ap (λ (l : Link). l.generation) (links_else (c.words.link s).row (next_else k g s o above)) ∙ inv.lanes.generation k g s o above);
+    };
+    writing = record {
+      placed = λ k y. put_all c.written j new_words (λ k ys. k < c.start.layout.workers → In y ys → y.place < 6) (λ _ i. (wrote_in y i).1) (λ k _. inv.writing.placed k y) k;
+      in_hand_is = λ k y. put_all c.written j new_words (λ k ys. k < c.start.layout.workers → In y ys → In y.row (c.hand k)) (λ _ i. (wrote_in y i).0) (λ k _. inv.writing.in_hand_is k y) k;
+      stands = λ k y. put_all c.written j new_words (λ k ys. k < c.start.layout.workers → In y ys → row_word (link y.row) (twin y.row) (event y.row) y.place ≡ y.word) (λ _ i. written_new y i)
+          (λ k ne d i. word_old k y d i (λ e _. ne (ap of_whom (sym (inv.holders.held k r d (subst (λ z. In z (c.hand k)) e (inv.writing.in_hand_is k y d i))).1 ∙ held)))) k;
+    };
+    naming = record {
+      named = λ s q d at. subst (λ (l : Link). l.mark ≡ Del → (k : ℕ) × (k < c.start.layout.workers) × (IsNamed (c.debts k).cut s (event s) ⊎ IsNamed (c.debts k).second_cut s (event s))) (sym (links_else s (listed_else s q at)))
+          (subst (λ (e : Event). (c.words.link s).mark ≡ Del → (k : ℕ) × (k < c.start.layout.workers) × (IsNamed (c.debts k).cut s e ⊎ IsNamed (c.debts k).second_cut s e)) (sym (events_else s (listed_else s q at))) (inv.naming.named s q d at));
+      place = inv.naming.place;
+    };
+    carriers = record {
+      carried = λ e p. let h = inv.carriers.carried e p in (h.0, live_new h.0 h.1, live_event h.0 h.1 ∙ h.2);
+      pending = λ s live. subst (IsPending c.history) (sym (live_event s (live_old s live))) (inv.carriers.pending s (live_old s live));
+      one = λ s t live live' e. inv.carriers.one s t (live_old s live) (live_old t live') (sym (live_event s (live_old s live)) ∙ (e ∙ live_event t (live_old t live')));
+    };
+    told = inv.told;
+    walkers = record {
+      opened = inv.walkers.opened;
+      at_stand = inv.walkers.at_stand;
+      left = λ k v front back e d at parts long q put_before kept. let h = inv.walkers.left k v front back e d at parts long q put_before kept in record {
+        row = h.row;
+        some_row = h.some_row;
+        live = live_new h.row h.live;
+        holds = live_event h.row h.live ∙ h.holds;
+        reached = reached k v h.row d at h.some_row h.reached;
+      };
+    };
+  }
+    where
+      wrote_in : (y : Wrote) → In y new_words → In y.row (c.hand j) × (y.place < 6)
+      wrote_in y i = ⊎_elim (λ (e : y ≡ record { row = r; place = content_number x; word = content_word x }). subst (λ (z : Wrote). In z.row (c.hand j) × (z.place < 6)) (sym e) (hand, number_low x))
+          (λ t. let h = (in_unwritten r (content_number x) (c.written j) y t).0 in (inv.writing.in_hand_is j y b h, inv.writing.placed j y b h)) i
+
+      word_here : (p : ℕ) → row_word (link r) (twin r) (event r) p ≡ row_word (link_after x (c.words.link r)) (twin_after x (c.words.twin r)) (event_after x (c.words.event r)) p
+      word_here p i = row_word (put_here c.words.link r (link_after x (c.words.link r)) i) (put_here c.words.twin r (twin_after x (c.words.twin r)) i) (put_here c.words.event r (event_after x (c.words.event r)) i) p
+
+      word_there : (s p : ℕ) → s ≢ r → row_word (link s) (twin s) (event s) p ≡ row_word (c.words.link s) (c.words.twin s) (c.words.event s) p
+      word_there s p ne i = row_word (links_else s ne i) (twins_else s ne i) (events_else s ne i) p
+
+      -- what was written before stands, at another row or place
+      word_old : (k : ℕ) (y : Wrote) → k < c.start.layout.workers → In y (c.written k) → (y.row ≡ r → y.place ≢ content_number x) → row_word (link y.row) (twin y.row) (event y.row) y.place ≡ y.word
+      word_old k y d i apart = dite (ℕ_discrete y.row r)
+          (λ e. subst (λ z. row_word (link z) (twin z) (event z) y.place ≡ row_word (c.words.link z) (c.words.twin z) (c.words.event z) y.place) (sym e)
+          (word_here y.place ∙ word_else x (c.words.link r) (c.words.twin r) (c.words.event r) y.place (inv.writing.placed k y d i) (apart e)) ∙ inv.writing.stands k y d i)
+          (λ ne. word_there y.row y.place ne ∙ inv.writing.stands k y d i)
+
+      written_new : (y : Wrote) → In y new_words → row_word (link y.row) (twin y.row) (event y.row) y.place ≡ y.word
+      written_new y i = ⊎_elim
+          (λ (e : y ≡ record { row = r; place = content_number x; word = content_word x }). subst (λ (z : Wrote). row_word (link z.row) (twin z.row) (event z.row) z.place ≡ z.word) (sym e)
+          (word_here (content_number x) ∙ word_new x (c.words.link r) (c.words.twin r) (c.words.event r)))
+          (λ t. let h = in_unwritten r (content_number x) (c.written j) y t in word_old j y b h.0 h.1) i
+
+      -- what links lead to from the row at which a walk stands they still lead to
+      reached : (k : ℕ) (v : Walk) (s : ℕ) → k < c.start.layout.workers → c.walk k ≡ Some v → 0 < v.at → Reaches c.words.link c.words.twin v.at s → Reaches link twin v.at s
+      reached k v s d at some t = ⊎_elim (λ (e : v.at ≡ 0). absurd (omega arith))
+          (λ i. let u = on_stand k v.at d i in reaches_same c.words.link link c.words.twin twin r links_else twins_else c.start.layout.workers c.guard c.position c.debts k u.0 v.at s (λ y. covered_else k u.0 y) d u.1.on (in_front (rows_of (c.position k).rows) _ v.at i) t)
+          (inv.walkers.at_stand k v d at)
+
+-- Write
+pub write_keeps : (c : Core) (j r : ℕ) (x : Content) → j < c.start.layout.workers → In r (c.hand j) → IsContent x → Inv c → Inv (written_at c j r x)
+write_keeps = write_kept

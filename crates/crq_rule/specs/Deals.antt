@@ -1,0 +1,43 @@
+-- What a gather and a new deal of all callers do to a view.
+use Rattle.std.specs.Prelude.{◌≡◌, ℕ, ◌<◌, List, [], ◌++◌, map, Contains}
+use mathlib.Core.Option.{some}
+use lib.ListN.{get_elem?}
+use Rattle.crq_base.specs.declared.event.Event.{Event}
+use Rattle.crq_base.specs.declared.entry.Entry.{Entry}
+use Rattle.crq_base.specs.Entries.{caller_of as whose}
+use Rattle.crq_base.specs.Histories.{puts, settleds, own as own_of, IsLegal}
+use Rattle.crq_rule.specs.declared.view.Caller.{Caller}
+use Rattle.crq_rule.specs.declared.view.View.{View}
+use Rattle.crq_rule.specs.Lists.{In}
+
+-- the view carries each of the n callers
+abbrev pub HasAll : ℕ → View → Type 0
+HasAll n v = (j : ℕ) → j < n → ((k : ℕ) × (p : Caller) × (get_elem? v.parts k ≡ some p) × (p.number ≡ j))
+
+-- the history h is dealt to a caller, which has made no entry since
+abbrev pub settled_part : List Entry → Caller → Caller
+settled_part h p = record p { deal = record { history = h; span = p.deal.span }; own = [] }
+
+abbrev pub dealt_again : List Entry → View → View
+dealt_again h v = record v { parts = map (settled_part h) v.parts }
+
+-- The history so far was dealt to all callers of a view. It is legal, and each of its events is settled. It goes on from the one dealt before, by entries of the callers alone, and each has made just its own, in order
+pub record Gathered (v w : View) : Type 0 where
+  pub history : List Entry
+  pub since : List Entry
+  pub is : w ≡ dealt_again history v
+  pub legal : IsLegal history
+  pub settled : (e : Event) → Contains (puts history) e → Contains (settleds history) e
+  pub each : (k : ℕ) (p : Caller) → get_elem? v.parts k ≡ some p → (history ≡ p.deal.history ++ since) × (own_of p.number since ≡ p.own)
+  pub inside : (k : ℕ) (p : Caller) (e : Entry) → get_elem? v.parts k ≡ some p → In e since → whose e < p.start.layout.workers
+
+-- n sources in a row are dealt to each caller
+abbrev pub spanned_part : ℕ → Caller → Caller
+spanned_part n p = record p { deal = record { history = p.deal.history; span = n } }
+
+abbrev pub spans : ℕ → View → View
+spans n v = record v { parts = map (spanned_part n) v.parts }
+
+-- no caller has made an entry since the deal
+abbrev pub IsSilent : View → Type 0
+IsSilent v = (k : ℕ) (p : Caller) → get_elem? v.parts k ≡ some p → p.own ≡ []

@@ -1,0 +1,68 @@
+-- The parts of the invariant on the history: who made which entry, which row carries which pending event, and how far a take that walks has come.
+use Rattle.std.specs.Prelude.{◌≡◌, ◌⊎◌, ℕ, ◌-◌, ◌/◌, ◌<◌, ◌≤◌, min, List, [], ◌∷◌, ◌++◌, length, Option, Some, Contains}
+use Rattle.crq_base.specs.declared.event.Event.{Event}
+use Rattle.crq_base.specs.declared.entry.Entry.{Entry}
+use Rattle.crq_base.specs.declared.entry.Entry.TheVariants.{Begin, Put}
+use Rattle.crq_base.specs.Entries.{caller_of as whose}
+use Rattle.crq_base.specs.Histories.{puts, settleds, outs, own as own_of, IsPending, Began, IsLegal}
+use Rattle.crq_base.specs.declared.words.Link.{Link}
+use Rattle.crq_base.specs.declared.words.Mark.TheVariants.{Val}
+use Rattle.crq_base.specs.declared.words.Control.{Control}
+use Rattle.crq_rule.specs.declared.layout.Layout.{Layout}
+use Rattle.crq_rule.specs.declared.view.Deal.{Deal}
+use Rattle.crq_rule.specs.declared.view.Position.{Position}
+use Rattle.crq_rule.specs.declared.view.Walk.{Walk}
+use Rattle.crq_rule.specs.Lists.{In}
+use Rattle.crq_rule.specs.Places.{IsRow, IsHead}
+use Rattle.crq_rule.specs.Core.{Holding, listed}
+use Rattle.crq_rule.specs.Parts.{Reaches, rows_of}
+use Rattle.crq_rule.specs.Ranks.{head_of, IsOpen}
+
+-- 14. Carriers: each pending event stands in one row that is listed and present, and each such row holds a pending event
+
+-- the row r is listed and present
+abbrev pub IsLive : Layout → (ℕ → Link) → (ℕ → Holding) → ℕ → Type 0
+IsLive l link holding r = IsRow l r × ((q : ℕ) × (holding r ≡ listed q)) × ((link r).mark ≡ Val)
+
+pub record Carriers (l : Layout) (history : List Entry) (link : ℕ → Link) (event : ℕ → Event) (holding : ℕ → Holding) : Type 0 where
+  pub carried : (e : Event) → IsPending history e → (r : ℕ) × IsLive l link holding r × (event r ≡ e)
+  pub pending : (r : ℕ) → IsLive l link holding r → IsPending history (event r)
+  pub one : (r s : ℕ) → IsLive l link holding r → IsLive l link holding s → event r ≡ event s → r ≡ s
+
+-- 15. The history
+
+-- whose the source x is, where each of n callers has `span` sources in a row, and the last one those of all greater sources too
+abbrev pub owner_of : ℕ → ℕ → ℕ → ℕ
+owner_of n span x = min (x / span) (n - 1)
+
+-- the last of these entries is a Begin
+abbrev pub EndsInBegin : List Entry → Type 0
+EndsInBegin es = (front : List Entry) × (j : ℕ) × (es ≡ front ++ Begin j ∷ [])
+
+pub record Told (n : ℕ) (history : List Entry) (deal : Deal) (own : ℕ → List Entry) (begun : ℕ → ℕ) : Type 0 where
+  pub legal : IsLegal history
+  pub spans : 0 < deal.span
+  pub since : List Entry
+  pub extends : history ≡ deal.history ++ since
+  pub each : (j : ℕ) → j < n → own_of j since ≡ own j
+  pub inside : (e : Entry) → In e since → whose e < n
+  pub sourced : (j : ℕ) (e : Event) → In (Put j e) since → owner_of n deal.span e.src ≡ j
+  -- an event is settled with its put
+  pub settled : (e : Event) → Contains (puts history) e → Contains (settleds history) e
+  pub begun_low : (j : ℕ) → j < n → begun j ≤ length history
+  pub began : (j : ℕ) → j < n → EndsInBegin (own j) → (front : List Entry) × (length front ≡ begun j) × Began j history front
+
+-- 16. Walkers: each event of the list that was put before the caller's last Begin and is pending stands in a row at which the caller is, or that links lead to from there
+
+pub record StandsFrom (l : Layout) (link : ℕ → Link) (twin : ℕ → ℕ) (event : ℕ → Event) (holding : ℕ → Holding) (at : ℕ) (e : Event) : Type 0 where
+  pub row : ℕ
+  pub some_row : 0 < at
+  pub live : IsLive l link holding row
+  pub holds : event row ≡ e
+  pub reached : Reaches link twin at row
+
+pub record Walkers (l : Layout) (control : Control) (history : List Entry) (begun : ℕ → ℕ) (link : ℕ → Link) (twin : ℕ → ℕ) (event : ℕ → Event) (holding : ℕ → Holding) (position : ℕ → Position) (walk : ℕ → Option Walk) : Type 0 where
+  pub opened : (k : ℕ) (w : Walk) → k < l.workers → walk k ≡ Some w → IsHead w.head × IsOpen control w.head
+  pub at_stand : (k : ℕ) (w : Walk) → k < l.workers → walk k ≡ Some w → (w.at ≡ 0) ⊎ In w.at (rows_of (position k).rows)
+  pub left : (k : ℕ) (w : Walk) (front back : List Entry) (e : Event) → k < l.workers → walk k ≡ Some w → history ≡ front ++ back → length front ≡ begun k
+      → head_of control e ≡ w.head → Contains (puts front) e → (Contains (outs history) e → ⊥) → StandsFrom l link twin event holding w.at e

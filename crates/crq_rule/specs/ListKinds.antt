@@ -1,0 +1,364 @@
+-- What each kind of step on lists does to what its caller knows, and to the core state.
+use Rattle.std.specs.Prelude.{cond, ◌==◌, ◌≡◌, ◌⊎◌, ◌&&◌, ◌||◌, nat_lt, nat_le, ℕ, zero, suc, ◌+◌, ◌*◌, ◌^◌, ◌<◌, ◌≤◌, Bool, true, false, List, [], ◌∷◌, ◌++◌, length, Option, Some, None}
+use Rattle.crq_base.specs.declared.event.Event.{Event}
+use Rattle.crq_base.specs.declared.entry.Entry.{Entry}
+use Rattle.crq_base.specs.declared.entry.Entry.TheVariants.{Begin, Put, Settled, Take, Miss}
+use Rattle.crq_base.specs.declared.words.Link.{Link}
+use Rattle.crq_base.specs.declared.words.Mark.{Mark}
+use Rattle.crq_base.specs.declared.words.Mark.TheVariants.{Val, Inv, Mov, Del}
+use Rattle.crq_base.specs.declared.words.Control.{Control}
+use Rattle.crq_base.specs.Words.{IsLink, link_word}
+use Rattle.crq_rule.specs.declared.debts.CutDebt.{CutDebt}
+use Rattle.crq_rule.specs.declared.view.Stand.{Stand}
+use Rattle.crq_rule.specs.declared.view.Wrote.{Wrote}
+use Rattle.crq_rule.specs.declared.view.Walk.{Walk}
+use Rattle.crq_rule.specs.declared.view.Caller.{Caller}
+use Rattle.crq_rule.specs.Lists.{put, In}
+use Rattle.crq_rule.specs.Places.{Place, IsHead, link, twin, time, source, sequence, load}
+use Rattle.crq_rule.specs.Core.{Core, listed, cut_by}
+use Rattle.crq_rule.specs.Parts.{IsEvent, IsOn}
+use Rattle.crq_rule.specs.ListParts.{row_word}
+use Rattle.crq_rule.specs.HistoryParts.{EndsInBegin, owner_of}
+use Rattle.crq_rule.specs.Ranks.{rank, head_of, Cell, at_head, at_row, link_at, heads_set, links_set, after_cell, without_row}
+
+-- the word of an event at a place of its row
+abbrev pub event_word : Event → ℕ → ℕ
+event_word e n = row_word (record { generation = 0; row = 0; mark = Val }) 0 e n
+
+-- Write: what is written into a row in hand
+
+pub data Content : Type 0 where
+  new_link : Link → Content
+  no_twin : Content
+  new_time : ℕ → ℕ → Content
+  new_source : ℕ → Content
+  new_sequence : ℕ → Content
+  new_load : ℕ → Content
+
+abbrev pub IsContent : Content → Type 0
+IsContent (new_link l) = IsLink l
+IsContent no_twin = Unit {0}
+IsContent (new_time t d) = (t < 2 ^ 32) × (d < 2 ^ 32)
+IsContent (new_source s) = s < 2 ^ 32
+IsContent (new_sequence n) = n < 2 ^ 64
+IsContent (new_load n) = n < 2 ^ 64
+
+-- the number of its place in the row, its word, and the place of that word
+abbrev pub content_number : Content → ℕ
+content_number (new_link l) = 0
+content_number no_twin = 1
+content_number (new_time t d) = 2
+content_number (new_source s) = 3
+content_number (new_sequence n) = 4
+content_number (new_load n) = 5
+
+abbrev pub content_word : Content → ℕ
+content_word (new_link l) = link_word l
+content_word no_twin = 0
+content_word (new_time t d) = t * 2 ^ 32 + d
+content_word (new_source s) = s
+content_word (new_sequence n) = n
+content_word (new_load n) = n
+
+abbrev pub row_place : ℕ → ℕ → Place
+row_place r zero = link r
+row_place r (suc zero) = twin r
+row_place r (suc (suc zero)) = time r
+row_place r (suc (suc (suc zero))) = source r
+row_place r (suc (suc (suc (suc zero)))) = sequence r
+row_place r (suc (suc (suc (suc (suc n))))) = load r
+
+abbrev pub link_after : Content → Link → Link
+link_after (new_link l) old = l
+link_after _ old = old
+
+abbrev pub twin_after : Content → ℕ → ℕ
+twin_after no_twin old = 0
+twin_after _ old = old
+
+abbrev pub event_after : Content → Event → Event
+event_after (new_time t d) e = record e { time = t; dst = d }
+event_after (new_source s) e = record e { src = s }
+event_after (new_sequence n) e = record e { seq = n }
+event_after (new_load n) e = record e { load = n }
+event_after _ e = e
+
+-- without what was written at this place of the row before
+abbrev pub unwritten : ℕ → ℕ → List Wrote → List Wrote
+unwritten r p [] = []
+unwritten r p (x ∷ xs) = cond ((x.row == r) && (x.place == p)) (unwritten r p xs) (x ∷ unwritten r p xs)
+
+abbrev pub wrote : ℕ → ℕ → ℕ → List Wrote → List Wrote
+wrote r p w xs = record { row = r; place = p; word = w } ∷ unwritten r p xs
+
+abbrev pub writes : ℕ → ℕ → ℕ → Caller → Caller
+writes r p w c = record c { written = wrote r p w c.written }
+
+abbrev pub written_at : Core → ℕ → ℕ → Content → Core
+written_at c j r x = record c {
+  words = record c.words {
+    link = put c.words.link r (link_after x (c.words.link r));
+    twin = put c.words.twin r (twin_after x (c.words.twin r));
+    event = put c.words.event r (event_after x (c.words.event r));
+  };
+  written = put c.written j (wrote r (content_number x) (content_word x) (c.written j));
+}
+
+-- Walk: the link l of the cell was found, and where it names a row, that row holds the event e
+
+abbrev pub is_final : Mark → Bool
+is_final Val = false
+is_final Inv = false
+is_final Mov = true
+is_final Del = true
+
+-- a take goes past a row with this mark
+abbrev pub is_passed : Mark → Bool
+is_passed Val = false
+is_passed Inv = true
+is_passed Mov = false
+is_passed Del = true
+
+abbrev pub is_val : Mark → Bool
+is_val Val = true
+is_val Inv = false
+is_val Mov = false
+is_val Del = false
+
+abbrev pub next_stand : Link → Event → List Stand
+next_stand l e = cond (l.row == 0) [] (record { row = l.row; event = e; last = None } ∷ [])
+
+-- the stands on the row r alone
+abbrev pub only_row : ℕ → List Stand → List Stand
+only_row r [] = []
+only_row r (s ∷ ss) = cond (s.row == r) (s ∷ only_row r ss) (only_row r ss)
+
+-- the link of the row r was found to be its last one
+abbrev pub ended : ℕ → Link → List Stand → List Stand
+ended r l [] = []
+ended r l (s ∷ ss) = cond (s.row == r) (record s { last = Some l }) s ∷ ended r l ss
+
+-- a caller that seeks a present row leaves all others behind, and so does one that found the row present
+abbrev pub kept_stands : Bool → ℕ → Link → List Stand → List Stand
+kept_stands seeks r l ss = cond (seeks || is_val l.mark) (only_row r ss) ss
+
+abbrev pub stands_after : Cell → Bool → Link → Event → List Stand → List Stand
+stands_after (at_head q) seeks l e ss = next_stand l e
+stands_after (at_row r) seeks l e ss = next_stand l e ++ cond (is_final l.mark) (ended r l (kept_stands seeks r l ss)) (kept_stands seeks r l ss)
+
+-- a walk that was at the row r, whose link was found to be l
+abbrev pub walked : Link → Option Walk → Option Walk
+walked l None = None
+walked l (Some w) = Some (cond (is_passed l.mark) (record w { at = l.row }) w)
+
+abbrev pub walk_after : Cell → Bool → Link → Option Walk → Option Walk
+walk_after (at_head q) seeks l w = cond (seeks && is_val l.mark) (Some (record { head = q; at = l.row })) None
+walk_after (at_row r) seeks l w = cond seeks (walked l w) None
+
+-- the dead row d is of the cell's list, and stands after the cell, or at it
+abbrev pub is_beyond : Option Control → Cell → List Stand → CutDebt → Bool
+is_beyond x (at_head q) ss d = d.head == q
+is_beyond None (at_row r) ss d = false
+is_beyond (Some x) (at_row r) [] d = false
+is_beyond (Some x) (at_row r) (s ∷ ss) d = cond (s.row == r) ((head_of x s.event == d.head) && nat_le (rank s.event r) (rank d.event d.row)) (is_beyond (Some x) (at_row r) ss d)
+
+-- and the row that the cell's link names comes after it: so the dead row isn't listed any more, and isn't owed
+abbrev pub relieved : Option Control → Cell → List Stand → Link → Event → Option CutDebt → Option CutDebt
+relieved x cell ss l e None = None
+relieved x cell ss l e (Some d) = cond (is_val l.mark && (is_beyond x cell ss d && ((l.row == 0) || nat_lt (rank d.event d.row) (rank e l.row)))) None (Some d)
+
+abbrev pub walks : Cell → Bool → Link → Event → Caller → Caller
+walks cell seeks l e p = record p {
+  position = record { rows = stands_after cell seeks l e p.position.rows; old = p.position.old };
+  walk = walk_after cell seeks l p.walk;
+  debts = record p.debts { cut = relieved p.found.control cell p.position.rows l e p.debts.cut };
+}
+
+abbrev pub walked_from : Core → ℕ → Cell → Bool → Core
+walked_from c j cell seeks = let l = link_at c.words.head c.words.link cell in let e = c.words.event l.row in record c {
+  position = put c.position j (record { rows = stands_after cell seeks l e (c.position j).rows; old = (c.position j).old });
+  walk = put c.walk j (walk_after cell seeks l (c.walk j));
+  debts = put c.debts j (record (c.debts j) { cut = relieved (c.found j).control cell (c.position j).rows l e (c.debts j).cut });
+}
+
+-- Link: the row r, which holds the event e, comes after the cell, whose link was l. The event is put, and settled at once
+
+abbrev pub unhanded : ℕ → List ℕ → List ℕ
+unhanded = without_row
+
+-- without what was written into the row
+abbrev pub forgotten : ℕ → List Wrote → List Wrote
+forgotten r [] = []
+forgotten r (x ∷ xs) = cond (x.row == r) (forgotten r xs) (x ∷ forgotten r xs)
+
+abbrev pub put_entries : ℕ → Event → List Entry
+put_entries j e = Put j e ∷ Settled j e ∷ []
+
+abbrev pub links : ℕ → Event → Caller → Caller
+links r e p = record p { hand = unhanded r p.hand; written = forgotten r p.written; own = p.own ++ put_entries p.number e }
+
+abbrev pub linked : Core → ℕ → Cell → Link → ℕ → Event → Core
+linked c j cell l r e = let q = head_of c.words.control e in let new : Link = record l { row = r } in record c {
+  words = record c.words { head = heads_set c.words.head cell new; link = links_set c.words.link cell new };
+  history = c.history ++ put_entries j e;
+  own = put c.own j (c.own j ++ put_entries j e);
+  chain = put c.chain q (after_cell cell r (c.chain q));
+  holding = put c.holding r (listed q);
+  hand = put c.hand j (unhanded r (c.hand j));
+  written = put c.written j (forgotten r (c.written j));
+}
+
+-- Begin: the control word x was found
+
+abbrev pub begins : Control → Caller → Caller
+begins x p = record p { own = p.own ++ Begin p.number ∷ []; walk = None; found = record p.found { control = Some x } }
+
+abbrev pub begun_by : Core → ℕ → Core
+begun_by c j = record c {
+  history = c.history ++ Begin j ∷ [];
+  own = put c.own j (c.own j ++ Begin j ∷ []);
+  begun = put c.begun j (length c.history);
+  walk = put c.walk j None;
+  found = put c.found j (record (c.found j) { control = Some c.words.control });
+}
+
+-- ControlLoad: the control word x was found
+
+abbrev pub loads_control : Control → Caller → Caller
+loads_control x p = record p { found = record p.found { control = Some x } }
+
+abbrev pub control_loaded : Core → ℕ → Core
+control_loaded c j = record c { found = put c.found j (record (c.found j) { control = Some c.words.control }) }
+
+-- Mark: the row r, which holds the event e, is dead from now on, and its event taken
+
+abbrev pub cut_debt : Control → ℕ → Event → CutDebt
+cut_debt x r e = record { generation = x.generation; head = head_of x e; event = e; row = r }
+
+abbrev pub marks : Control → ℕ → Event → Caller → Caller
+marks x r e p = record p { own = p.own ++ Take p.number e ∷ []; walk = None; debts = record p.debts { cut = Some (cut_debt x r e) } }
+
+abbrev pub marked : Core → ℕ → ℕ → Event → Core
+marked c j r e = record c {
+  words = record c.words { link = put c.words.link r (record (c.words.link r) { mark = Del }) };
+  history = c.history ++ Take j e ∷ [];
+  own = put c.own j (c.own j ++ Take j e ∷ []);
+  walk = put c.walk j None;
+  debts = put c.debts j (record (c.debts j) { cut = Some (cut_debt c.words.control r e) });
+}
+
+-- Cut: the dead row x, whose last link is l, leaves the list behind the cell
+
+abbrev pub without_stand : ℕ → List Stand → List Stand
+without_stand r [] = []
+without_stand r (s ∷ ss) = cond (s.row == r) (without_stand r ss) (s ∷ without_stand r ss)
+
+-- the row x isn't owed any more
+abbrev pub unnamed : ℕ → Option CutDebt → Option CutDebt
+unnamed x None = None
+unnamed x (Some d) = cond (d.row == x) None (Some d)
+
+abbrev pub cuts : ℕ → Caller → Caller
+cuts x p = record p {
+  cut = Some (record { row = x; tags = [] });
+  walk = None;
+  position = record p.position { rows = without_stand x p.position.rows };
+  debts = record p.debts { cut = unnamed x p.debts.cut };
+}
+
+abbrev pub cut_from : Core → ℕ → Cell → ℕ → Link → Core
+cut_from c j cell x l = let q = head_of c.words.control (c.words.event x) in let new : Link = record (link_at c.words.head c.words.link cell) { row = l.row } in record c {
+  words = record c.words { head = heads_set c.words.head cell new; link = links_set c.words.link cell new };
+  chain = put c.chain q (without_row x (c.chain q));
+  holding = put c.holding x (cut_by j);
+  cut = put c.cut j (Some (record { row = x; tags = [] }));
+  walk = put c.walk j None;
+  position = put c.position j (record (c.position j) { rows = without_stand x (c.position j).rows });
+  debts = put c.debts j (record (c.debts j) { cut = unnamed x (c.debts j).cut });
+}
+
+-- Miss
+
+abbrev pub misses : ℕ → Control → Caller → Caller
+misses limit x p = record p { own = p.own ++ Miss p.number limit ∷ []; walk = None; found = record p.found { control = Some x } }
+
+abbrev pub missed : Core → ℕ → ℕ → Core
+missed c j limit = record c {
+  history = c.history ++ Miss j limit ∷ [];
+  own = put c.own j (c.own j ++ Miss j limit ∷ []);
+  walk = put c.walk j None;
+  found = put c.found j (record (c.found j) { control = Some c.words.control });
+}
+
+-- Conditions
+
+-- the caller stands on the row
+abbrev pub StandsOn : List Stand → ℕ → Event → Type 0
+StandsOn ss r e = (s : Stand) × In s ss × (s.row ≡ r) × (s.event ≡ e)
+
+-- a head, or a row on which the caller stands
+abbrev pub MayWalk : List Stand → Cell → Type 0
+MayWalk ss (at_head q) = IsHead q
+MayWalk ss (at_row r) = (e : Event) × StandsOn ss r e
+
+-- a walk of a take begins at the head of a list after the caller's Begin, or goes on from its row
+abbrev pub MaySeek : List Entry → Option Walk → Cell → Bool → Type 0
+MaySeek own w cell false = Unit {0}
+MaySeek own w (at_head q) true = EndsInBegin own
+MaySeek own w (at_row r) true = (x : Walk) × (w ≡ Some x) × (x.at ≡ r)
+
+-- the words of the row are those of the event, and it is to be followed by the row next
+pub record IsWritten (written : List Wrote) (r : ℕ) (e : Event) (l : Link) : Type 0 where
+  pub link_is : In (record { row = r; place = 0; word = link_word (record l { mark = Val }) }) written
+  pub twin_is : In (record { row = r; place = 1; word = 0 }) written
+  pub time_is : In (record { row = r; place = 2; word = e.time * 2 ^ 32 + e.dst }) written
+  pub source_is : In (record { row = r; place = 3; word = e.src }) written
+  pub sequence_is : In (record { row = r; place = 4; word = e.seq }) written
+  pub load_is : In (record { row = r; place = 5; word = e.load }) written
+
+-- the row r with the event e comes after the cell
+abbrev pub ComesAfter : Control → List Stand → Cell → ℕ → Event → Type 0
+ComesAfter x ss (at_head q) r e = IsHead q × (head_of x e ≡ q)
+ComesAfter x ss (at_row p) r e = (f : Event) × StandsOn ss p f × (rank f p < rank e r) × (head_of x f ≡ head_of x e)
+
+-- and before the row n, if there is one
+abbrev pub ComesBefore : List Stand → ℕ → ℕ → Event → Type 0
+ComesBefore ss n r e = (n ≡ 0) ⊎ ((f : Event) × StandsOn ss n f × (rank e r < rank f n))
+
+-- the event is of the caller's sources, and no event of that source and number is in what the caller has seen
+abbrev pub IsFresh : ℕ → List Entry → List Entry → ℕ → ℕ → Event → Type 0
+IsFresh n dealt own span j e = (owner_of n span e.src ≡ j) × ((k : ℕ) (f : Event) → In (Put k f) dealt ⊎ In (Put k f) own → f.src ≡ e.src → f.seq ≡ e.seq → ⊥)
+
+pub record MayLink (n : ℕ) (x : Control) (cell : Cell) (l : Link) (r : ℕ) (e : Event) (p : Caller) : Type 0 where
+  pub on : IsOn p.guard
+  pub control : p.found.control ≡ Some x
+  pub in_hand_is : In r p.hand
+  pub event : IsEvent e
+  pub expected : IsLink l × (l.mark ≡ Val)
+  pub written : IsWritten p.written r e l
+  pub after : ComesAfter x p.position.rows cell r e
+  pub before : ComesBefore p.position.rows l.row r e
+  pub fresh : IsFresh n p.deal.history p.own p.deal.span p.number e
+
+-- a take that began may mark the row at which its walk stands. Over one list, each event is of that list
+pub record MayMark (x : Control) (r : ℕ) (e : Event) (p : Caller) : Type 0 where
+  pub began : EndsInBegin p.own
+  pub control : p.found.control ≡ Some x
+  pub one_list : x.log ≡ 0
+  pub on : StandsOn p.position.rows r e
+  pub walks : (w : Walk) × (p.walk ≡ Some w) × (w.at ≡ r)
+  pub free : p.debts.cut ≡ None
+
+-- a caller that has no cut row may cut a row behind a cell, when it found that row dead
+pub record MayCut (cell : Cell) (x : ℕ) (l : Link) (p : Caller) : Type 0 where
+  pub none : p.cut ≡ None
+  pub cell_is : MayWalk p.position.rows cell
+  pub on : (s : Stand) × In s p.position.rows × (s.row ≡ x) × (s.last ≡ Some l)
+  pub dead : l.mark ≡ Del
+
+-- the walk of a take came to its list's end, or to a row that isn't below the limit
+pub record MayMiss (x : Control) (limit : ℕ) (p : Caller) : Type 0 where
+  pub began : EndsInBegin p.own
+  pub control : p.found.control ≡ Some x
+  pub one_list : x.log ≡ 0
+  pub walks : (w : Walk) × (p.walk ≡ Some w) × ((w.at ≡ 0) ⊎ ((e : Event) × StandsOn p.position.rows w.at e × (limit ≤ e.time)))

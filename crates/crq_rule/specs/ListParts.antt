@@ -1,0 +1,110 @@
+-- The parts of the invariant on lists: their heads, their order, marks, rows that callers stand on, words that they wrote, and dead rows. Each is a record over just the components that it reads.
+use Rattle.std.specs.Prelude.{◌≡◌, ◌⊎◌, ℕ, zero, suc, ◌+◌, ◌*◌, ◌^◌, ◌<◌, false, List, Option, Some, None}
+use Rattle.crq_base.specs.declared.event.Event.{Event}
+use Rattle.crq_base.specs.declared.words.Link.{Link}
+use Rattle.crq_base.specs.declared.words.Mark.{Mark}
+use Rattle.crq_base.specs.declared.words.Mark.TheVariants.{Val, Inv as Invalid, Mov, Del}
+use Rattle.crq_base.specs.declared.words.Control.{Control}
+use Rattle.crq_base.specs.Words.{link_word}
+use Rattle.crq_rule.specs.declared.debts.CutDebt.{CutDebt}
+use Rattle.crq_rule.specs.declared.debts.Debts.{Debts}
+use Rattle.crq_rule.specs.declared.layout.Layout.{Layout}
+use Rattle.crq_rule.specs.declared.view.Guard.{Guard}
+use Rattle.crq_rule.specs.declared.view.Position.{Position}
+use Rattle.crq_rule.specs.declared.view.Stand.{Stand}
+use Rattle.crq_rule.specs.declared.view.Wrote.{Wrote}
+use Rattle.crq_rule.specs.Lists.{In}
+use Rattle.crq_rule.specs.Places.{IsRow, IsHead}
+use Rattle.crq_rule.specs.Core.{Holding, in_hand, listed, cut_by, retired}
+use Rattle.crq_rule.specs.Parts.{Covers, IsEvent}
+use Rattle.crq_rule.specs.Ranks.{rank, head_of, IsOpen, Rises}
+
+abbrev pub ranks : (ℕ → Event) → ℕ → ℕ
+ranks event r = rank (event r) r
+
+-- 7. Heads: those of the open table are open and of its generation, all others shut, older and empty
+
+abbrev pub IsOpenHead : Control → Link → Type 0
+IsOpenHead c l = (l.mark ≡ Val) × (l.generation ≡ c.generation)
+
+abbrev pub IsShutHead : Control → Link → Type 0
+IsShutHead c l = (l.mark ≡ Mov) × (l.row ≡ 0) × (l.generation < c.generation)
+
+pub record Heads (control : Control) (head : ℕ → Link) : Type 0 where
+  pub steady : control.moving ≡ false
+  -- the open table has one list
+  pub one : control.log ≡ 0
+  pub opened : (q : ℕ) → IsHead q → IsOpen control q → IsOpenHead control (head q)
+  pub shut : (q : ℕ) → IsHead q → (IsOpen control q → ⊥) → IsShutHead control (head q)
+
+-- 8. Order: the rows of each list rise by key and row, are of its head's generation, and hold events of that list
+
+pub record Sorted (control : Control) (head link : ℕ → Link) (event : ℕ → Event) (chain : ℕ → List ℕ) : Type 0 where
+  pub rises : (q : ℕ) → IsHead q → Rises (ranks event) 0 (chain q)
+  pub belongs : (q r : ℕ) → IsHead q → In r (chain q) → head_of control (event r) ≡ q
+  pub generation : (q r : ℕ) → IsHead q → In r (chain q) → (link r).generation ≡ (head q).generation
+
+-- 9. Marks: a listed row is present or dead, a row that was cut or retired is dead, and none of them has a twin
+
+abbrev pub MarkFits : Holding → Mark → Type 0
+MarkFits (in_hand j) m = Unit {0}
+MarkFits (listed q) m = (m ≡ Val) ⊎ (m ≡ Del)
+MarkFits (cut_by j) m = m ≡ Del
+MarkFits (retired t) m = m ≡ Del
+
+abbrev pub TwinFits : Holding → ℕ → Type 0
+TwinFits (in_hand j) t = Unit {0}
+TwinFits (listed q) t = t ≡ 0
+TwinFits (cut_by j) t = t ≡ 0
+TwinFits (retired s) t = t ≡ 0
+
+pub record Marks (l : Layout) (link : ℕ → Link) (twin : ℕ → ℕ) (holding : ℕ → Holding) : Type 0 where
+  pub mark : (r : ℕ) → IsRow l r → MarkFits (holding r) (link r).mark
+  pub twin_is : (r : ℕ) → IsRow l r → TwinFits (holding r) (twin r)
+
+-- 10. Stands: what a caller knows of the rows that it stands on
+
+-- a link with this mark never changes again
+abbrev pub IsFinal : Mark → Type 0
+IsFinal Val = ⊥
+IsFinal Invalid = ⊥
+IsFinal Mov = Unit {0}
+IsFinal Del = Unit {0}
+
+pub record Standing (n : ℕ) (link : ℕ → Link) (event : ℕ → Event) (position : ℕ → Position) : Type 0 where
+  pub holds : (k : ℕ) (s : Stand) → k < n → In s (position k).rows → event s.row ≡ s.event
+  pub last : (k : ℕ) (s : Stand) (l : Link) → k < n → In s (position k).rows → s.last ≡ Some l → (link s.row ≡ l) × IsFinal l.mark
+
+-- 11. Lanes: from a row that a guard covers links lead on to greater rows of the same list
+
+pub record Lanes (l : Layout) (control : Control) (link : ℕ → Link) (twin : ℕ → ℕ) (event : ℕ → Event) (guard : ℕ → Guard) (position : ℕ → Position) (debts : ℕ → Debts) : Type 0 where
+  pub is_row : (k g r : ℕ) → Covers l.workers link twin guard position debts k g r → IsRow l r
+  pub rises : (k g r : ℕ) → Covers l.workers link twin guard position debts k g r → 0 < (link r).row → ranks event r < ranks event (link r).row
+  pub stays : (k g r : ℕ) → Covers l.workers link twin guard position debts k g r → 0 < (link r).row → head_of control (event (link r).row) ≡ head_of control (event r)
+  pub generation : (k g r : ℕ) → Covers l.workers link twin guard position debts k g r → 0 < (link r).row → (link (link r).row).generation ≡ (link r).generation
+
+-- 12. Writing: the words that a caller wrote stand in its rows in hand
+
+-- the word at this place of a row: 0 is the link, 1 the twin, 2 to 5 are the words of the event
+abbrev pub row_word : Link → ℕ → Event → ℕ → ℕ
+row_word l t e zero = link_word l
+row_word l t e (suc zero) = t
+row_word l t e (suc (suc zero)) = e.time * 2 ^ 32 + e.dst
+row_word l t e (suc (suc (suc zero))) = e.src
+row_word l t e (suc (suc (suc (suc zero)))) = e.seq
+row_word l t e (suc (suc (suc (suc (suc n))))) = e.load
+
+pub record Writing (n : ℕ) (link : ℕ → Link) (twin : ℕ → ℕ) (event : ℕ → Event) (hand : ℕ → List ℕ) (written : ℕ → List Wrote) : Type 0 where
+  pub placed : (j : ℕ) (x : Wrote) → j < n → In x (written j) → x.place < 6
+  pub in_hand_is : (j : ℕ) (x : Wrote) → j < n → In x (written j) → In x.row (hand j)
+  pub stands : (j : ℕ) (x : Wrote) → j < n → In x (written j) → row_word (link x.row) (twin x.row) (event x.row) x.place ≡ x.word
+
+-- 13. Dead rows: each one that is still listed is owed to be cut by a caller that names it, by row and event
+
+abbrev pub IsNamed : Option CutDebt → ℕ → Event → Type 0
+IsNamed None r e = ⊥
+IsNamed (Some d) r e = (d.row ≡ r) × (d.event ≡ e)
+
+pub record Naming (l : Layout) (control : Control) (link : ℕ → Link) (event : ℕ → Event) (debts : ℕ → Debts) (holding : ℕ → Holding) : Type 0 where
+  pub named : (r q : ℕ) → IsRow l r → holding r ≡ listed q → (link r).mark ≡ Del → (k : ℕ) × (k < l.workers) × (IsNamed (debts k).cut r (event r) ⊎ IsNamed (debts k).second_cut r (event r))
+  pub place : (k : ℕ) (d : CutDebt) → k < l.workers → (debts k).cut ≡ Some d → (d.head ≡ head_of control d.event) × IsRow l d.row × IsEvent d.event

@@ -1,0 +1,61 @@
+-- The order within a list, the list of an event, and the places at which a link stands.
+use Rattle.std.specs.Prelude.{ℕ, ◌+◌, ◌*◌, ◌/◌, ◌%◌, ◌^◌, ◌<◌, ◌≤◌, List, [], ◌∷◌, cond, ◌==◌}
+use Rattle.crq_base.specs.declared.event.Event.{Event}
+use Rattle.crq_base.specs.declared.words.Link.{Link}
+use Rattle.crq_base.specs.declared.words.Control.{Control}
+use Rattle.crq_rule.specs.Lists.{put}
+use Rattle.crq_rule.specs.Places.{Place, head, link}
+
+-- the place of the row r with the event e in a list: by time, source and number, and then by row
+unfoldable pub rank : Event → ℕ → ℕ
+rank e r = ((e.time * 2 ^ 32 + e.src) * 2 ^ 64 + e.seq) * 2 ^ 24 + r
+
+-- the list of the event e in the open table: the bucket of its time, and the head of that bucket in the table's bank
+unfoldable pub head_of : Control → Event → ℕ
+head_of c e = c.generation % 2 * 32768 + e.time / 2 ^ c.shift % 2 ^ c.log
+
+-- the head q is one of the open table
+abbrev pub IsOpen : Control → ℕ → Type 0
+IsOpen c q = (c.generation % 2 * 32768 ≤ q) × (q < c.generation % 2 * 32768 + 2 ^ c.log)
+
+-- where a link stands: in a head, or in a row
+pub data Cell : Type 0 where
+  at_head : ℕ → Cell
+  at_row : ℕ → Cell
+
+abbrev pub cell_place : Cell → Place
+cell_place (at_head q) = head q
+cell_place (at_row r) = link r
+
+abbrev pub link_at : (ℕ → Link) → (ℕ → Link) → Cell → Link
+link_at heads links (at_head q) = heads q
+link_at heads links (at_row r) = links r
+
+-- the links where that of the cell is set to l
+abbrev pub heads_set : (ℕ → Link) → Cell → Link → ℕ → Link
+heads_set heads (at_head q) l = put heads q l
+heads_set heads (at_row r) l = heads
+
+abbrev pub links_set : (ℕ → Link) → Cell → Link → ℕ → Link
+links_set links (at_head q) l = links
+links_set links (at_row r) l = put links r l
+
+-- each rank is above the one before it, and the first above n
+abbrev pub Rises : (ℕ → ℕ) → ℕ → List ℕ → Type 0
+Rises ranks n [] = Unit {0}
+Rises ranks n (r ∷ rs) = (n < ranks r) × Rises ranks (ranks r) rs
+
+-- the row r comes after the row p
+abbrev pub after_row : ℕ → ℕ → List ℕ → List ℕ
+after_row p r [] = []
+after_row p r (x ∷ xs) = cond (x == p) (x ∷ r ∷ xs) (x ∷ after_row p r xs)
+
+-- the row r comes after the cell
+abbrev pub after_cell : Cell → ℕ → List ℕ → List ℕ
+after_cell (at_head q) r xs = r ∷ xs
+after_cell (at_row p) r xs = after_row p r xs
+
+-- without the row x, where it stands first
+abbrev pub without_row : ℕ → List ℕ → List ℕ
+without_row x [] = []
+without_row x (y ∷ ys) = cond (y == x) ys (y ∷ without_row x ys)
