@@ -1,11 +1,12 @@
 -- The seat of a new table is split into one for each caller.
-use Rattle.std.proofs.Common.{◌≡◌, ℕ, zero, suc, ◌+◌, ◌<◌, ◌≤◌, List, [], ◌∷◌, length, set, Some, sym, refl, ap, ◌∙◌, subst, arith, length-set}
+use Rattle.std.proofs.Common.{◌≡◌, inl, ℕ, zero, suc, ◌+◌, ◌*◌, ◌<◌, ◌≤◌, List, [], ◌∷◌, length, set, None, Some, sym, refl, ap, ◌∙◌, subst, arith, length-set}
 use Rattle.std.specs.Prelude.{slice_get}
 use mathlib.Core.Option.{some, some-injective}
 use mathlib.Core.Logic.{dite}
 use native.Mathlib.Decide.{ℕ_discrete}
 use lib.ListN.{get_elem?}
 use Rattle.atomic_table.specs.declared.shared.Seat.{Seat}
+use Rattle.crq_rule.specs.declared.debts.CutDebt.{CutDebt}
 use Rattle.crq_rule.specs.declared.layout.Start.{Start}
 use Rattle.crq_rule.specs.declared.view.Caller.{Caller}
 use Rattle.crq_rule.specs.declared.view.View.{View}
@@ -14,10 +15,11 @@ use Rattle.crq_rule.specs.declared.pass.Rest.{Rest}
 use Rattle.crq_rule.specs.declared.pass.Table.{Table}
 use Rattle.crq_rule.specs.declared.pass.Seating.{Seating}
 use Rattle.crq_rule.specs.declared.pass.Seating.TheVariants.{Here, Resting}
-use Rattle.crq_rule.specs.Rule.{fresh, fresh_from, head_view, tail_view, first_of, rest_of, IsFirstApart}
-use Rattle.crq_rule.specs.Opening.{IsFresh, IsOpening}
-use Rattle.crq_rule.proofs.Openings.{fresh_at}
-use Rattle.crq_rows.specs.Passes.{first_part, IsNew, AreNew}
+use Rattle.crq_rule.specs.Rule.{Lawful, fresh, fresh_from, head_view, tail_view, first_of, rest_of, IsFirstApart}
+use Rattle.crq_rule.specs.Opening.{IsFresh, IsOpening, no_debts}
+use Rattle.crq_rule.proofs.Openings.{fresh_at, rows_in, none_control}
+use Rattle.crq_rule.proofs.HolderLaws.{none_some}
+use Rattle.crq_rows.specs.Passes.{first_part, IsOwed, IsNew, AreNew}
 use Rattle.crq_rows.proofs.Slots.{get_here, get_else}
 
 -- the passes below n are made, and the seat carries the callers from n on
@@ -56,6 +58,28 @@ dealing_apart table places seat n b d k p q f e is = let w = d.count in let l = 
 abbrev pass_of : Seat (Unit {0}) View → ℕ → Rest → Pass
 pass_of seat n rest = record { seat = seat; number = n; free = rest.free; debts = rest.debts; turns = 0 }
 
+no_debt : (d : CutDebt) → None ≡ Some d → ⊥
+no_debt d is = cc
+
+-- a caller at the start
+pub fresh_lawful : (start : Start) (n : ℕ) → n < start.layout.workers → Lawful (fresh start n)
+fresh_lawful start n b = record {
+  inside = b;
+  epochs = λ e i. absurd i;
+  hand = λ r i. rows_in (n * start.layout.home) start.layout.home r i;
+  cut = λ x is. absurd (none_some x is);
+  tags = λ x t is. absurd (none_some x is);
+  ripening = λ r t i. absurd i;
+  stands = λ s i. absurd i;
+  last = λ s l i. absurd i;
+  apart = λ r s _ i. absurd i;
+  on = λ s i. absurd i;
+  agree = λ s t i. absurd i;
+  owed_at = λ d x is. absurd (no_debt d is);
+  owed_fits = λ d is. absurd (no_debt d is);
+  controlled = λ x is. absurd (none_control x is);
+}
+
 new_pass : (table : Table) (seat : Seat (Unit {0}) View) (n : ℕ) (rest : Rest) → n < table.start.layout.workers → seat.table_id ≡ table.inner.shared.table_id → seat.me ≡ (record { parts = fresh table.start n ∷ [] }, [])
     → IsFresh table.start.layout n rest → IsNew table n (pass_of seat n rest)
 new_pass table seat n rest b id me new = let parts : seat.me.0.parts ≡ fresh table.start n ∷ [] = ap (λ m. m.0.parts) me in
@@ -69,9 +93,10 @@ new_pass table seat n rest b id me new = let parts : seat.me.0.parts ≡ fresh t
           inside = b;
           started = ap (λ (p : Caller). p.start) part;
         };
+        lawful = subst Lawful (sym part) (fresh_lawful table.start n b);
         free = new.free ∙ sym (ap (λ (p : Caller). p.hand) part);
         room = new.room;
-        debts = new.debts ∙ sym (ap (λ (p : Caller). p.debts) part);
+        debts = let owed : rest.debts ≡ no_debts = new.debts in subst (λ (p : Caller). IsOwed rest.debts p.debts) (sym part) (subst (λ d. IsOwed d no_debts) (sym owed) record { settle = refl; copy = refl; cut = inl refl; second_cut = refl });
       };
       number = refl;
       part = part;

@@ -1,7 +1,11 @@
+pub mod Knowing
 pub mod Passing
 pub mod StampWords
 pub mod Slots
+pub mod Reached
+pub mod Readings
 pub mod Deals
 pub mod Ticks
 pub mod Owns
 pub mod Recovers
+pub mod Working

@@ -1,5 +1,5 @@
 -- What each step of a search for a free row tells.
-use Rattle.std.proofs.Common.{◌≡◌, ◌≢◌, inl, inr, ℕ, zero, suc, ◌+◌, ◌*◌, List, [], ◌∷◌, ◌++◌, length, sym, refl, ap, ◌∙◌, subst, arith}
+use Rattle.std.proofs.Common.{◌≡◌, ◌≢◌, inl, inr, ℕ, zero, suc, ◌+◌, ◌*◌, ◌<◌, List, [], ◌∷◌, ◌++◌, length, sym, refl, ap, ◌∙◌, subst, arith}
 use Rattle.std.proofs.lemmas.List.{append_assoc, length-append}
 use Rattle.crq_base.specs.declared.kinds.StepKind.TheVariants.{EpochLoad, Look}
 use Rattle.crq_rule.specs.declared.layout.Layout.{Layout}
@@ -8,13 +8,14 @@ use Rattle.crq_rule.specs.declared.view.Caller.{Caller}
 use Rattle.crq_rule.specs.declared.pass.Pass.{Pass}
 use Rattle.crq_rule.specs.declared.pass.Table.{Table}
 use Rattle.crq_rule.specs.Places.{index, epoch, stamp}
-use Rattle.crq_rule.specs.Kinds.{makes, looks, loads_epoch, seen_stamp, IsRipe}
+use Rattle.crq_rule.specs.Kinds.{makes, looks, loads_epoch, seen_stamp, IsRipe, tagged}
+use Rattle.crq_rule.proofs.PartLaws.{home_is_row}
 use Rattle.crq_rows.specs.declared.own.OwnOp.{OwnOp}
 use Rattle.crq_rows.specs.declared.own.OwnOp.TheVariants.{Load, Looking, Claiming}
 use Rattle.crq_rows.specs.declared.own.Own.{Own}
 use Rattle.crq_rows.specs.declared.own.Own.TheVariants.{More, Empty}
 use Rattle.crq_rows.specs.Passes.{caller, load_made, IsPassOf, Stepped}
-use Rattle.crq_rows.specs.Owning.{IsRipeWord, NoneRipe, LookedTo, FoundNone, IsOwning, OwnAnswer, OwnFacts, OwnStepped}
+use Rattle.crq_rows.specs.Owning.{IsRipeWord, NoneRipe, LookedTo, FoundNone, IsOwning, own_left, OwnAnswer, OwnFacts, OwnStepped}
 
 -- a row that was found ripe may be claimed
 pub ripe_seen : (row w e : ℕ) (xs : List (ℕ × ℕ)) → IsRipeWord e w → IsRipe (seen_stamp row w xs) row e
@@ -96,35 +97,42 @@ not_looked l p e row w t none = let n = none.looked in let m : Made = load_made 
     more [] looks = (refl, tt)
     more (m ∷ ms) looks = (looks.0, more ms looks.1)
 
+empty_no_more : Empty ≡ More → ⊥
+empty_no_more e = cc
+
 looking_not : (e row : ℕ) → Looking e row ≡ Load → ⊥
 looking_not e row q = cc
 
 -- a look, that an answer follows
 own_looked : (table : Table) (old new : Pass) (e row w : ℕ) (op' : OwnOp) (result : Own) → Stepped table old new (load_made Look (index table.start.layout (stamp row)) w) (looks row w)
     → OwnAnswer table.start.layout op' (makes (load_made Look (index table.start.layout (stamp row)) w) (looks row w (caller table old))) result
-    → (FoundNone table.start.layout (makes (load_made Look (index table.start.layout (stamp row)) w) (looks row w (caller table old))) → result ≡ Empty) → OwnStepped table (Looking e row) op' old new result
-own_looked table old new e row w op' result s answer exact = let l = table.start.layout in let m : Made = load_made Look (index l (stamp row)) w in record {
+    → (FoundNone table.start.layout (makes (load_made Look (index table.start.layout (stamp row)) w) (looks row w (caller table old))) → result ≡ Empty)
+    → (result ≡ More → own_left table.start.layout op' < own_left table.start.layout (Looking e row)) → OwnStepped table (Looking e row) op' old new result
+own_looked table old new e row w op' result s answer exact shrinks = let l = table.start.layout in let m : Made = load_made Look (index l (stamp row)) w in record {
   is = s.is;
   same = s.same ∙ (λ i. record old { seat = new.seat; free = sym (ap (λ (p : Pass). p.free) s.same) i });
   has = λ r rest is _. absurd (looking_not e row is);
-  steps = λ _. subst (λ q. OwnFacts table.start.layout (Looking e row) op' (caller table old) q result) (sym s.part) record { made = m; one = refl; makes = (refl, refl); stays = refl; grows = λ e i. i; answer = answer };
+  steps = λ _. subst (λ q. OwnFacts table.start.layout (Looking e row) op' (caller table old) q result) (sym s.part) record { made = m; one = refl; makes = (refl, refl); stays = refl; grows = λ e i. i; uncut = λ none. none; answer = answer };
   exact = λ _ none. exact (subst (FoundNone table.start.layout) s.part none);
+  shrinks = shrinks;
 }
 
 module _ (table : Table) (old new : Pass) (e row w : ℕ) (op : IsOwning table.start.layout (Looking e row) (caller table old)) (s : Stepped table old new (load_made Look (index table.start.layout (stamp row)) w) (looks row w)) where
   pub own_ripe : IsRipeWord e w → OwnStepped table (Looking e row) (Claiming e row) old new More
-  own_ripe ripe = own_looked table old new e row w (Claiming e row) More s (op.0, op.1, op.2, ripe_seen row w e (caller table old).ripening ripe) (λ none. absurd ((not_looked table.start.layout (caller table old) e row w op.3 none).0 ripe))
+  own_ripe ripe = own_looked table old new e row w (Claiming e row) More s (op.0, op.1, op.2, ripe_seen row w e (caller table old).ripening ripe) (λ none. absurd ((not_looked table.start.layout (caller table old) e row w op.3 none).0 ripe)) (λ _. omega arith)
 
   pub own_next : (IsRipeWord e w → ⊥) → row ≢ (caller table old).number * table.start.layout.home + table.start.layout.home → OwnStepped table (Looking e row) (Looking e (row + 1)) old new More
-  own_next unripe ne = let lo = op.2.0 in let hi = op.2.1 in
-      own_looked table old new e row w (Looking e (row + 1)) More s (op.0, op.1, (omega arith, omega arith), looked_more table.start.layout e row w (caller table old) unripe op.3) (λ none. absurd (ne (not_looked table.start.layout (caller table old) e row w op.3 none).1))
+  own_next unripe ne = let lo = op.2.0 in let hi = op.2.1 in let p : Caller = caller table old in let num = ap (λ (q : Caller). q.number) s.part in
+      let inside : p.number < table.start.layout.workers = subst (λ z. z < table.start.layout.workers) (sym s.is.sits.numbered ∙ num) s.is.sits.inside in
+      let below = (home_is_row table.start.layout p.number (row + 1) inside (omega arith, omega arith)).1 in
+      own_looked table old new e row w (Looking e (row + 1)) More s (op.0, op.1, (omega arith, omega arith), looked_more table.start.layout e row w (caller table old) unripe op.3) (λ none. absurd (ne (not_looked table.start.layout (caller table old) e row w op.3 none).1)) (λ _. omega arith)
 
   pub own_last : (IsRipeWord e w → ⊥) → row ≡ (caller table old).number * table.start.layout.home + table.start.layout.home → OwnStepped table (Looking e row) Load old new Empty
   own_last unripe is = own_looked table old new e row w Load Empty s record {
     none = op.0;
     epoch = e;
     looked = subst (λ n. LookedTo table.start.layout e n (makes (load_made Look (index table.start.layout (stamp row)) w) (looks row w (caller table old)))) (ap (λ n. n + 1) is) (looked_more table.start.layout e row w (caller table old) unripe op.3);
-  } (λ _. refl)
+  } (λ _. refl) (λ e. absurd (empty_no_more e))
 
 -- a load of the epoch, where there is no free row
 pub own_loaded : (table : Table) (old new : Pass) (e : ℕ) → old.free.items ≡ [] → IsPassOf table old → Stepped table old new (load_made EpochLoad (index table.start.layout epoch) e) (loads_epoch e)
@@ -139,9 +147,11 @@ own_loaded table old new e none of s = let l = table.start.layout in let p : Cal
     makes = (refl, refl);
     stays = refl;
     grows = λ x i. inr i;
+    uncut = λ none. ap (tagged e) none;
     answer = (sym of.free ∙ none, inl refl, (omega arith, omega arith), record { before = p.made; since = []; made = refl; looks = refl });
   };
   exact = λ _ found. absurd (not_loaded l p e (subst (FoundNone l) s.part found));
+  shrinks = λ _. omega arith;
 }
   where
     not_both : {row : ℕ} {rest : List ℕ} → [] ≡ row ∷ rest → ⊥

@@ -1,61 +1,112 @@
 -- A pass after a step.
-use Rattle.std.proofs.Common.{◌≡◌, ℕ, [], ◌∷◌, get_or, sym, refl, ap, ◌∙◌, subst}
+use Rattle.std.proofs.Common.{◌≡◌, ◌⊎◌, ⊎_elim, inl, ℕ, [], ◌∷◌, None, sym, refl, ap, ◌∙◌, subst}
 use Rattle.atomic_table.specs.declared.shared.Seat.{Seat}
 use Rattle.atomic_table.specs.Table.{Allows}
 use Rattle.crq_base.specs.declared.kinds.StepKind.{StepKind}
+use Rattle.crq_rule.specs.declared.debts.Debts.{Debts}
 use Rattle.crq_rule.specs.declared.layout.Start.{Start}
 use Rattle.crq_rule.specs.declared.view.Made.{Made}
 use Rattle.crq_rule.specs.declared.view.Caller.{Caller}
 use Rattle.crq_rule.specs.declared.view.View.{View}
 use Rattle.crq_rule.specs.declared.pass.Pass.{Pass}
 use Rattle.crq_rule.specs.declared.pass.Table.{Table}
-use Rattle.crq_rule.specs.Kinds.{alters, on_first, makes}
-use Rattle.crq_rule.specs.Rule.{Stands, Moves}
-use Rattle.crq_rule.proofs.Glue.{allows}
-use Rattle.crq_rows.specs.Passes.{told_first, caller, first_part, IsSeated, IsPassOf, Steps, Stepped}
+use Rattle.crq_rule.specs.Kinds.{makes}
+use Rattle.crq_rule.specs.Rule.{Stands, Moves, MovesBy, By, Lawful, FirstTurns}
+use Rattle.crq_rule.proofs.Glue.{allows, moves_by}
+use Rattle.crq_rows.specs.Passes.{caller, first_part, IsOwed, IsSeated, IsPassOf, StaysAside, Steps, Stepped, Turned, Exchanged, Exchanges, counted}
 
-module _ (table : Table) (old : Pass) (seat : Seat (Unit {0}) View) (m : Made) (f : Caller → Caller) where
-  pub steps : IsSeated table old → ((p : Caller) → (f p).number ≡ p.number) → ((p : Caller) → (f p).start ≡ p.start) → seat.table_id ≡ old.seat.table_id → seat.id ≡ old.seat.id
-      → seat.me ≡ (alters (λ p. makes m (f p)) old.seat.me.0, old.seat.me.1) → Steps table old (record old { seat = seat }) m f
-  steps of number start table_id id me =
-      let p : Caller = caller table old in
-      let parts : seat.me.0.parts ≡ makes m (f p) ∷ [] = ap (λ m. m.0.parts) me ∙ ap (on_first (λ p. makes m (f p))) of.one in
-      let part : first_part table.start seat.me.0.parts ≡ makes m (f p) = ap (first_part table.start) parts in record {
+-- the seat after a step
+record Sat (table : Table) (old : Pass) (seat : Seat (Unit {0}) View) (m : Made) (R : Caller → Caller → Type 0) : Type 0 where
+  after : Caller
+  turns : R (caller table old) after
+  lawful : Lawful (makes m after)
+  sits : IsSeated table (record old { seat = seat })
+  part : caller table (record old { seat = seat }) ≡ makes m after
+
+lawful_made : (m : Made) (q : Caller) → Lawful q → Lawful (makes m q)
+lawful_made m q l = record { inside = l.inside; epochs = l.epochs; hand = l.hand; cut = l.cut; tags = l.tags; ripening = l.ripening; stands = l.stands; last = l.last; apart = l.apart; on = l.on; agree = l.agree; owed_at = l.owed_at; owed_fits = l.owed_fits; controlled = l.controlled }
+
+module _ (table : Table) (old : Pass) (seat : Seat (Unit {0}) View) (m : Made) (R : Caller → Caller → Type 0) where
+  sat : IsSeated table old → seat.table_id ≡ old.seat.table_id → FirstTurns R m old.seat.me.0.parts seat.me.0 → seat.me.1 ≡ old.seat.me.1 → Sat table old seat m R
+  sat of table_id turns bare = let p : Caller = caller table old in let t = subst (λ ps. FirstTurns R m ps seat.me.0) of.one turns in
+      let parts : seat.me.0.parts ≡ makes m t.0 ∷ [] = ap (λ (v : View). v.parts) t.5 in let part : first_part table.start seat.me.0.parts ≡ makes m t.0 = ap (first_part table.start) parts in record {
+        after = t.0;
+        turns = t.1;
+        lawful = lawful_made m t.0 t.4;
         sits = record {
           seated = table_id ∙ of.seated;
-          bare = ap (λ m. m.1) me ∙ of.bare;
+          bare = bare ∙ of.bare;
           one = parts ∙ ap (λ p. p ∷ []) (sym part);
-          numbered = ap (λ (p : Caller). p.number) part ∙ (number p ∙ of.numbered);
+          numbered = ap (λ (p : Caller). p.number) part ∙ (t.2 ∙ of.numbered);
           inside = of.inside;
-          started = ap (λ (p : Caller). p.start) part ∙ (start p ∙ of.started);
+          started = ap (λ (p : Caller). p.start) part ∙ (t.3 ∙ of.started);
         };
-        same = refl;
-        id = id;
         part = part;
       }
 
-  pub stepped : IsPassOf table old → ((p : Caller) → (f p).number ≡ p.number) → ((p : Caller) → (f p).start ≡ p.start) → ((p : Caller) → (f p).hand ≡ p.hand) → ((p : Caller) → (f p).debts ≡ p.debts)
-      → seat.table_id ≡ old.seat.table_id → seat.id ≡ old.seat.id → seat.me ≡ (alters (λ p. makes m (f p)) old.seat.me.0, old.seat.me.1) → Stepped table old (record old { seat = seat }) m f
-  stepped of number start hand debts table_id id me = let p : Caller = caller table old in let s = steps of.sits number start table_id id me in record {
+  still_owed : (d e : Debts) (run : Debts) → IsOwed run d → (e ≡ d) ⊎ (e ≡ record d { cut = None }) → IsOwed run e
+  still_owed d e run owed how = ⊎_elim (λ q. subst (IsOwed run) (sym q) owed) (λ q. subst (IsOwed run) (sym q) record { settle = owed.settle; copy = owed.copy; cut = inl refl; second_cut = owed.second_cut }) how
+
+  pub turned : IsPassOf table old → ((p q : Caller) → R p q → StaysAside p q) → seat.table_id ≡ old.seat.table_id → seat.id ≡ old.seat.id → FirstTurns R m old.seat.me.0.parts seat.me.0 → seat.me.1 ≡ old.seat.me.1
+      → Turned table old (record old { seat = seat }) m R
+  turned of aside table_id id turns bare = let s = sat of.sits table_id turns bare in let stays = aside (caller table old) s.after s.turns in record {
     is = record {
       sits = s.sits;
-      free = of.free ∙ sym (ap (λ (p : Caller). p.hand) s.part ∙ hand p);
+      lawful = subst Lawful (sym s.part) s.lawful;
+      free = of.free ∙ (sym stays.hand ∙ sym (ap (λ (p : Caller). p.hand) s.part));
       room = of.room;
-      debts = of.debts ∙ sym (ap (λ (p : Caller). p.debts) s.part ∙ debts p);
+      debts = subst (λ (p : Caller). IsOwed old.debts p.debts) (sym s.part) (still_owed (caller table old).debts s.after.debts old.debts of.debts stays.debts);
     };
     same = refl;
     id = id;
-    part = s.part;
+    after = (s.after, s.turns, s.part);
   }
 
--- what `atomic_table` asks of a step of the pass
-pub seated_allows : (kind : StepKind) (table : Table) (pass : Pass) (w : ℕ) (g : ℕ → ℕ) (m : ℕ → Made) (f : ℕ → Caller → Caller) (tells : ℕ → Caller → Type 0) → IsSeated table pass → ((r : ℕ) (p : Caller) → (f r p).number ≡ p.number)
-    → Moves kind table.start (caller table pass) w g f tells
-    → Allows (Stands table.inner.shared.key) table.inner.shared.table_id.slots pass.seat.id pass.seat.me w g (λ r n. (n ≡ (alters (λ q. makes (m r) (f r q)) pass.seat.me.0, pass.seat.me.1)) × told_first (tells r) pass.seat.me.0.parts)
-seated_allows kind table pass w g m f tells of number moves = subst (λ (key : Start). Allows (Stands key) table.inner.shared.table_id.slots pass.seat.id pass.seat.me w g (λ r n. (n ≡ (alters (λ q. makes (m r) (f r q)) pass.seat.me.0, pass.seat.me.1)) × told_first (tells r) pass.seat.me.0.parts))
-    (sym table.keyed) (λ s h x at y. let t = allows table.start kind table.inner.shared.table_id.slots pass.seat.id pass.seat.me (caller table pass) w g m f tells of.one (λ r. number r (caller table pass)) moves s h x at y in
-    (t.0, t.1, t.2, t.3, (t.4.0, subst (told_first (tells (get_or s.words w 0))) (sym of.one) t.4.1)))
+module _ (table : Table) (old : Pass) (seat : Seat (Unit {0}) View) (m : Made) (f : Caller → Caller) (tells : Caller → Type 0) where
+  abbrev Goes : Caller → Caller → Type 0
+  Goes p q = (f p ≡ q) × tells p
 
--- what it tells of the pass's caller
-pub told_of : (table : Table) (pass : Pass) (P : Caller → Type 0) → IsSeated table pass → told_first P pass.seat.me.0.parts → P (caller table pass)
-told_of table pass P of told = subst (told_first P) of.one told
+  pub steps : IsSeated table old → seat.table_id ≡ old.seat.table_id → seat.id ≡ old.seat.id → FirstTurns Goes m old.seat.me.0.parts seat.me.0 → seat.me.1 ≡ old.seat.me.1 → Steps table old (record old { seat = seat }) m f × tells (caller table old)
+  steps of table_id id turns bare = let s = sat table old seat m Goes of table_id turns bare in (
+    record {
+      sits = s.sits;
+      lawful = subst Lawful (sym s.part) s.lawful;
+      same = refl;
+      id = id;
+      part = s.part ∙ ap (makes m) (sym s.turns.0);
+    },
+    s.turns.1,
+  )
+
+  pub stepped : IsPassOf table old → ((p : Caller) → StaysAside p (f p)) → seat.table_id ≡ old.seat.table_id → seat.id ≡ old.seat.id → FirstTurns Goes m old.seat.me.0.parts seat.me.0 → seat.me.1 ≡ old.seat.me.1
+      → Stepped table old (record old { seat = seat }) m f × tells (caller table old)
+  stepped of aside table_id id turns bare = let t = turned table old seat m Goes of (λ p q h. subst (StaysAside p) h.0 (aside p)) table_id id turns bare in (
+    record { is = t.is; same = refl; id = id; part = t.after.2 ∙ ap (makes m) (sym t.after.1.0) },
+    t.after.1.1,
+  )
+
+-- a pass that has counted an exchange
+seated_counted : (table : Table) (pass : Pass) (t : ℕ) → IsSeated table pass → IsSeated table (record pass { turns = t })
+seated_counted table pass t s = record { seated = s.seated; bare = s.bare; one = s.one; numbered = s.numbered; inside = s.inside; started = s.started }
+
+pub exchanges : (table : Table) (old new : Pass) (t : ℕ) (m : Made) (f : Caller → Caller) → t ≡ counted old.turns → Steps table old new m f → Exchanges table old (record new { turns = t }) m f
+exchanges table old new t m f is s = record { sits = seated_counted table new t s.sits; lawful = s.lawful; same = ap (λ (p : Pass). record p { turns = t }) s.same; turns = is; id = s.id; part = s.part }
+
+pub exchanged : (table : Table) (old new : Pass) (t : ℕ) (m : Made) (f : Caller → Caller) → t ≡ counted old.turns → Stepped table old new m f → Exchanged table old (record new { turns = t }) m f
+exchanged table old new t m f is s = record {
+  is = record { sits = seated_counted table new t s.is.sits; lawful = s.is.lawful; free = s.is.free; room = s.is.room; debts = s.is.debts };
+  same = ap (λ (p : Pass). record p { turns = t }) s.same;
+  turns = is;
+  id = s.id;
+  part = s.part;
+}
+
+-- what `atomic_table` asks of a step of the pass
+pub turn_allows : (kind : StepKind) (table : Table) (pass : Pass) (w : ℕ) (g : ℕ → ℕ) (m : ℕ → Made) (R : ℕ → Caller → Caller → Type 0) → IsSeated table pass → MovesBy kind table.start (caller table pass) w g R
+    → Allows (Stands table.inner.shared.key) table.inner.shared.table_id.slots pass.seat.id pass.seat.me w g (λ r n. FirstTurns (R r) (m r) pass.seat.me.0.parts n.0 × (n.1 ≡ pass.seat.me.1))
+turn_allows kind table pass w g m R of moves = subst (λ (key : Start). Allows (Stands key) table.inner.shared.table_id.slots pass.seat.id pass.seat.me w g (λ r n. FirstTurns (R r) (m r) pass.seat.me.0.parts n.0 × (n.1 ≡ pass.seat.me.1)))
+    (sym table.keyed) (allows table.start kind table.inner.shared.table_id.slots pass.seat.id pass.seat.me (caller table pass) w g m R of.one moves)
+
+pub seated_allows : (kind : StepKind) (table : Table) (pass : Pass) (w : ℕ) (g : ℕ → ℕ) (m : ℕ → Made) (f : ℕ → Caller → Caller) (tells : ℕ → Caller → Type 0) → IsSeated table pass → Moves kind table.start (caller table pass) w g f tells
+    → Allows (Stands table.inner.shared.key) table.inner.shared.table_id.slots pass.seat.id pass.seat.me w g (λ r n. FirstTurns (By f tells r) (m r) pass.seat.me.0.parts n.0 × (n.1 ≡ pass.seat.me.1))
+seated_allows kind table pass w g m f tells of moves = turn_allows kind table pass w g m (By f tells) of (moves_by kind table.start (caller table pass) w g f tells moves)

@@ -1,5 +1,5 @@
 -- Looking for a free row: what it knows between two steps, and what each step tells.
-use Rattle.std.specs.Prelude.{◌≡◌, ℕ, ◌+◌, ◌*◌, ◌<◌, ◌≤◌, List, [], ◌∷◌, ◌++◌}
+use Rattle.std.specs.Prelude.{◌≡◌, ℕ, ◌+◌, ◌-◌, ◌*◌, ◌<◌, ◌≤◌, List, [], ◌∷◌, ◌++◌, None}
 use Rattle.crq_base.specs.declared.kinds.StepKind.TheVariants.{EpochLoad, Look, Claim}
 use Rattle.crq_rule.specs.declared.layout.Layout.{Layout}
 use Rattle.crq_rule.specs.declared.view.Made.{Made}
@@ -48,6 +48,12 @@ OwnMakes l Load m = (m.kind ≡ EpochLoad) × (m.word ≡ index l epoch)
 OwnMakes l (Looking e row) m = (m.kind ≡ Look) × (m.word ≡ index l (stamp row))
 OwnMakes l (Claiming e row) m = (m.kind ≡ Claim) × (m.word ≡ index l (stamp row))
 
+-- no more steps than these answer `More` yet
+abbrev pub own_left : Layout → OwnOp → ℕ
+own_left l Load = l.all + 2
+own_left l (Looking e row) = (l.all - row) + 1
+own_left l (Claiming e row) = 0
+
 -- what an answer means: the row is the first free one; or there is none, and none was found ripe
 abbrev pub OwnAnswer : Layout → OwnOp → Caller → Own → Type 0
 OwnAnswer l op q More = IsOwning l op q
@@ -61,6 +67,7 @@ pub record OwnFacts (l : Layout) (op op' : OwnOp) (p q : Caller) (result : Own) 
   pub makes : OwnMakes l op made
   pub stays : q ≡ record p { made = q.made; epochs = q.epochs; tick = q.tick; cut = q.cut; hand = q.hand; ripening = q.ripening }
   pub grows : (e : ℕ) → In e p.epochs → In e q.epochs
+  pub uncut : p.cut ≡ None → q.cut ≡ None
   pub answer : OwnAnswer l op' q result
 
 pub record OwnStepped (table : Table) (op op' : OwnOp) (old new : Pass) (result : Own) : Type 0 where
@@ -71,3 +78,4 @@ pub record OwnStepped (table : Table) (op op' : OwnOp) (old new : Pass) (result 
   pub steps : (op ≡ Load → old.free.items ≡ []) → OwnFacts table.start.layout op op' (caller table old) (caller table new) result
   -- where none was found, that is the answer
   pub exact : (op ≡ Load → old.free.items ≡ []) → FoundNone table.start.layout (caller table new) → result ≡ Empty
+  pub shrinks : result ≡ More → own_left table.start.layout op' < own_left table.start.layout op

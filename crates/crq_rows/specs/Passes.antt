@@ -1,7 +1,8 @@
 -- A pass of a table, and what one step does to it.
-use Rattle.std.specs.Prelude.{◌≡◌, ℕ, ◌+◌, ◌-◌, ◌^◌, ◌<◌, ◌≤◌, List, [], ◌∷◌, ◌++◌, min, Option, Some, None, Result, Ok, Err, length, slice_get}
+use Rattle.std.specs.Prelude.{◌≡◌, ◌⊎◌, ℕ, ◌+◌, ◌-◌, ◌^◌, ◌<◌, ◌≤◌, List, [], ◌∷◌, ◌++◌, min, Option, Some, None, Result, Ok, Err, length, slice_get}
 use Rattle.std.specs.VecDeque.{deque_capacity}
 use Rattle.crq_base.specs.declared.kinds.StepKind.{StepKind}
+use Rattle.crq_rule.specs.declared.debts.Debts.{Debts}
 use Rattle.crq_rule.specs.declared.view.Made.{Made}
 use Rattle.crq_rule.specs.declared.view.Caller.{Caller}
 use Rattle.crq_rule.specs.declared.pass.Pass.{Pass}
@@ -10,7 +11,7 @@ use Rattle.crq_rule.specs.declared.pass.Seating.{Seating}
 use Rattle.crq_rule.specs.declared.pass.Seating.TheVariants.{Here}
 use Rattle.crq_rule.specs.declared.layout.Start.{Start}
 use Rattle.crq_rule.specs.Kinds.{makes}
-use Rattle.crq_rule.specs.Rule.{fresh}
+use Rattle.crq_rule.specs.Rule.{fresh, Lawful}
 
 -- the first part of a view
 abbrev pub first_part : Start → List Caller → Caller
@@ -30,12 +31,20 @@ pub record IsSeated (table : Table) (pass : Pass) : Type 0 where
   pub inside : pass.number < table.start.layout.workers
   pub started : (caller table pass).start ≡ table.start
 
+-- the pass owes what its caller does, and maybe a dead row that was cut meanwhile
+pub record IsOwed (run known : Debts) : Type 0 where
+  pub settle : known.settle ≡ run.settle
+  pub copy : known.copy ≡ run.copy
+  pub cut : (known.cut ≡ None) ⊎ (known.cut ≡ run.cut)
+  pub second_cut : known.second_cut ≡ run.second_cut
+
 -- the pass is of the table: its fields agree with what is known of its caller, and its list of free rows has room for all home rows
 pub record IsPassOf (table : Table) (pass : Pass) : Type 0 where
   pub sits : IsSeated table pass
+  pub lawful : Lawful (caller table pass)
   pub free : pass.free.items ≡ (caller table pass).hand
   pub room : table.start.layout.home ≤ deque_capacity pass.free
-  pub debts : pass.debts ≡ (caller table pass).debts
+  pub debts : IsOwed pass.debts (caller table pass).debts
 
 -- the step of an exchange of the word `word` from `first` to `second`, which found `found`; of a store of `first`; or of a load
 abbrev pub step_made : StepKind → ℕ → ℕ → ℕ → ℕ → Made
@@ -47,9 +56,10 @@ load_made kind word found = step_made kind word 0 0 found
 abbrev pub store_made : StepKind → ℕ → ℕ → Made
 store_made kind word new = step_made kind word new 0 new
 
--- the one step m was made with the pass, and changed what is known of its caller by f
+-- the one step m was made with the pass, and changed what is known of its caller by f. What the pass has at run time has yet to follow
 pub record Steps (table : Table) (old new : Pass) (m : Made) (f : Caller → Caller) : Type 0 where
   pub sits : IsSeated table new
+  pub lawful : Lawful (caller table new)
   pub same : new ≡ record old { seat = new.seat }
   pub id : new.seat.id ≡ old.seat.id
   pub part : caller table new ≡ makes m (f (caller table old))
@@ -60,6 +70,13 @@ pub record Stepped (table : Table) (old new : Pass) (m : Made) (f : Caller → C
   pub same : new ≡ record old { seat = new.seat }
   pub id : new.seat.id ≡ old.seat.id
   pub part : caller table new ≡ makes m (f (caller table old))
+
+-- the one step m was made with the pass, and what is known of its caller changed as R says
+pub record Turned (table : Table) (old new : Pass) (m : Made) (R : Caller → Caller → Type 0) : Type 0 where
+  pub is : IsPassOf table new
+  pub same : new ≡ record old { seat = new.seat }
+  pub id : new.seat.id ≡ old.seat.id
+  pub after : (q : Caller) × R (caller table old) q × (caller table new ≡ makes m q)
 
 -- one more exchange, up to the type's end
 abbrev pub counted : ℕ → ℕ
@@ -73,17 +90,22 @@ pub record Exchanged (table : Table) (old new : Pass) (m : Made) (f : Caller →
   pub id : new.seat.id ≡ old.seat.id
   pub part : caller table new ≡ makes m (f (caller table old))
 
--- who the caller is stays, and what its pass has at run time
-pub record IsAside (f : ℕ → Caller → Caller) : Type 0 where
-  pub number : (r : ℕ) (p : Caller) → (f r p).number ≡ p.number
-  pub start : (r : ℕ) (p : Caller) → (f r p).start ≡ p.start
-  pub hand : (r : ℕ) (p : Caller) → (f r p).hand ≡ p.hand
-  pub debts : (r : ℕ) (p : Caller) → (f r p).debts ≡ p.debts
+-- the one exchange m was made with the pass, and is counted. What else the pass has at run time has yet to follow
+pub record Exchanges (table : Table) (old new : Pass) (m : Made) (f : Caller → Caller) : Type 0 where
+  pub sits : IsSeated table new
+  pub lawful : Lawful (caller table new)
+  pub same : new ≡ record old { seat = new.seat; turns = new.turns }
+  pub turns : new.turns ≡ counted old.turns
+  pub id : new.seat.id ≡ old.seat.id
+  pub part : caller table new ≡ makes m (f (caller table old))
 
--- a fact of the first part of a view
-abbrev pub told_first : (Caller → Type 0) → List Caller → Type 0
-told_first P [] = Unit {0}
-told_first P (p ∷ ps) = P p
+-- what the pass has at run time still agrees: the rows in hand stay, and so do the debts, or the dead row to cut isn't owed any more
+pub record StaysAside (p q : Caller) : Type 0 where
+  pub hand : q.hand ≡ p.hand
+  pub debts : (q.debts ≡ p.debts) ⊎ (q.debts ≡ record p.debts { cut = None })
+
+abbrev pub IsAside : (ℕ → Caller → Caller) → Type 0
+IsAside f = (r : ℕ) (p : Caller) → StaysAside p (f r p)
 
 -- the word of an announcement
 abbrev pub announcement_word : Option ℕ → ℕ

@@ -1,5 +1,5 @@
 -- Recovering rows: what it knows between two steps, and what each step tells.
-use Rattle.std.specs.Prelude.{◌≡◌, ◌⊎◌, ℕ, ◌+◌, ◌*◌, ◌<◌, List, [], ◌∷◌, ◌++◌}
+use Rattle.std.specs.Prelude.{◌≡◌, ◌⊎◌, ℕ, ◌+◌, ◌-◌, ◌*◌, ◌<◌, ◌≤◌, Bool, false, List, [], ◌∷◌, ◌++◌, length, None}
 use Rattle.crq_base.specs.declared.kinds.StepKind.TheVariants.{Look, Claim}
 use Rattle.crq_rule.specs.declared.layout.Layout.{Layout}
 use Rattle.crq_rule.specs.declared.view.Made.{Made}
@@ -15,8 +15,9 @@ use Rattle.crq_rows.specs.declared.recover.RecoverOp.{RecoverOp}
 use Rattle.crq_rows.specs.declared.recover.RecoverOp.TheVariants.{Ticking, Visiting, Taking}
 use Rattle.crq_rows.specs.declared.recover.Recover.{Recover}
 use Rattle.crq_rows.specs.declared.recover.Recover.TheVariants.{More, Ready, Held, Rows}
-use Rattle.crq_rows.specs.Passes.{caller, counted, IsPassOf}
-use Rattle.crq_rows.specs.Ticking.{IsTicking, TickMakes, HasLoaded, IsHeldBy, FindsEpoch}
+use Rattle.crq_rows.specs.Passes.{caller, IsPassOf}
+use Rattle.crq_rows.specs.Known.{is_exchange, Expects, turns_after}
+use Rattle.crq_rows.specs.Ticking.{IsTicking, TickMakes, tick_exchanges, tick_left, KnowsEpoch, HasLoaded, IsHeldBy, FindsEpoch}
 use Rattle.crq_rows.specs.Owning.{NoneRipe}
 
 -- since a step that found or made the epoch e, the caller looked at its home rows before `next`, in order, and found none ripe under it
@@ -40,6 +41,24 @@ abbrev pub RecoverMakes : Layout → RecoverOp → Made → Type 0
 RecoverMakes l (Ticking n tick) m = TickMakes l tick m
 RecoverMakes l (Visiting e row) m = (m.kind ≡ Look) × (m.word ≡ index l (stamp row))
 RecoverMakes l (Taking e row) m = (m.kind ≡ Claim) × (m.word ≡ index l (stamp row))
+
+-- whether the step that it makes is an exchange
+abbrev pub recover_exchanges : Layout → RecoverOp → Bool
+recover_exchanges l (Ticking n tick) = tick_exchanges l tick
+recover_exchanges l (Visiting e row) = false
+recover_exchanges l (Taking e row) = false
+
+-- no more steps than these answer `More` yet
+abbrev pub recover_left : Layout → RecoverOp → ℕ
+recover_left l (Ticking n tick) = (3 - n) * (l.workers + 3) + tick_left l tick + (2 * l.all + 2)
+recover_left l (Visiting e row) = 2 * (l.all - row) + 1
+recover_left l (Taking e row) = 2 * (l.all - row)
+
+-- what the steps since the first n made known
+abbrev pub RecoverKnows : ℕ → Layout → RecoverOp → Caller → Type 0
+RecoverKnows n l (Ticking k tick) p = KnowsEpoch n l tick p
+RecoverKnows n l (Visiting e row) p = n ≤ length p.made
+RecoverKnows n l (Taking e row) p = n ≤ length p.made
 
 -- the tick moved to the epoch g: that is one tick more, and after the third one the home rows are looked at
 abbrev pub MovesOn : Layout → ℕ → TickOp → RecoverOp → Made → Caller → Caller → Type 0
@@ -73,18 +92,23 @@ pub record RecoverFacts (l : Layout) (op op' : RecoverOp) (p q : Caller) (result
   pub makes : RecoverMakes l op made
   pub stays : q ≡ record p { made = q.made; epochs = q.epochs; tick = q.tick; cut = q.cut; hand = q.hand; ripening = q.ripening }
   pub grows : (e : ℕ) → In e p.epochs → In e q.epochs
+  pub uncut : p.cut ≡ None → q.cut ≡ None
   pub next : RecoverNext l op op' made p q result
   pub answer : RecoverAnswer l op' q result
+  pub exchanges : is_exchange made.kind ≡ recover_exchanges l op
+  pub expects : (n : ℕ) → RecoverKnows n l op p → Expects n p.made made
+  pub knows : (n : ℕ) → RecoverKnows n l op p → RecoverKnows n l op' q
+  pub shrinks : result ≡ More → recover_left l op' < recover_left l op
 
 pub record RecoverStepped (table : Table) (op op' : RecoverOp) (old new : Pass) (result : Recover) : Type 0 where
   pub is : IsPassOf table new
   pub same : new ≡ record old { seat = new.seat; free = new.free; turns = new.turns }
-  pub turns : (new.turns ≡ old.turns) ⊎ (new.turns ≡ counted old.turns)
   pub facts : RecoverFacts table.start.layout op op' (caller table old) (caller table new) result
+  pub turns : new.turns ≡ turns_after (is_exchange facts.made.kind) old.turns
 
--- what follows once the row was looked at: the next one, or an answer after the last one
+-- what follows once the row was looked at: the next one, or after the last one an answer, and it begins anew
 abbrev pub IsAfterRow : Layout → ℕ → ℕ → Caller → RecoverOp → Recover → Type 0
 IsAfterRow l e row q op' More = (row < q.number * l.home + l.home) × (op' ≡ Visiting e (row + 1)) × IsRecovering l op' q
 IsAfterRow l e row q op' (Held h) = ⊥
-IsAfterRow l e row q op' Ready = (row ≡ q.number * l.home + l.home) × RecoverAnswer l op' q Ready
-IsAfterRow l e row q op' Rows = (row ≡ q.number * l.home + l.home) × RecoverAnswer l op' q Rows
+IsAfterRow l e row q op' Ready = (row ≡ q.number * l.home + l.home) × (op' ≡ Ticking 0 Load) × RecoverAnswer l op' q Ready
+IsAfterRow l e row q op' Rows = (row ≡ q.number * l.home + l.home) × (op' ≡ Ticking 0 Load) × RecoverAnswer l op' q Rows

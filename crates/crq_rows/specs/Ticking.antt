@@ -1,5 +1,5 @@
 -- An attempt to raise the epoch: what it knows between two steps, and what each step tells.
-use Rattle.std.specs.Prelude.{◌≡◌, ◌≢◌, ◌⊎◌, ℕ, ◌+◌, ◌<◌, ◌≤◌, ◌^◌, List, [], ◌∷◌, ◌++◌}
+use Rattle.std.specs.Prelude.{◌≡◌, ◌≢◌, ◌⊎◌, ℕ, ◌+◌, ◌-◌, ◌<◌, ◌≤◌, ◌^◌, ◌==◌, Bool, false, List, [], ◌∷◌, ◌++◌, length, drop, Some, None}
 use Rattle.crq_base.specs.declared.kinds.StepKind.TheVariants.{EpochLoad, Scan, Tick}
 use Rattle.crq_base.specs.declared.holder.Holder.{Holder}
 use Rattle.crq_base.specs.declared.holder.Holder.TheVariants.{Seat, Last}
@@ -16,7 +16,8 @@ use Rattle.crq_rows.specs.declared.tick.TickOp.{TickOp}
 use Rattle.crq_rows.specs.declared.tick.TickOp.TheVariants.{Load, Scanning, Passed}
 use Rattle.crq_rows.specs.declared.tick.Tick.{Tick as Reply}
 use Rattle.crq_rows.specs.declared.tick.Tick.TheVariants.{More, Moved, Held}
-use Rattle.crq_rows.specs.Passes.{caller, counted, IsPassOf}
+use Rattle.crq_rows.specs.Passes.{caller, IsPassOf}
+use Rattle.crq_rows.specs.Known.{is_exchange, last_known, Expects, turns_after}
 
 -- the callers below n but the own one, j, were found out or at the epoch e
 abbrev pub HasScannedTo : ℕ → ℕ → ℕ → List (ℕ × ℕ) → Type 0
@@ -33,6 +34,24 @@ abbrev pub TickMakes : Layout → TickOp → Made → Type 0
 TickMakes l Load m = (m.kind ≡ EpochLoad) × (m.word ≡ index l epoch)
 TickMakes l (Scanning e next) m = ((next < l.workers) × (m.kind ≡ Scan) × (m.word ≡ index l (announced next))) ⊎ ((next ≡ l.workers) × (m.kind ≡ Tick) × (m.word ≡ index l epoch) × (m.first ≡ e) × (m.second ≡ e + 1))
 TickMakes l (Passed e) m = (m.kind ≡ EpochLoad) × (m.word ≡ index l epoch)
+
+-- whether the step that it makes is an exchange
+abbrev pub tick_exchanges : Layout → TickOp → Bool
+tick_exchanges l Load = false
+tick_exchanges l (Scanning e next) = next == l.workers
+tick_exchanges l (Passed e) = false
+
+-- no more steps than these answer `More` yet
+abbrev pub tick_left : Layout → TickOp → ℕ
+tick_left l Load = l.workers + 2
+tick_left l (Scanning e next) = (l.workers - next) + 1
+tick_left l (Passed e) = 0
+
+-- what the steps since the first n made known: the epoch that was loaded is the one last known
+abbrev pub KnowsEpoch : ℕ → Layout → TickOp → Caller → Type 0
+KnowsEpoch n l Load p = n ≤ length p.made
+KnowsEpoch n l (Scanning e next) p = (n ≤ length p.made) × (last_known (drop n p.made) (index l epoch) ≡ Some e)
+KnowsEpoch n l (Passed e) p = n ≤ length p.made
 
 -- the epoch that it loaded first
 abbrev pub HasLoaded : TickOp → ℕ → Type 0
@@ -62,10 +81,15 @@ pub record TickFacts (l : Layout) (op op' : TickOp) (p q : Caller) (result : Rep
   pub makes : TickMakes l op made
   pub stays : q ≡ record p { made = q.made; epochs = q.epochs; tick = q.tick; cut = q.cut }
   pub grows : (e : ℕ) → In e p.epochs → In e q.epochs
+  pub uncut : p.cut ≡ None → q.cut ≡ None
   pub answer : TickAnswer op op' l made p q result
+  pub exchanges : is_exchange made.kind ≡ tick_exchanges l op
+  pub expects : (n : ℕ) → KnowsEpoch n l op p → Expects n p.made made
+  pub knows : (n : ℕ) → KnowsEpoch n l op p → KnowsEpoch n l op' q
+  pub shrinks : result ≡ More → tick_left l op' < tick_left l op
 
 pub record TickStepped (table : Table) (op op' : TickOp) (old new : Pass) (result : Reply) : Type 0 where
   pub is : IsPassOf table new
   pub same : new ≡ record old { seat = new.seat; turns = new.turns }
-  pub turns : (new.turns ≡ old.turns) ⊎ (new.turns ≡ counted old.turns)
   pub facts : TickFacts table.start.layout op op' (caller table old) (caller table new) result
+  pub turns : new.turns ≡ turns_after (is_exchange facts.made.kind) old.turns

@@ -5,9 +5,8 @@ ghost use Rattle.crq_base.specs.declared.kinds.StepKind.{StepKind};
 ghost use Rattle.crq_base.specs.declared.kinds.StepKind.TheVariants.{EpochLoad};
 ghost use Rattle.crq_rule.specs.declared.layout.Start.{Start};
 ghost use Rattle.crq_rule.specs.declared.view.Caller.{Caller};
-ghost use Rattle.crq_rule.specs.Kinds.{alters, makes};
-ghost use Rattle.crq_rule.specs.Rule.{Moves, quiet};
-ghost use Rattle.crq_rows.specs.Passes.{caller, told_first, IsAside, IsPassOf, IsSeated, Steps, Stepped, Exchanged, load_made, store_made, step_made};
+ghost use Rattle.crq_rule.specs.Rule.{Moves, MovesBy, By, FirstTurns, quiet};
+ghost use Rattle.crq_rows.specs.Passes.{caller, StaysAside, IsAside, IsPassOf, IsSeated, Steps, Stepped, Turned, Exchanged, Exchanges, load_made, store_made, step_made};
 
 use atomic_table::Play;
 use crq_rule::{Pass, Table, View};
@@ -36,7 +35,30 @@ pub struct Does<F: Change> {
 }
 
 impl<F: Change> Play<(), View> for Does<F> {
-    ghost then = { λ st m r n. (n ≡ (alters (λ p. makes (step_made F.kind st.word st.first st.second r) (F.change r p)) m.0, m.1)) × told_first (F.tells r) m.0.parts };
+    ghost then = { λ st m r n. FirstTurns (By F.change F.tells r) (step_made F.kind st.word st.first st.second r) m.0.parts n.0 × (n.1 ≡ m.1) };
+}
+
+/// A kind of step after which what is known of its caller is in a relation to what it was. It is of the word found, or
+/// stored.
+pub trait Turn {
+    ghost kind: { StepKind };
+
+    ghost turns: { ℕ → Caller → Caller → Type 0 };
+}
+
+impl Turn for Brand {
+    ghost kind = { EpochLoad };
+
+    ghost turns = { λ r p q. Unit {0} };
+}
+
+/// The step of such a kind, as `atomic_table` takes it.
+pub struct TurnsBy<F: Turn> {
+    of: PhantomData<F>,
+}
+
+impl<F: Turn> Play<(), View> for TurnsBy<F> {
+    ghost then = { λ st m r n. FirstTurns (F.turns r) (step_made F.kind st.word st.first st.second r) m.0.parts n.0 × (n.1 ≡ m.1) };
 }
 
 /// Loads a word. What is said is for the proof alone.
@@ -49,6 +71,17 @@ pub fn load_as<F: Change, T>(table: &Table, pass: &mut Pass, word: usize, _said:
     ensures told { F.tells result (caller table.now pass.old) }
 {
     table.inner.shared.load::<Does<F>>(&mut pass.seat, word)
+}
+
+/// Loads a word by a kind of step that tells more than the word found. What is said is for the proof alone.
+pub fn load_turning<F: Turn, T>(table: &Table, pass: &mut Pass, word: usize, _said: &T) -> u64
+    requires of { IsPassOf table.now pass.old }
+    requires word { word < table.now.inner.shared.table_id.words }
+    requires aside { (r : ℕ) (p q : Caller) → F.turns r p q → StaysAside p q }
+    requires moves { MovesBy F.kind table.now.start (caller table.now pass.old) word (λ n. n) F.turns }
+    ensures { Turned table.now pass.old pass.new (load_made F.kind word result) (F.turns result) }
+{
+    table.inner.shared.load::<TurnsBy<F>>(&mut pass.seat, word)
 }
 
 /// Stores a word.
@@ -70,8 +103,6 @@ pub fn store_as<F: Change, T>(table: &Table, pass: &mut Pass, word: usize, new: 
 pub fn store_seated<F: Change, T>(table: &Table, pass: &mut Pass, word: usize, new: u64, _said: &T)
     requires of { IsSeated table.now pass.old }
     requires word { word < table.now.inner.shared.table_id.words }
-    requires number { (r : ℕ) (p : Caller) → (F.change r p).number ≡ p.number }
-    requires start { (r : ℕ) (p : Caller) → (F.change r p).start ≡ p.start }
     requires moves { Moves F.kind table.now.start (caller table.now pass.old) word (λ _. new) (λ _. F.change new) (λ _. F.tells new) }
     ensures steps { Steps table.now pass.old pass.new (store_made F.kind word new) (F.change new) }
     ensures told { F.tells new (caller table.now pass.old) }
@@ -96,6 +127,28 @@ pub fn exchange_as<F: Change, T>(
     requires aside { IsAside F.change }
     requires moves { Moves F.kind table.now.start (caller table.now pass.old) word (λ n. either (n == old) new n) F.change F.tells }
     ensures exchanged { Exchanged table.now pass.old pass.new (step_made F.kind word old new result) (F.change result) }
+    ensures told { F.tells result (caller table.now pass.old) }
+{
+    pass.turns = pass.turns.saturating_add(1);
+    table
+        .inner
+        .shared
+        .compare_exchange::<Does<F>>(&mut pass.seat, word, old, new)
+}
+
+/// Exchanges a word as `exchange_as` does, where what the pass has at run time has yet to follow.
+pub fn exchange_seated<F: Change, T>(
+    table: &Table,
+    pass: &mut Pass,
+    word: usize,
+    old: u64,
+    new: u64,
+    _said: &T,
+) -> u64
+    requires of { IsSeated table.now pass.old }
+    requires word { word < table.now.inner.shared.table_id.words }
+    requires moves { Moves F.kind table.now.start (caller table.now pass.old) word (λ n. either (n == old) new n) F.change F.tells }
+    ensures exchanges { Exchanges table.now pass.old pass.new (step_made F.kind word old new result) (F.change result) }
     ensures told { F.tells result (caller table.now pass.old) }
 {
     pass.turns = pass.turns.saturating_add(1);

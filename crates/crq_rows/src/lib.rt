@@ -7,6 +7,7 @@
 #![tactic(auto)]
 
 mod dealing;
+mod gathering;
 mod kinds;
 mod own;
 mod places;
@@ -19,12 +20,16 @@ mod tick;
 pub use crq_base::{Holder, Stamp};
 pub use crq_rule::{Owes, Pass, Seating, Table};
 pub use dealing::passes;
-pub use kinds::{Change, Does, exchange_as, load_as, store_as, store_seated};
+pub use gathering::{gather_step, span_step};
+pub use kinds::{
+    Change, Does, Turn, TurnsBy, exchange_as, exchange_seated, load_as, load_turning, store_as,
+    store_seated,
+};
 pub use own::{Own, OwnOp};
 pub use places::Passes;
 pub use recover::{Recover, RecoverOp};
 pub use steps::{
-    claim_step, confirm_step, enter_step, epoch_step, leave_step, look_step, retire_step,
-    scan_step, tick_step,
+    claim_step, confirm_step, enter_step, epoch_step, leave_step, look_step, read_step,
+    retire_step, scan_step, tick_step, write_step,
 };
 pub use tick::{Tick, TickOp};

@@ -5,7 +5,7 @@ ghost use Rattle.crq_rule.specs.declared.pass.Rest.{Rest};
 ghost use Rattle.crq_rule.specs.declared.pass.Seating.TheVariants.{Here, Resting, Lifted};
 
 use atomic_table::Seat;
-use crq_rule::{Pass, Seating, View};
+use crq_rule::{Pass, Rest, Seating, View};
 use std::mem;
 
 /// The passes of all callers, each in the place of its number, or lifted.
@@ -38,8 +38,24 @@ impl Passes {
         self.places[number as usize] = Seating::Here(pass);
     }
 
+    /// Takes the seat of a pass, and lets its caller rest.
+    pub fn rest(&mut self, number: u32) -> Seat<(), View>
+        requires { (pass : Pass) × (slice_get self.old.places.items number ≡ Some (Here pass)) }
+        ensures { (pass : Pass) × (slice_get self.old.places.items number ≡ Some (Here pass)) × (result ≡ pass.seat) × (self.new.places.items ≡ slice_set self.old.places.items number (Resting (record { free = pass.free; debts = pass.debts }))) }
+    {
+        let Pass {
+            seat,
+            number: _,
+            free,
+            debts,
+            turns: _,
+        } = self.lift(number);
+        self.places[number as usize] = Seating::Resting(Rest { free, debts });
+        seat
+    }
+
     /// Makes the pass of a caller that rests.
-    pub(crate) fn wake(&mut self, number: u32, seat: Seat<(), View>)
+    pub fn wake(&mut self, number: u32, seat: Seat<(), View>)
         requires { (rest : Rest) × (slice_get self.old.places.items number ≡ Some (Resting rest)) }
         ensures { (rest : Rest) × (slice_get self.old.places.items number ≡ Some (Resting rest)) × (self.new.places.items ≡ slice_set self.old.places.items number (Here (record { seat = seat; number = number; free = rest.free; debts = rest.debts; turns = 0 }))) }
     {

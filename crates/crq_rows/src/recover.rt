@@ -7,7 +7,7 @@ ghost use Rattle.crq_rows.specs.Passes.{caller, IsPassOf};
 ghost use Rattle.crq_rows.specs.Ticking.{IsTicking};
 ghost use Rattle.crq_rows.specs.declared.tick.TickOp.TheVariants.{Load};
 ghost use Rattle.crq_rows.specs.declared.recover.RecoverOp.TheVariants.{Ticking, Visiting, Taking};
-ghost use Rattle.crq_rows.specs.Recovering.{IsRecovering, LookedSince, RecoverStepped, IsAfterRow};
+ghost use Rattle.crq_rows.specs.Recovering.{IsRecovering, LookedSince, RecoverStepped, IsAfterRow, recover_exchanges};
 
 use crate::own::look;
 use crate::steps::claim_step;
@@ -109,6 +109,16 @@ impl RecoverOp {
         ensures { result ≡ Ticking 0 Load }
     {
         RecoverOp::Ticking(0, TickOp::Load)
+    }
+
+    /// Whether the next step exchanges a word.
+    pub fn exchanges(&self, table: &Table) -> bool
+        ensures { result ≡ recover_exchanges table.now.start.layout self.now }
+    {
+        match *self {
+            RecoverOp::Ticking(_, tick) => tick.exchanges(table),
+            _ => false,
+        }
     }
 
     /// Makes one atomic step.

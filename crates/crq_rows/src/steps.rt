@@ -1,12 +1,15 @@
 //! One function for each kind of step on guards, epochs and retired rows.
-ghost use Rattle.std.specs.Prelude.{◌≡◌, ◌≢◌, ◌+◌, ◌<◌, ◌^◌, None, IfErr, Option, Result};
-ghost use Rattle.crq_base.specs.declared.kinds.StepKind.TheVariants.{EpochLoad, Enter, Confirm, Leave, Scan, Tick, Retire, Look, Claim};
+ghost use Rattle.std.specs.Prelude.{◌≡◌, ◌≢◌, ◌+◌, ◌<◌, ◌≤◌, ◌^◌, None, IfErr, Option, Result};
+ghost use Rattle.crq_base.specs.declared.kinds.StepKind.TheVariants.{EpochLoad, Enter, Confirm, Leave, Scan, Tick, Retire, Look, Claim, Write, Read};
 ghost use Rattle.crq_base.specs.Words.{stamp_word};
 ghost use Rattle.crq_rule.specs.declared.view.Guard.TheVariants.{Off};
 ghost use Rattle.crq_rule.specs.Lists.{In};
-ghost use Rattle.crq_rule.specs.Places.{index, epoch, announced, stamp, IsRow, IsHomeRow};
+ghost use Rattle.crq_rule.specs.Places.{index, epoch, announced, stamp, IsHomeRow};
 ghost use Rattle.crq_rule.specs.Kinds.{loads_epoch, enters, confirms, leaves, scans, ticks, retires, looks, claims, HasScanned, IsEntering, MayRetire, IsRipe};
+ghost use Rattle.crq_base.specs.declared.event.Event.{Event};
+ghost use Rattle.crq_rule.specs.ListKinds.{Content, IsContent, content_number, content_word, row_place, writes, StandsOn, event_word};
 ghost use Rattle.crq_rule.specs.Rule.{TellsEpoch};
+ghost use Rattle.crq_rows.specs.Reading.{stays};
 ghost use Rattle.crq_rows.specs.Passes.{caller, IsPassOf, Stepped, Exchanged, Claimed, load_made, store_made, step_made, announcement_word, found_by};
 
 use crate::kinds::{exchange_as, load_as, store_as, store_seated};
@@ -88,7 +91,6 @@ pub fn tick_step(table: &Table, pass: &mut Pass, from: u64) -> Result<(), u64>
 /// Retires the row that the pass cut, with a tag that it loaded since.
 pub fn retire_step(table: &Table, pass: &mut Pass, row: u32, tag: u64)
     requires of { IsPassOf table.now pass.old }
-    requires row { IsRow table.now.start.layout row }
     requires cut { MayRetire (caller table.now pass.old).cut row tag }
     ensures { Stepped table.now pass.old pass.new (store_made Retire (index table.now.start.layout (stamp row)) (tag + 1)) retires }
 {
@@ -99,7 +101,6 @@ pub fn retire_step(table: &Table, pass: &mut Pass, row: u32, tag: u64)
 /// Loads the stamp of a home row.
 pub fn look_step(table: &Table, pass: &mut Pass, row: u32) -> Stamp
     requires of { IsPassOf table.now pass.old }
-    requires row { IsRow table.now.start.layout row }
     requires home { IsHomeRow table.now.start.layout pass.old.number row }
     ensures { Stepped table.now pass.old pass.new (load_made Look (index table.now.start.layout (stamp row)) (stamp_word result)) (looks row (stamp_word result)) }
 {
@@ -114,7 +115,6 @@ pub fn look_step(table: &Table, pass: &mut Pass, row: u32) -> Stamp
 /// Takes a home row that was found ripe under an epoch that the pass has read. The row is the last free one then.
 pub fn claim_step(table: &Table, pass: &mut Pass, row: u32, epoch: u64)
     requires of { IsPassOf table.now pass.old }
-    requires row { IsRow table.now.start.layout row }
     requires read { In epoch (caller table.now pass.old).epochs }
     requires ripe { IsRipe (caller table.now pass.old).ripening row epoch }
     ensures { Claimed table.now pass.old pass.new row (store_made Claim (index table.now.start.layout (stamp row)) 0) (claims row) }
@@ -124,4 +124,28 @@ pub fn claim_step(table: &Table, pass: &mut Pass, row: u32, epoch: u64)
     let Ok(()) = pass.free.push_back(row) else {
         unreachable!()
     };
+}
+
+/// Writes one word of a row in hand. The places of a row are 0 for its link, 1 for its twin and 2 to 5 for its event.
+pub fn write_step(table: &Table, pass: &mut Pass, row: u32, place: u32, word: u64)
+    requires of { IsPassOf table.now pass.old }
+    requires held { In row (caller table.now pass.old).hand }
+    requires spelled { (x : Content) × IsContent x × (content_number x ≡ place) × (content_word x ≡ word) }
+    ensures { Stepped table.now pass.old pass.new (store_made Write (index table.now.start.layout (row_place row place)) word) (writes row place word) }
+{
+    let at = table.start.layout.row_word(row, place);
+    store_as::<Brand, (u32, u32)>(table, pass, at, word, &(row, place));
+}
+
+/// Reads one word of the event of a row on which the pass stands: 2 for its time and destination, 3 for its source, 4 for
+/// its number and 5 for its load.
+pub fn read_step(table: &Table, pass: &mut Pass, row: u32, place: u32) -> u64
+    requires of { IsPassOf table.now pass.old }
+    requires stands { (e : Event) × StandsOn (caller table.now pass.old).position.rows row e }
+    requires place { (2 ≤ place) × (place < 6) }
+    ensures stepped { Stepped table.now pass.old pass.new (load_made Read (index table.now.start.layout (row_place row place)) result) stays }
+    ensures word { (e : Event) → StandsOn (caller table.now pass.old).position.rows row e → result ≡ event_word e place }
+{
+    let at = table.start.layout.row_word(row, place);
+    load_as::<Brand, (u32, u32)>(table, pass, at, &(row, place))
 }

@@ -3,7 +3,7 @@ ghost use Rattle.std.specs.Prelude.{◌≡◌, ◌⊎◌, ◌+◌, ◌<◌, ◌�
 ghost use Rattle.crq_rule.specs.declared.view.Guard.TheVariants.{Off};
 ghost use Rattle.crq_rows.specs.Passes.{caller, IsPassOf};
 ghost use Rattle.crq_rows.specs.declared.tick.TickOp.TheVariants.{Load, Scanning, Passed};
-ghost use Rattle.crq_rows.specs.Ticking.{IsTicking, TickStepped};
+ghost use Rattle.crq_rows.specs.Ticking.{IsTicking, TickStepped, tick_exchanges};
 
 use crate::steps::{epoch_step, scan_step, tick_step};
 use crq_base::Holder;
@@ -110,6 +110,16 @@ impl TickOp {
         ensures { result ≡ Load }
     {
         TickOp::Load
+    }
+
+    /// Whether the next step exchanges a word.
+    pub fn exchanges(&self, table: &Table) -> bool
+        ensures { result ≡ tick_exchanges table.now.start.layout self.now }
+    {
+        match *self {
+            TickOp::Scanning(_, next) => next == table.start.layout.workers,
+            _ => false,
+        }
     }
 
     /// Makes one atomic step.

@@ -10,4 +10,4 @@ use Rattle.crq_rows.proofs.steps.leave_step.Goals as goal
 pub store_as-requires-clause-moves : goal.store_as-requires-clause-moves
 store_as-requires-clause-moves c = let table = c.args.table.now in let key = table.start in let p = caller table c.args.pass.now in
     let word = ap (λ j. index key.layout (announced j)) c.requires.of.sits.numbered ∙ sym c.announced-word.ensures in
-    subst (λ w. Moves Leave key p w (λ _. 0) (λ _. leaves) quiet) word (leave_moves key p c.requires.cut (ap (λ d. d.copy) (sym c.requires.of.debts) ∙ c.requires.copy))
+    subst (λ w. Moves Leave key p w (λ _. 0) (λ _. leaves) quiet) word (leave_moves key p c.requires.cut (c.requires.of.debts.copy ∙ c.requires.copy))

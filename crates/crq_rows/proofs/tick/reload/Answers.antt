@@ -5,9 +5,9 @@ use Rattle.crq_base.specs.declared.kinds.StepKind.TheVariants.{EpochLoad}
 use Rattle.crq_rows.specs.declared.tick.TickOp.TheVariants.{Load, Passed}
 use Rattle.crq_rows.specs.declared.tick.Tick.TheVariants.{Moved}
 use Rattle.crq_rows.specs.Passes.{caller, load_made}
-use Rattle.crq_rows.proofs.Ticks.{tick_stepped, load_facts, moved_past}
+use Rattle.crq_rows.proofs.Ticks.{tick_stepped, moved_past}
 use Rattle.crq_rows.proofs.tick.reload.Goals as goal
 
 pub returns : goal.returns
 returns c = let t = c.args.table.now in let l = t.start.layout in let p = caller t c.args.pass.now in let e = c.args._epoch in let r = c.epoch_step-found.result in let s = c.epoch_step-found.ensures in
-    tick_stepped t (Passed e) Load c.args.pass.now _ (load_made EpochLoad (index l epoch) r) (loads_epoch r) (Moved r) s.stepped (load_facts l p r (Passed e) Load (Moved r) (refl, refl) (moved_past l p r e c.requires.op s.told))
+    tick_stepped t (Passed e) Load c.args.pass.now _ (Moved r) (load_made EpochLoad (index l epoch) r) (loads_epoch r) s.stepped refl (moved_past l p r e c.requires.op s.told)
