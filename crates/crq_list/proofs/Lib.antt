@@ -1,0 +1,5 @@
+pub mod StepLaws
+pub mod InsertLaws
+pub mod TakeLaws
+pub mod SeekLaws
+pub mod SeekSteps

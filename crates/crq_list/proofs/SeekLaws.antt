@@ -1,0 +1,201 @@
+-- What is known of words, stands and ranks on a walk along a list.
+use Rattle.std.proofs.Common.{◌≡◌, ◌≢◌, ⊎_elim, inl, inr, ℕ, zero, suc, ◌+◌, ◌^◌, ◌<◌, ◌≤◌, ◌&&◌, ◌||◌, eqb, ltb, leb, cond, Bool, true, false, List, [], ◌∷◌, ◌++◌, Option, Some, None, sym, refl, ap, ◌∙◌, subst, arith, eq-eqb, ne_eqb}
+use Rattle.std.proofs.lemmas.Bool.{cond_both, eqb-true, le-leb}
+use Rattle.std.proofs.lemmas.Bool.Decides.{nat_tests}
+use mathlib.Core.Logic.{dite}
+use native.Mathlib.Decide.{ℕ_discrete}
+use Rattle.crq_base.specs.declared.event.Event.{Event}
+use Rattle.crq_base.specs.declared.words.Link.{Link}
+use Rattle.crq_base.specs.declared.words.Mark.{Mark}
+use Rattle.crq_base.specs.declared.words.Mark.TheVariants.{Val, Del}
+use Rattle.crq_base.specs.declared.words.Control.{Control}
+use Rattle.crq_rule.specs.declared.debts.CutDebt.{CutDebt}
+use Rattle.crq_rule.specs.declared.layout.Layout.{Layout}
+use Rattle.crq_rule.specs.declared.view.Stand.{Stand}
+use Rattle.crq_rule.specs.Lists.{In}
+use Rattle.crq_rule.specs.Places.{index, IsHead, link}
+use Rattle.crq_rule.specs.Parts.{IsEvent}
+use Rattle.crq_rule.specs.Ranks.{rank, head_of, Cell, at_head, at_row, cell_place}
+use Rattle.crq_rule.specs.ListKinds.{StandsOn, is_val, is_final, is_beyond, relieved, next_stand, only_row, ended, kept_stands, stands_after, without_stand, event_word, row_place}
+use Rattle.crq_list.specs.Spots.{rank_at}
+use Rattle.crq_list.specs.Seeking.{HasRead, key_part, part_of}
+
+-- Ranks
+
+pub rank_some : (e : Event) (r : ℕ) → 0 < r → 0 < rank e r
+unfolding rank
+rank_some e r some = omega arith
+
+pub rank_limit : (e : Event) (r : ℕ) → IsEvent e → r < 2 ^ 24 → rank e r < 2 ^ 160
+unfolding rank
+rank_limit e r fits low = let t = fits.time in let s = fits.src in let q = fits.seq in omega arith
+
+pub rank_at_is : (ss : List Stand) (r : ℕ) (f : Event) → ((g : Event) → StandsOn ss r g → g ≡ f) → StandsOn ss r f → rank_at ss r ≡ rank f r
+rank_at_is [] r f one on = absurd on.1
+rank_at_is (s ∷ ss) r f one on = dite (ℕ_discrete s.row r)
+    (λ e. ap (λ b. cond b (rank s.event r) (rank_at ss r)) (eq-eqb s.row r e) ∙ ap (λ g. rank g r) (one s.event (s, inl refl, e, refl)))
+    (λ ne. ap (λ b. cond b (rank s.event r) (rank_at ss r)) (ne_eqb s.row r ne)
+    ∙ rank_at_is ss r f (λ g h. one g (h.0, inr h.1, h.2, h.3)) (on.0, ⊎_elim (λ (e : on.0 ≡ s). absurd (ne (ap (λ (z : Stand). z.row) (sym e) ∙ on.2))) (λ i. i) on.1, on.2, on.3))
+
+-- Stands
+
+pub join_right : (xs ys : List Stand) (r : ℕ) (f : Event) → StandsOn ys r f → StandsOn (xs ++ ys) r f
+join_right [] ys r f on = on
+join_right (x ∷ xs) ys r f on = let t = join_right xs ys r f on in (t.0, inr t.1, t.2, t.3)
+
+join_left : (xs ys : List Stand) (r : ℕ) (f : Event) → StandsOn xs r f → StandsOn (xs ++ ys) r f
+join_left [] ys r f on = absurd on.1
+join_left (x ∷ xs) ys r f on = ⊎_elim (λ (e : on.0 ≡ x). (on.0, inl e, on.2, on.3)) (λ i. let t = join_left xs ys r f (on.0, i, on.2, on.3) in (t.0, inr t.1, t.2, t.3)) on.1
+
+only_stands : (r : ℕ) (ss : List Stand) (f : Event) → StandsOn ss r f → StandsOn (only_row r ss) r f
+only_stands r [] f on = absurd on.1
+only_stands r (s ∷ ss) f on = ⊎_elim
+    (λ (e : on.0 ≡ s). subst (λ b. StandsOn (cond b (s ∷ only_row r ss) (only_row r ss)) r f) (sym (eq-eqb s.row r (ap (λ (z : Stand). z.row) (sym e) ∙ on.2))) (on.0, inl e, on.2, on.3))
+    (λ i. let t = only_stands r ss f (on.0, i, on.2, on.3) in cond_both (eqb s.row r) (s ∷ only_row r ss) (only_row r ss) (λ xs. StandsOn xs r f) (λ _. (t.0, inr t.1, t.2, t.3)) (λ _. t)) on.1
+
+ended_stands : (r : ℕ) (l : Link) (ss : List Stand) (s : ℕ) (f : Event) → StandsOn ss s f → StandsOn (ended r l ss) s f
+ended_stands r l [] s f on = absurd on.1
+ended_stands r l (t ∷ ts) s f on = ⊎_elim
+    (λ (e : on.0 ≡ t). cond_both (eqb t.row r) (record t { last = Some l }) t (λ z. StandsOn (z ∷ ended r l ts) s f)
+    (λ _. (record t { last = Some l }, inl refl, ap (λ (z : Stand). z.row) (sym e) ∙ on.2, ap (λ (z : Stand). z.event) (sym e) ∙ on.3)) (λ _. (on.0, inl e, on.2, on.3)))
+    (λ i. let k = ended_stands r l ts s f (on.0, i, on.2, on.3) in (k.0, inr k.1, k.2, k.3)) on.1
+
+-- the last link of a row on which a caller stands, where it was found
+ended_last : (r : ℕ) (l : Link) (ss : List Stand) (f : Event) → StandsOn ss r f → (t : Stand) × In t (ended r l ss) × (t.row ≡ r) × (t.last ≡ Some l)
+ended_last r l [] f on = absurd on.1
+ended_last r l (t ∷ ts) f on = ⊎_elim
+    (λ (e : on.0 ≡ t). let row = ap (λ (z : Stand). z.row) (sym e) ∙ on.2 in
+    (record t { last = Some l }, inl (ap (λ b. cond b (record t { last = Some l }) t) (sym (eq-eqb t.row r row))), row, refl))
+    (λ i. let k = ended_last r l ts f (on.0, i, on.2, on.3) in (k.0, inr k.1, k.2, k.3)) on.1
+
+pub without_stands : (r : ℕ) (ss : List Stand) (s : ℕ) (f : Event) → s ≢ r → StandsOn ss s f → StandsOn (without_stand r ss) s f
+without_stands r [] s f ne on = absurd on.1
+without_stands r (t ∷ ts) s f ne on = ⊎_elim
+    (λ (e : on.0 ≡ t). subst (λ b. StandsOn (cond b (without_stand r ts) (t ∷ without_stand r ts)) s f) (sym (ne_eqb t.row r (λ is. ne (sym on.2 ∙ (ap (λ (z : Stand). z.row) e ∙ is))))) (on.0, inl e, on.2, on.3))
+    (λ i. let k = without_stands r ts s f ne (on.0, i, on.2, on.3) in cond_both (eqb t.row r) (without_stand r ts) (t ∷ without_stand r ts) (λ xs. StandsOn xs s f) (λ _. k) (λ _. (k.0, inr k.1, k.2, k.3))) on.1
+
+next_on : (l : Link) (e : Event) → 0 < l.row → StandsOn (next_stand l e) l.row e
+next_on l e some = cond_both (eqb l.row 0) [] (record { row = l.row; event = e; last = None } ∷ []) (λ xs. StandsOn xs l.row e)
+    (λ yes. let z = eqb-true l.row 0 yes in absurd (omega arith)) (λ _. (record { row = l.row; event = e; last = None }, inl refl, refl, refl))
+
+-- after a walk its caller stands on the row that the link names
+pub walk_next : (cell : Cell) (seeks : Bool) (l : Link) (e : Event) (ss : List Stand) → 0 < l.row → StandsOn (stands_after cell seeks l e ss) l.row e
+walk_next (at_head q) seeks l e ss some = next_on l e some
+walk_next (at_row r) seeks l e ss some = join_left (next_stand l e) (cond (is_final l.mark) (ended r l (kept_stands seeks r l ss)) (kept_stands seeks r l ss)) l.row e (next_on l e some)
+
+-- and on the row that it walked from
+pub walk_here : (r : ℕ) (seeks : Bool) (l : Link) (e : Event) (ss : List Stand) (f : Event) → StandsOn ss r f → StandsOn (stands_after (at_row r) seeks l e ss) r f
+walk_here r seeks l e ss f on = let kept = cond_both (seeks || is_val l.mark) (only_row r ss) ss (λ xs. StandsOn xs r f) (λ _. only_stands r ss f on) (λ _. on) in
+    join_right (next_stand l e) (cond (is_final l.mark) (ended r l (kept_stands seeks r l ss)) (kept_stands seeks r l ss)) r f
+    (cond_both (is_final l.mark) (ended r l (kept_stands seeks r l ss)) (kept_stands seeks r l ss) (λ xs. StandsOn xs r f) (λ _. ended_stands r l (kept_stands seeks r l ss) r f kept) (λ _. kept))
+
+dead_stands : (r : ℕ) (l : Link) (e : Event) (ss : List Stand) → l.mark ≡ Del → stands_after (at_row r) false l e ss ≡ next_stand l e ++ ended r l ss
+dead_stands r l e ss dead = ap (λ (m : Mark). next_stand l e ++ cond (is_final m) (ended r l (cond (false || is_val m) (only_row r ss) ss)) (cond (false || is_val m) (only_row r ss) ss)) dead
+
+-- where the row is dead all stands are kept
+pub dead_kept : (r : ℕ) (l : Link) (e : Event) (ss : List Stand) (s : ℕ) (f : Event) → l.mark ≡ Del → StandsOn ss s f → StandsOn (stands_after (at_row r) false l e ss) s f
+dead_kept r l e ss s f dead on = subst (λ xs. StandsOn xs s f) (sym (dead_stands r l e ss dead)) (join_right (next_stand l e) (ended r l ss) s f (ended_stands r l ss s f on))
+
+-- and its last link is known
+pub dead_last : (r : ℕ) (l : Link) (e : Event) (ss : List Stand) (f : Event) → l.mark ≡ Del → StandsOn ss r f
+    → (t : Stand) × In t (stands_after (at_row r) false l e ss) × (t.row ≡ r) × (t.last ≡ Some l)
+dead_last r l e ss f dead on = let t = ended_last r l ss f on in (t.0, subst (In t.0) (sym (dead_stands r l e ss dead)) (later (next_stand l e) (ended r l ss) t.0 t.1), t.2, t.3)
+  where
+    later : (xs ys : List Stand) (t : Stand) → In t ys → In t (xs ++ ys)
+    later [] ys t i = i
+    later (x ∷ xs) ys t i = inr (later xs ys t i)
+
+-- The dead row that is owed
+
+some_one : (a d : CutDebt) → Some a ≡ Some d → a ≡ d
+some_one a d is = cc
+
+none_some : (d : CutDebt) → ◌≡◌ {A = Option CutDebt} None (Some d) → ⊥
+none_some d is = cc
+
+not_past : (r a b : ℕ) → (eqb r 0 || ltb a b) ≡ false → (0 < r) × (b ≤ a)
+not_past r a b h = (grind (arith, nat_tests), grind (arith, nat_tests))
+
+-- a walk that found its cell present leaves the dead row owed only where it isn't past it
+pub still_ahead : (x : Option Control) (cell : Cell) (ss : List Stand) (l : Link) (e : Event) (o : Option CutDebt) (d : CutDebt) → l.mark ≡ Val → is_beyond x cell ss d ≡ true
+    → relieved x cell ss l e o ≡ Some d → (0 < l.row) × (rank e l.row ≤ rank d.event d.row)
+still_ahead x cell ss l e None d present beyond is = absurd (none_some d is)
+still_ahead x cell ss l e (Some a) d present beyond is = go (is_val l.mark && (is_beyond x cell ss a && (eqb l.row 0 || ltb (rank a.event a.row) (rank e l.row)))) refl is
+  where
+    go : (b : Bool) → (is_val l.mark && (is_beyond x cell ss a && (eqb l.row 0 || ltb (rank a.event a.row) (rank e l.row)))) ≡ b → cond b None (Some a) ≡ Some d → (0 < l.row) × (rank e l.row ≤ rank d.event d.row)
+    go true t is = absurd (none_some d is)
+    go false t is = not_past l.row (rank d.event d.row) (rank e l.row)
+        (sym (λ i. is_val (present i) && (beyond i && (eqb l.row 0 || ltb (rank d.event d.row) (rank e l.row))))
+        ∙ subst (λ (z : CutDebt). (is_val l.mark && (is_beyond x cell ss z && (eqb l.row 0 || ltb (rank z.event z.row) (rank e l.row)))) ≡ false) (some_one a d is) t)
+
+pub was_owed : (x : Option Control) (cell : Cell) (ss : List Stand) (l : Link) (e : Event) (o : Option CutDebt) (d : CutDebt) → relieved x cell ss l e o ≡ Some d → o ≡ Some d
+was_owed x cell ss l e None d is = is
+was_owed x cell ss l e (Some a) d is = cond_both (is_val l.mark && (is_beyond x cell ss a && (eqb l.row 0 || ltb (rank a.event a.row) (rank e l.row)))) None (Some a) (λ o. o ≡ Some d → Some a ≡ Some d)
+    (λ _ n. absurd (none_some d n)) (λ _ i. i) is
+
+-- the row r, on which the caller stands with f, doesn't come after the dead row
+pub beyond_row : (x : Control) (r : ℕ) (ss : List Stand) (d : CutDebt) (f : Event) → ((g : Event) → StandsOn ss r g → g ≡ f) → StandsOn ss r f → head_of x f ≡ d.head → rank f r ≤ rank d.event d.row
+    → is_beyond (Some x) (at_row r) ss d ≡ true
+beyond_row x r [] d f one on same low = absurd on.1
+beyond_row x r (s ∷ ss) d f one on same low = dite (ℕ_discrete s.row r)
+    (λ e. let is = one s.event (s, inl refl, e, refl) in ap (λ b. cond b (eqb (head_of x s.event) d.head && leb (rank s.event r) (rank d.event d.row)) (is_beyond (Some x) (at_row r) ss d)) (eq-eqb s.row r e)
+    ∙ (λ i. eq-eqb (head_of x s.event) d.head (ap (head_of x) is ∙ same) i && le-leb (rank s.event r) (rank d.event d.row) (subst (λ z. rank z r ≤ rank d.event d.row) (sym is) low) i))
+    (λ ne. ap (λ b. cond b (eqb (head_of x s.event) d.head && leb (rank s.event r) (rank d.event d.row)) (is_beyond (Some x) (at_row r) ss d)) (ne_eqb s.row r ne)
+    ∙ beyond_row x r ss d f (λ g h. one g (h.0, inr h.1, h.2, h.3)) (on.0, ⊎_elim (λ (e : on.0 ≡ s). absurd (ne (ap (λ (z : Stand). z.row) (sym e) ∙ on.2))) (λ i. i) on.1, on.2, on.3) same low)
+
+-- Places
+
+abbrev pub IsCell : Cell → Type 0
+IsCell (at_head q) = IsHead q
+IsCell (at_row r) = Unit {0}
+
+-- the links of a row and of a head, or of another row, are two words
+pub link_apart : (l : Layout) (r : ℕ) (cell : Cell) → 0 < r → IsCell cell → ((s : ℕ) → cell ≡ at_row s → s ≢ r) → index l (link r) ≢ index l (cell_place cell)
+link_apart l r (at_head q) some is ne e = omega arith
+link_apart l r (at_row s) some is ne e = ne s refl (omega arith)
+
+-- a word of an event isn't a link
+pub event_apart : (l : Layout) (r place : ℕ) (cell : Cell) → 0 < r → 2 ≤ place → IsCell cell → index l (row_place r place) ≢ index l (cell_place cell)
+event_apart l r zero cell some low is e = omega arith
+event_apart l r (suc zero) cell some low is e = omega arith
+event_apart l r (suc (suc zero)) (at_head q) some low is e = omega arith
+event_apart l r (suc (suc zero)) (at_row s) some low is e = omega arith
+event_apart l r (suc (suc (suc zero))) (at_head q) some low is e = omega arith
+event_apart l r (suc (suc (suc zero))) (at_row s) some low is e = omega arith
+event_apart l r (suc (suc (suc (suc zero)))) (at_head q) some low is e = omega arith
+event_apart l r (suc (suc (suc (suc zero)))) (at_row s) some low is e = omega arith
+event_apart l r (suc (suc (suc (suc (suc n))))) (at_head q) some low is e = omega arith
+event_apart l r (suc (suc (suc (suc (suc n))))) (at_row s) some low is e = omega arith
+
+-- Reading keys
+
+pub part_is : (e : Event) (place : ℕ) → IsEvent e → 2 ≤ place → place < 5 → part_of (event_word e place) place ≡ key_part e place
+part_is e zero fits low high = absurd (omega arith)
+part_is e (suc zero) fits low high = absurd (omega arith)
+part_is e (suc (suc zero)) fits low high = let d = fits.dst in omega arith
+part_is e (suc (suc (suc zero))) fits low high = refl
+part_is e (suc (suc (suc (suc zero)))) fits low high = refl
+part_is e (suc (suc (suc (suc (suc n))))) fits low high = absurd (omega arith)
+
+-- two events that are the same up to a place, where the first is less
+pub part_less : (e t : Event) (place r s : ℕ) → 2 ≤ place → place < 5 → IsEvent e → r < 2 ^ 24 → HasRead place e t → key_part e place < key_part t place → rank e r < rank t s
+unfolding rank
+part_less e t zero r s low high fits row read less = absurd (omega arith)
+part_less e t (suc zero) r s low high fits row read less = absurd (omega arith)
+part_less e t (suc (suc zero)) r s low high fits row read less = let a = fits.src in let b = fits.seq in omega arith
+part_less e t (suc (suc (suc zero))) r s low high fits row read less = let a = fits.src in let b = fits.seq in let q = read.0 (omega arith) in omega arith
+part_less e t (suc (suc (suc (suc zero)))) r s low high fits row read less = let a = fits.src in let b = fits.seq in let q = read.0 (omega arith) in let u = read.1 (omega arith) in omega arith
+part_less e t (suc (suc (suc (suc (suc n))))) r s low high fits row read less = absurd (omega arith)
+
+-- the same key is ordered by row
+pub key_same : (e t : Event) (r s : ℕ) → HasRead 4 e t → key_part e 4 ≡ key_part t 4 → (r ≤ s → rank e r ≤ rank t s) × (s < r → rank t s < rank e r)
+unfolding rank
+key_same e t r s read same = let q = read.0 (omega arith) in let u = read.1 (omega arith) in (λ low. omega arith, λ low. omega arith)
+
+-- one word more was read
+pub read_more : (e t : Event) (place : ℕ) → 2 ≤ place → place < 4 → HasRead place e t → key_part e place ≡ key_part t place → HasRead (place + 1) e t
+read_more e t zero low high read same = absurd (omega arith)
+read_more e t (suc zero) low high read same = absurd (omega arith)
+read_more e t (suc (suc zero)) low high read same = (λ _. same, λ n. absurd (omega arith))
+read_more e t (suc (suc (suc zero))) low high read same = (λ _. read.0 (omega arith), λ _. same)
+read_more e t (suc (suc (suc (suc n)))) low high read same = absurd (omega arith)

@@ -1,0 +1,369 @@
+-- What is known of a word after one step more, how far a take's walk is, and what each step of a take tells.
+use Rattle.std.proofs.Common.{◌≡◌, ◌≢◌, ◌⊎◌, ⊎_elim, inl, inr, ℕ, zero, suc, ◌+◌, ◌-◌, ◌*◌, ◌^◌, ◌<◌, ◌≤◌, cond, Bool, true, false, List, [], ◌∷◌, ◌++◌, length, Option, Some, None, eq-eqb, ne_eqb, sym, refl, ap, ◌∙◌, subst, arith}
+use Rattle.std.proofs.lemmas.Bool.{false≢true}
+use Rattle.std.proofs.lemmas.List.{length-append}
+use mathlib.Core.Logic.{dite}
+use native.Mathlib.Decide.{ℕ_discrete}
+use Rattle.crq_base.specs.declared.event.Event.{Event}
+use Rattle.crq_base.specs.declared.entry.Entry.TheVariants.{Take}
+use Rattle.crq_base.specs.declared.kinds.StepKind.TheVariants.{Walk as WalkKind, Read, Mark as MarkKind}
+use Rattle.crq_base.specs.declared.words.Link.{Link}
+use Rattle.crq_base.specs.declared.words.Mark.TheVariants.{Val, Del}
+use Rattle.crq_base.specs.declared.words.Control.{Control}
+use Rattle.crq_base.specs.Words.{IsLink, link_word}
+use Rattle.crq_rule.specs.declared.debts.CutDebt.{CutDebt}
+use Rattle.crq_rule.specs.declared.layout.Layout.{Layout}
+use Rattle.crq_rule.specs.declared.pass.Pass.{Pass}
+use Rattle.crq_rule.specs.declared.pass.Table.{Table}
+use Rattle.crq_rule.specs.declared.view.Made.{Made}
+use Rattle.crq_rule.specs.declared.view.Position.{Position}
+use Rattle.crq_rule.specs.declared.view.Stand.{Stand}
+use Rattle.crq_rule.specs.declared.view.Walk.{Walk}
+use Rattle.crq_rule.specs.declared.view.Caller.{Caller}
+use Rattle.crq_rule.specs.Lists.{In}
+use Rattle.crq_rule.specs.Places.{index, link as link_place}
+use Rattle.crq_rule.specs.Parts.{IsEvent, rows_of}
+use Rattle.crq_rule.specs.Kinds.{makes}
+use Rattle.crq_rule.specs.Ranks.{rank, Cell, at_head, at_row, cell_place}
+use Rattle.crq_rule.specs.ListKinds.{StandsOn, MayMiss, is_passed, is_final, is_val, next_stand, only_row, ended, stands_after, walk_after, relieved, row_place, event_word, marks, cut_debt}
+use Rattle.crq_rule.proofs.Standings.{rows_in, in_rows, row_stays, row_next}
+use Rattle.crq_rows.specs.Passes.{caller, load_made, step_made, IsPassOf, Stepped}
+use Rattle.crq_rows.specs.Reading.{stays}
+use Rattle.crq_list.specs.declared.parts.Progress.{Progress}
+use Rattle.crq_list.specs.declared.parts.Progress.TheVariants.{More, Done}
+use Rattle.crq_list.specs.declared.take.MarkEnd.{MarkEnd}
+use Rattle.crq_list.specs.declared.take.MarkEnd.TheVariants.{Marked, Beyond, Nothing, Lost}
+use Rattle.crq_list.specs.declared.take.TakeOp.{TakeOp}
+use Rattle.crq_list.specs.declared.take.Taking.{Taking}
+use Rattle.crq_list.specs.declared.take.Taking.TheVariants.{Load, Walking, Reading, Marking}
+use Rattle.crq_rows.proofs.Knowing.{known_here, known_else}
+use Rattle.crq_rows.proofs.Working.{plain_no_tick}
+use Rattle.crq_list.proofs.StepLaws.{marks_apart}
+use Rattle.crq_list.specs.Known.{is_exchange, Works, turns_after}
+use Rattle.crq_list.specs.Spots.{rank_at}
+use Rattle.crq_list.specs.Swaps.{Saw, MarkSwapped, where_won}
+use Rattle.crq_list.specs.Taking.{IsPresent, IsRead, IsTakingAt, IsTaking, taking_exchanges, taking_left, TakeAnswers, TakeStepped}
+
+-- the words of a row's event are other words than its link
+other_word : (l : Layout) (r place : ℕ) → 2 ≤ place → place < 6 → index l (row_place r place) ≢ index l (link_place r)
+other_word l r zero low high e = absurd (omega arith)
+other_word l r (suc zero) low high e = absurd (omega arith)
+other_word l r (suc (suc zero)) low high e = omega arith
+other_word l r (suc (suc (suc zero))) low high e = omega arith
+other_word l r (suc (suc (suc (suc zero)))) low high e = omega arith
+other_word l r (suc (suc (suc (suc (suc zero))))) low high e = omega arith
+other_word l r (suc (suc (suc (suc (suc (suc n)))))) low high e = absurd (omega arith)
+
+-- How far a walk is
+
+-- no rank reaches the end of the list
+rank_low : (e : Event) (r : ℕ) → IsEvent e → r < 2 ^ 24 → rank e r < 2 ^ 160
+unfolding rank
+rank_low e r is low = let t = is.time in let s = is.src in let q = is.seq in omega arith
+
+-- the first stand on a row has its rank
+first_stand : (ss : List Stand) (r : ℕ) → In r (rows_of ss) → (g : Event) × StandsOn ss r g × (rank_at ss r ≡ rank g r)
+first_stand [] r i = absurd i
+first_stand (t ∷ ts) r i = dite (ℕ_discrete t.row r)
+    (λ e. (t.event, (t, inl refl, e, refl), ap (λ b. cond b (rank t.event r) (rank_at ts r)) (eq-eqb t.row r e)))
+    (λ ne. let h = first_stand ts r (⊎_elim (λ (e : r ≡ t.row). absurd (ne (sym e))) (λ k. k) i) in
+    (h.0, (h.1.0, inr h.1.1, h.1.2, h.1.3), ap (λ b. cond b (rank t.event r) (rank_at ts r)) (ne_eqb t.row r ne) ∙ h.2))
+
+only_rank : (r : ℕ) (ss : List Stand) → rank_at (only_row r ss) r ≡ rank_at ss r
+only_rank r [] = refl
+only_rank r (t ∷ ts) = dite (ℕ_discrete t.row r)
+    (λ e. let yes = eq-eqb t.row r e in ap (λ b. rank_at (cond b (t ∷ only_row r ts) (only_row r ts)) r) yes ∙ (ap (λ b. cond b (rank t.event r) (rank_at (only_row r ts) r)) yes ∙ sym (ap (λ b. cond b (rank t.event r) (rank_at ts r)) yes)))
+    (λ ne. let no = ne_eqb t.row r ne in ap (λ b. rank_at (cond b (t ∷ only_row r ts) (only_row r ts)) r) no ∙ (only_rank r ts ∙ sym (ap (λ b. cond b (rank t.event r) (rank_at ts r)) no)))
+
+next_is : (l : Link) (e : Event) → 0 < l.row → next_stand l e ≡ record { row = l.row; event = e; last = None } ∷ []
+next_is l e some = ap (λ b. cond b [] (record { row = l.row; event = e; last = None } ∷ [])) (ne_eqb l.row 0 (omega arith))
+
+next_rank : (l : Link) (e : Event) (ss : List Stand) → 0 < l.row → rank_at (next_stand l e ++ ss) l.row ≡ rank e l.row
+next_rank l e ss some = ap (λ ns. rank_at (ns ++ ss) l.row) (next_is l e some) ∙ ap (λ b. cond b (rank e l.row) (rank_at ss l.row)) (eq-eqb l.row l.row refl)
+
+-- the walk of a row that goes on to the next comes nearer to the end
+nearer : (l : Link) (e : Event) (ss rest : List Stand) (r : ℕ) → IsLink l → IsEvent e → 0 < l.row → In r (rows_of ss) → ((f : Event) → StandsOn ss r f → rank f r < rank e l.row)
+    → (2 ^ 160 - rank_at (next_stand l e ++ rest) l.row) * 16 + 12 < (2 ^ 160 - rank_at ss r) * 16 + 12
+nearer l e ss rest r bits is some on up = let g = first_stand ss r on in let high = up g.0 g.1 in let low = rank_low e l.row is bits.row in let new = next_rank l e rest some in let old = g.2 in omega arith
+
+-- a row that was found present is as far as before
+as_far : (l : Link) (e : Event) (ss : List Stand) (r : ℕ) → In r (rows_of ss) → (0 < l.row → (f : Event) → StandsOn ss r f → rank f r < rank e l.row)
+    → rank_at ss r ≤ rank_at (next_stand l e ++ only_row r ss) r
+as_far l e ss r on up = dite (ℕ_discrete l.row 0)
+    (λ z. let is = ap (λ b. rank_at (cond b [] (record { row = l.row; event = e; last = None } ∷ []) ++ only_row r ss) r) (eq-eqb l.row 0 z) in let same = only_rank r ss in omega arith)
+    (λ nz. let is = ap (λ ns. rank_at (ns ++ only_row r ss) r) (next_is l e (omega arith)) in dite (ℕ_discrete l.row r)
+    (λ q. let here = ap (λ b. cond b (rank e r) (rank_at (only_row r ss) r)) (eq-eqb l.row r q) in let g = first_stand ss r on in let high = up (omega arith) g.0 g.1 in let to = ap (rank e) q in let old = g.2 in omega arith)
+    (λ nq. let here = ap (λ b. cond b (rank e r) (rank_at (only_row r ss) r)) (ne_eqb l.row r nq) in let same = only_rank r ss in omega arith))
+
+-- Steps that load
+
+-- the caller with another position, walk, and dead row that it owes
+abbrev pub moved : Position → Option Walk → Option CutDebt → Caller → Caller
+moved a w d p = record p { position = a; walk = w; debts = record p.debts { cut = d } }
+
+-- one load was made with the pass, which moved its caller so
+pub record Loads (table : Table) (old new : Pass) (m : Made) (a : Position) (w : Option Walk) : Type 0 where
+  pub is : IsPassOf table new
+  pub same : new ≡ record old { seat = new.seat }
+  pub load : is_exchange m.kind ≡ false
+  pub part : caller table new ≡ makes m (moved a w None (caller table old))
+
+module _ (n : ℕ) (table : Table) (x : Control) (op : TakeOp) (s : Taking) (old new : Pass) (m : Made) (a : Position) (w : Option Walk) (h : Loads table old new m a w) (no : taking_exchanges s ≡ false)
+    (t : IsTaking n table x (record op { state = s }) (caller table old)) where
+  abbrev before : Caller
+  before = caller table old
+
+  abbrev now : Caller
+  now = makes m (moved a w None before)
+
+  abbrev is_op : TakeOp
+  is_op = record op { state = s }
+
+  taken : (s' : Taking) → ((r : ℕ) (l : Link) (e : Event) → s' ≡ Marking r l e → e.time < op.limit) → IsTakingAt n table s' now → IsTaking n table x (record op { state = s' }) now
+  taken s' below at = record {
+    counted = let c = t.counted in let longer = length-append before.made (m ∷ []) in omega arith;
+    on = t.on;
+    began = t.began;
+    control = t.control;
+    one = t.one;
+    is_head = t.is_head;
+    opened = t.opened;
+    control_is = t.control_is;
+    uncut = t.uncut;
+    free = refl;
+    below = below;
+    at = at;
+  }
+
+  loaded : (op' : TakeOp) (answer : Progress MarkEnd) → TakeAnswers n table x is_op op' old new answer → TakeStepped n table x is_op op' old new answer
+  loaded op' answer answers = record {
+    is = h.is;
+    works = subst (Works n (taking_exchanges s) before) (sym h.part) record {
+      stays = record { number = refl; start = refl; deal = refl; found = refl; guard = refl };
+      step = m;
+      made = refl;
+      kind = h.load ∙ sym no;
+      expects = λ yes. absurd (false≢true (sym h.load ∙ yes));
+      timed = λ yes. absurd (false≢true (sym (plain_no_tick m.kind h.load) ∙ yes));
+    };
+    turns = ap (λ (z : Pass). z.turns) h.same ∙ sym (ap (λ b. turns_after b old.turns) no);
+    number = ap (λ (z : Pass). z.number) h.same;
+    free = ap (λ (z : Pass). z.free.items) h.same;
+    answers = answers;
+  }
+
+  -- it goes on
+  pub more : (s' : Taking) → ((r : ℕ) (l : Link) (e : Event) → s' ≡ Marking r l e → e.time < op.limit) → IsTakingAt n table s' now → taking_left s' now < taking_left s before
+      → TakeStepped n table x is_op (record op { state = s' }) old new More
+  more s' below at less = loaded (record op { state = s' }) More (
+    subst (IsTaking n table x (record op { state = s' })) (sym h.part) (taken s' below at),
+    refl,
+    ap (λ (z : Caller). z.own) h.part,
+    ap (λ (z : Pass). z.debts) h.same,
+    inr (subst (λ z. taking_left s' z < taking_left s before) (sym h.part) less),
+  )
+
+  missing : (limit : ℕ) → ((y : Walk) × (w ≡ Some y) × ((y.at ≡ 0) ⊎ ((e : Event) × StandsOn a.rows y.at e × (limit ≤ e.time)))) → MayMiss x limit (caller table new)
+  missing limit walks = subst (MayMiss x limit) (sym h.part) record { began = t.began; control = t.control; one_list = t.one; walks = walks }
+
+  -- its walk is at the end of the list
+  pub nothing : (y : Walk) → w ≡ Some y → y.at ≡ 0 → TakeStepped n table x is_op (record op { state = Load }) old new (Done Nothing)
+  nothing y walks end = loaded (record op { state = Load }) (Done Nothing) (
+    ap (λ (z : Caller). z.own) h.part,
+    ap (λ (z : Pass). z.debts) h.same,
+    λ limit. missing limit (y, walks, inl end),
+    ap (λ (z : Caller). z.cut) h.part ∙ t.uncut,
+    ap (λ (z : Caller). z.debts.cut) h.part,
+  )
+
+  -- or at a row that isn't below the limit
+  pub past : (y : Walk) (e : Event) → w ≡ Some y → StandsOn a.rows y.at e → op.limit ≤ e.time → TakeStepped n table x is_op (record op { state = Load }) old new (Done (Beyond e))
+  past y e walks on high = loaded (record op { state = Load }) (Done (Beyond e)) (
+    ap (λ (z : Caller). z.own) h.part,
+    ap (λ (z : Pass). z.debts) h.same,
+    missing op.limit (y, walks, inr (e, on, high)),
+    high,
+    ap (λ (z : Caller). z.cut) h.part ∙ t.uncut,
+    ap (λ (z : Caller). z.debts.cut) h.part,
+  )
+
+walking_no : (r r' : ℕ) (l : Link) (e : Event) → Walking r ≡ Marking r' l e → ⊥
+walking_no r r' l e q = cc
+
+reading_no : (r r' place : ℕ) (l l' : Link) (e e' : Event) → Reading r l place e ≡ Marking r' l' e' → ⊥
+reading_no r r' place l l' e e' q = cc
+
+marking_one : (r r' : ℕ) (l l' : Link) (e e' : Event) → Marking r l e ≡ Marking r' l' e' → e ≡ e'
+marking_one r r' l l' e e' q = cc
+
+-- a walk of a caller that owes no dead row moves it
+saw_loads : (table : Table) (old new : Pass) (cell : Cell) (l : Link) (saw : Saw table old new cell true l) (w : Option Walk) → (caller table old).debts.cut ≡ None → walk_after cell true l (caller table old).walk ≡ w
+    → Loads table old new (load_made WalkKind (index table.start.layout (cell_place cell)) (link_word l))
+    (record { rows = stands_after cell true l saw.event (caller table old).position.rows; old = (caller table old).position.old }) w
+saw_loads table old new cell l saw w free walks = let p = caller table old in let rows = stands_after cell true l saw.event p.position.rows in record {
+  is = saw.is;
+  same = saw.same;
+  load = refl;
+  part = saw.part ∙ (λ i. makes (load_made WalkKind (index table.start.layout (cell_place cell)) (link_word l))
+      (moved (record { rows = rows; old = p.position.old }) (walks i) (ap (relieved p.found.control cell p.position.rows l saw.event) free i) p));
+}
+
+-- what is answered after a head or row that was passed
+abbrev Onward : Link → Taking × Progress MarkEnd → Type 0
+Onward l r = ((l.row ≡ 0) × (r ≡ (Load, Done Nothing))) ⊎ ((0 < l.row) × (r ≡ (Walking l.row, More)))
+
+-- Load: the head is present
+pub head_stepped : (n : ℕ) (table : Table) (x : Control) (op : TakeOp) (old new : Pass) (l : Link) (r : Taking × Progress MarkEnd) → Saw table old new (at_head op.head) true l → l.mark ≡ Val → Onward l r
+    → IsTaking n table x (record op { state = Load }) (caller table old) → TakeStepped n table x (record op { state = Load }) (record op { state = r.0 }) old new r.1
+head_stepped n table x op old new l r saw val onward t = let y : Walk = record { head = op.head; at = l.row } in
+    let h = saw_loads table old new (at_head op.head) l saw (Some y) t.free (ap (λ b. cond (is_val b) (Some y) None) val) in ⊎_elim
+    (λ end. subst (λ z. TakeStepped n table x (record op { state = Load }) (record op { state = z.0 }) old new z.1) (sym end.1) (nothing n table x op Load old new _ _ _ h refl t y refl end.0))
+    (λ some. subst (λ z. TakeStepped n table x (record op { state = Load }) (record op { state = z.0 }) old new z.1) (sym some.1)
+    (more n table x op Load old new _ _ _ h refl t (Walking l.row) (λ r l' e q. absurd (walking_no l.row r l' e q))
+    (y, refl, refl, some.0, head_on l saw.event some.0) (omega arith))) onward
+  where
+    head_on : (l : Link) (e : Event) → 0 < l.row → (f : Event) × StandsOn (next_stand l e) l.row f
+    head_on l e some = subst (λ ss. (f : Event) × StandsOn ss l.row f) (sym (next_is l e some)) (e, (record { row = l.row; event = e; last = None }, inl refl, refl, refl))
+
+-- the rows on which the caller stands
+stood : (ss : List Stand) (r : ℕ) → (e : Event) × StandsOn ss r e → In r (rows_of ss)
+stood ss r on = subst (λ z. In z (rows_of ss)) on.1.2 (rows_in ss on.1.0 on.1.1)
+
+stands : (ss : List Stand) (r : ℕ) → In r (rows_of ss) → (e : Event) × StandsOn ss r e
+stands ss r i = let s = in_rows ss r i in (s.0.event, (s.0, s.1, s.2, refl))
+
+-- Walking: the row is dead
+pub dead_stepped : (n : ℕ) (table : Table) (x : Control) (op : TakeOp) (r : ℕ) (old new : Pass) (l : Link) (to : Taking × Progress MarkEnd) → Saw table old new (at_row r) true l → is_passed l.mark ≡ true → Onward l to
+    → IsTaking n table x (record op { state = Walking r }) (caller table old) → TakeStepped n table x (record op { state = Walking r }) (record op { state = to.0 }) old new to.1
+dead_stepped n table x op r old new l to saw dead onward t = let p = caller table old in let ss = p.position.rows in let e = saw.event in let y : Walk = record t.at.0 { at = l.row } in let i = stood ss r t.at.4 in
+    let h = saw_loads table old new (at_row r) l saw (Some y) t.free (ap (walk_after (at_row r) true l) t.at.1 ∙ ap (λ b. Some (cond b y t.at.0)) dead) in ⊎_elim
+    (λ end. subst (λ z. TakeStepped n table x (record op { state = Walking r }) (record op { state = z.0 }) old new z.1) (sym end.1) (nothing n table x op (Walking r) old new _ _ _ h refl t y refl end.0))
+    (λ some. let on = ⊎_elim (λ (z : l.row ≡ 0). absurd (omega arith)) (λ k. k) (row_next r true l e ss) in let up : (f : Event) → StandsOn ss r f → rank f r < rank e l.row = λ f k. (saw.next f k some.0).0 in
+    subst (λ z. TakeStepped n table x (record op { state = Walking r }) (record op { state = z.0 }) old new z.1) (sym some.1)
+    (more n table x op (Walking r) old new _ _ _ h refl t (Walking l.row) (λ r l' e q. absurd (walking_no l.row r l' e q))
+    (y, refl, refl, some.0, stands (stands_after (at_row r) true l e ss) l.row on) (nearer l e ss _ r saw.is_link (saw.row some.0).1 some.0 i up))) onward
+
+-- or present
+pub present_stepped : (n : ℕ) (table : Table) (x : Control) (op : TakeOp) (r : ℕ) (old new : Pass) (l : Link) (unread : Event) → Saw table old new (at_row r) true l → l.mark ≡ Val
+    → IsTaking n table x (record op { state = Walking r }) (caller table old) → TakeStepped n table x (record op { state = Walking r }) (record op { state = Reading r l 2 unread }) old new More
+present_stepped n table x op r old new l unread saw val t = let p = caller table old in let ss = p.position.rows in let e = saw.event in let y = t.at.0 in let i = stood ss r t.at.4 in
+    let h = saw_loads table old new (at_row r) l saw (Some y) t.free (ap (walk_after (at_row r) true l) t.at.1 ∙ ap (λ k. Some (cond (is_passed k) (record y { at = l.row }) y)) val) in
+    let same = ap (λ k. rank_at (next_stand l e ++ cond (is_final k) (ended r l (only_row r ss)) (only_row r ss)) r) val in let far = as_far l e ss r i (λ some f k. (saw.next f k some).0) in
+    more n table x op (Walking r) old new _ _ _ h refl t (Reading r l 2 unread) (λ r' l' e' q. absurd (reading_no r r' 2 l l' unread e' q)) (
+      record {
+        at = (y, refl, t.at.2, t.at.3, stands (stands_after (at_row r) true l e ss) r (row_stays r true l e ss i));
+        bits = saw.is_link;
+        present = val;
+        known = known_here n p.made (load_made WalkKind (index table.start.layout (link_place r)) (link_word l)) (index table.start.layout (link_place r)) t.counted refl;
+      },
+      omega arith,
+      omega arith,
+      λ f k. (λ b. absurd (omega arith), λ b. absurd (omega arith), λ b. absurd (omega arith)),
+    )
+    (omega arith)
+
+-- Reading: one word more
+
+read_loads : (table : Table) (old new : Pass) (w found : ℕ) → (caller table old).debts.cut ≡ None → Stepped table old new (load_made Read w found) stays → Loads table old new (load_made Read w found) (caller table old).position (caller table old).walk
+read_loads table old new w found free h = let p = caller table old in record {
+  is = h.is;
+  same = h.same;
+  load = refl;
+  part = h.part ∙ ap (λ d. makes (load_made Read w found) (moved p.position p.walk d p)) free;
+}
+
+-- what was known of the present row stays known
+still : (n : ℕ) (table : Table) (r place : ℕ) (l : Link) (found : ℕ) (p : Caller) → n ≤ length p.made → 2 ≤ place → place < 6 → IsPresent n table r l p
+    → IsPresent n table r l (makes (load_made Read (index table.start.layout (row_place r place)) found) (moved p.position p.walk None p))
+still n table r place l found p low two six h = record {
+  at = h.at;
+  bits = h.bits;
+  present = h.present;
+  known = known_else n p.made (load_made Read (index table.start.layout (row_place r place)) found) (index table.start.layout (link_place r)) low (other_word table.start.layout r place two six) ∙ h.known;
+}
+
+-- what is to be said of the word that was read
+abbrev pub HasGot : Event → ℕ → ℕ → Event → Type 0
+HasGot read place found got = (e : Event) → IsEvent e → found ≡ event_word e place → IsRead place read e → IsRead (place + 1) got e × (place ≡ 5 → got ≡ e)
+
+-- each event that the caller knows of the row is one
+is_event : (table : Table) (pass : Pass) (r : ℕ) (e : Event) → IsPassOf table pass → StandsOn (caller table pass).position.rows r e → IsEvent e
+is_event table pass r e of on = subst IsEvent on.3 (of.lawful.stands on.0 on.1).1
+
+-- the word that was read is that of an event
+pub some_word : (n : ℕ) (table : Table) (r : ℕ) (l : Link) (place : ℕ) (old : Pass) (found : ℕ) → IsPassOf table old → ((e : Event) → StandsOn (caller table old).position.rows r e → found ≡ event_word e place)
+    → IsPresent n table r l (caller table old) → (e : Event) × IsEvent e × (found ≡ event_word e place)
+some_word n table r l place old found of word h = let on = h.at.4 in (on.0, is_event table old r on.0 of on.1, word on.0 on.1)
+
+module _ (n : ℕ) (table : Table) (x : Control) (op : TakeOp) (r : ℕ) (l : Link) (place : ℕ) (read : Event) (old new : Pass) (found : ℕ) (got : Event) (of : IsPassOf table old)
+    (h : Stepped table old new (load_made Read (index table.start.layout (row_place r place)) found) stays) (word : (e : Event) → StandsOn (caller table old).position.rows r e → found ≡ event_word e place) (gets : HasGot read place found got)
+    (t : IsTaking n table x (record op { state = Reading r l place read }) (caller table old)) where
+  now_read : (e : Event) → StandsOn (caller table old).position.rows r e → IsRead (place + 1) got e × (place ≡ 5 → got ≡ e)
+  now_read e on = gets e (is_event table old r e of on) (word e on) (t.at.3 e on)
+
+  -- there are more words to read
+  pub read_stepped : place < 5 → TakeStepped n table x (record op { state = Reading r l place read }) (record op { state = Reading r l (place + 1) got }) old new More
+  read_stepped five = let two = t.at.1 in more n table x op (Reading r l place read) old new _ _ _ (read_loads table old new _ found t.free h) refl t (Reading r l (place + 1) got) (λ r' l' e' q. absurd (reading_no r r' (place + 1) l l' got e' q))
+      (still n table r place l found (caller table old) t.counted t.at.1 t.at.2 t.at.0, omega arith, omega arith, λ e on. (now_read e on).0) (omega arith)
+
+  -- the event is read, and it is the row's
+  whole : 5 ≤ place → StandsOn (caller table old).position.rows r got
+  whole five = let on = t.at.0.at.4 in let last : place ≡ 5 = (let high = t.at.2 in omega arith) in subst (StandsOn (caller table old).position.rows r) (sym ((now_read on.0 on.1).1 last)) on.1
+
+  pub beyond_stepped : 5 ≤ place → op.limit ≤ got.time → TakeStepped n table x (record op { state = Reading r l place read }) (record op { state = Load }) old new (Done (Beyond got))
+  beyond_stepped five high = let y = t.at.0.at in past n table x op (Reading r l place read) old new _ _ _ (read_loads table old new _ found t.free h) refl t y.0 got y.1
+      (subst (λ z. StandsOn (caller table old).position.rows z got) (sym y.2) (whole five)) high
+
+  pub whole_stepped : 5 ≤ place → got.time < op.limit → TakeStepped n table x (record op { state = Reading r l place read }) (record op { state = Marking r l got }) old new More
+  whole_stepped five low = more n table x op (Reading r l place read) old new _ _ _ (read_loads table old new _ found t.free h) refl t (Marking r l got) (λ r' l' e' q. subst (λ (z : Event). z.time < op.limit) (marking_one r r' l l' got e' q) low)
+      (still n table r place l found (caller table old) t.counted t.at.1 t.at.2 t.at.0, whole five) (let high = t.at.2 in omega arith)
+
+-- Marking
+
+module _ (n : ℕ) (table : Table) (x : Control) (op : TakeOp) (r : ℕ) (l : Link) (e : Event) (old new : Pass) (of : IsPassOf table old)
+    (t : IsTaking n table x (record op { state = Marking r l e }) (caller table old)) where
+  abbrev mark_made : ℕ → Made
+  mark_made found = step_made MarkKind (index table.start.layout (link_place r)) (link_word l) (link_word (record l { mark = Del })) found
+
+  -- the exchange expects the link that was found, and is to make the row dead
+  mark_works : (found : ℕ) (won : Bool) → caller table new ≡ makes (mark_made found) (where_won won (marks op.found r e) (caller table old)) → Works n true (caller table old) (caller table new)
+  mark_works found won part = subst (Works n true (caller table old)) (sym part) (go won)
+    where
+      go : (won : Bool) → Works n true (caller table old) (makes (mark_made found) (where_won won (marks op.found r e) (caller table old)))
+      go true = record { stays = record { number = refl; start = refl; deal = refl; found = refl; guard = refl }; step = mark_made found; made = refl; kind = refl; expects = λ _. (t.at.0.known, marks_apart l t.at.0.present); timed = λ yes. absurd (cc) }
+      go false = record { stays = record { number = refl; start = refl; deal = refl; found = refl; guard = refl }; step = mark_made found; made = refl; kind = refl; expects = λ _. (t.at.0.known, marks_apart l t.at.0.present); timed = λ yes. absurd (cc) }
+
+  module _ {won : Bool} (s : MarkSwapped table old new (at_row r) l op.found r e won) where
+    mark_part : {b : Bool} → won ≡ b → caller table new ≡ makes (mark_made s.swapped.found) (where_won b (marks op.found r e) (caller table old))
+    mark_part is = s.swapped.part ∙ ap (λ b. makes (mark_made s.swapped.found) (where_won b (marks op.found r e) (caller table old))) is
+
+    marked_so : (answer : Progress MarkEnd) → TakeAnswers n table x (record op { state = Marking r l e }) (record op { state = Load }) old new answer
+        → TakeStepped n table x (record op { state = Marking r l e }) (record op { state = Load }) old new answer
+    marked_so answer answers = record { is = s.swapped.is; works = mark_works s.swapped.found won s.swapped.part; turns = s.swapped.turns; number = s.swapped.number; free = s.free; answers = answers }
+
+    pub marks_row : won ≡ true → TakeStepped n table x (record op { state = Marking r l e }) (record op { state = Load }) old new (Done (Marked r e))
+    marks_row is = marked_so (Done (Marked r e)) (
+      ap (λ (q : Caller). q.own) (mark_part is) ∙ ap (λ j. (caller table old).own ++ Take j e ∷ []) of.sits.numbered,
+      t.below r l e refl,
+      s.debts ∙ (ap (λ b. cond b (record old.debts { cut = Some (cut_debt op.found r e) }) old.debts) is ∙ ap (λ y. record old.debts { cut = Some (cut_debt y r e) }) t.control_is),
+      ap (λ (q : Caller). q.cut) (mark_part is) ∙ t.uncut,
+    )
+
+    pub marks_not : won ≡ false → TakeStepped n table x (record op { state = Marking r l e }) (record op { state = Load }) old new (Done Lost)
+    marks_not is = marked_so (Done Lost) (
+      ap (λ (q : Caller). q.own) (mark_part is),
+      s.debts ∙ ap (λ b. cond b (record old.debts { cut = Some (cut_debt op.found r e) }) old.debts) is,
+      refl,
+      ap (λ (q : Caller). q.cut) (mark_part is) ∙ t.uncut,
+      ap (λ (q : Caller). q.debts.cut) (mark_part is) ∙ t.free,
+    )
+
+-- the step of the state at which the take is
+pub step_is : (n : ℕ) (table : Table) (x : Control) (op : TakeOp) (s : Taking) (old new after : Pass) (to answer : Taking × Progress MarkEnd) → op.state ≡ s → after ≡ new → answer ≡ to
+    → (IsTaking n table x (record op { state = s }) (caller table old) → TakeStepped n table x (record op { state = s }) (record op { state = to.0 }) old new to.1)
+    → IsTaking n table x op (caller table old) → TakeStepped n table x op (record op { state = answer.0 }) old after answer.1
+step_is n table x op s old new after to answer at pass_is to_is step t =
+    subst (λ z. TakeStepped n table x op (record op { state = answer.0 }) old z answer.1) (sym pass_is)
+    (subst (λ (z : Taking × Progress MarkEnd). TakeStepped n table x op (record op { state = z.0 }) old new z.1) (sym to_is)
+    (subst (λ z. TakeStepped n table x (record op { state = z }) (record op { state = to.0 }) old new to.1) (sym at)
+    (step (subst (λ z. IsTaking n table x (record op { state = z }) (caller table old)) at t))))

@@ -1,0 +1,8 @@
+use Rattle.crq_base.specs.declared.kinds.StepKind.TheVariants.{Mark}
+use Rattle.crq_base.specs.Words.{link_word}
+use Rattle.crq_rule.specs.ListKinds.{marks}
+use Rattle.crq_rule.specs.Rule.{wins, quiet}
+use Rattle.crq_list.proofs.steps.mark_step.Given as goal
+
+abbrev pub ghosts-exchange_seated : goal.ghosts-exchange_seated
+ghosts-exchange_seated a = record { kind = Mark; change = wins (link_word a._said.now.0) (marks a._said.now.1 a._said.now.2 a._said.now.3); tells = quiet }

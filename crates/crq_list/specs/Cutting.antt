@@ -1,0 +1,37 @@
+-- Cutting dead rows out of a list: what is known between two steps, and what each step tells.
+use Rattle.std.specs.Prelude.{◌≡◌, ◌⊎◌, ℕ, ◌<◌, true, Some, None}
+use Rattle.crq_base.specs.declared.words.Control.{Control}
+use Rattle.crq_rule.specs.declared.pass.Pass.{Pass}
+use Rattle.crq_rule.specs.declared.pass.Table.{Table}
+use Rattle.crq_rule.specs.declared.debts.CutDebt.{CutDebt}
+use Rattle.crq_rule.specs.declared.view.Caller.{Caller}
+use Rattle.crq_rows.specs.Passes.{caller, IsPassOf}
+use Rattle.crq_list.specs.declared.parts.Progress.{Progress}
+use Rattle.crq_list.specs.declared.parts.Progress.TheVariants.{More, Done}
+use Rattle.crq_list.specs.declared.cut.CutEnd.{CutEnd}
+use Rattle.crq_list.specs.declared.cut.CutEnd.TheVariants.{Clean, Frozen}
+use Rattle.crq_list.specs.declared.cut.CutOp.{CutOp}
+use Rattle.crq_list.specs.Known.{Works, turns_after}
+use Rattle.crq_list.specs.Seeking.{IsSeeking, seek_exchanges, seek_left}
+
+-- a caller that cuts the dead rows of a list of the table that it found
+abbrev pub IsCutting : ℕ → Table → Control → CutOp → Caller → Type 0
+IsCutting n table x op p = IsSeeking n table x op.list op.upto op.seek p
+
+-- a dead row that was the target isn't owed any more
+abbrev pub CutAnswers : ℕ → Table → Control → CutOp → CutOp → Caller → Caller → Progress CutEnd → Type 0
+CutAnswers n table x op op' p q More = IsCutting n table x op' q × (op' ≡ record op { seek = op'.seek }) × ((seek_exchanges op.seek ≡ true) ⊎ (seek_left op'.seek q < seek_left op.seek p))
+CutAnswers n table x op op' p q (Done Clean) = (q.cut ≡ None) × ((d : CutDebt) → op.upto ≡ Some (d.event, d.row) → d.head ≡ op.list.head → q.debts.cut ≡ Some d → ⊥)
+CutAnswers n table x op op' p q (Done Frozen) = ⊥
+
+-- one step of it was made
+pub record CutStepped (n : ℕ) (table : Table) (x : Control) (op op' : CutOp) (old new : Pass) (answer : Progress CutEnd) : Type 0 where
+  pub is : IsPassOf table new
+  pub works : Works n (seek_exchanges op.seek) (caller table old) (caller table new)
+  pub turns : new.turns ≡ turns_after (seek_exchanges op.seek) old.turns
+  pub number : new.number ≡ old.number
+  pub free : new.free.items ≡ old.free.items
+  pub debts : new.debts ≡ old.debts
+  pub own : (caller table new).own ≡ (caller table old).own
+  pub owed : ((caller table new).debts.cut ≡ None) ⊎ ((caller table new).debts.cut ≡ (caller table old).debts.cut)
+  pub answers : CutAnswers n table x op op' (caller table old) (caller table new) answer

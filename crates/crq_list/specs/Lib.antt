@@ -1,0 +1,7 @@
+pub mod Known
+pub mod Spots
+pub mod Swaps
+pub mod Seeking
+pub mod Inserting
+pub mod Cutting
+pub mod Taking

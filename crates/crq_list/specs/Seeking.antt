@@ -1,0 +1,102 @@
+-- Walking a list to a target, with dead rows cut on the way: what is known between two steps, and what each step tells.
+use Rattle.std.specs.Prelude.{◌≡◌, ◌≢◌, ◌⊎◌, ℕ, ◌+◌, ◌-◌, ◌*◌, ◌^◌, ◌<◌, ◌≤◌, ◌==◌, ◌/◌, cond, Bool, true, false, length, Some, None}
+use Rattle.crq_base.specs.declared.event.Event.{Event}
+use Rattle.crq_base.specs.declared.words.Mark.TheVariants.{Del}
+use Rattle.crq_base.specs.declared.words.Control.{Control}
+use Rattle.crq_base.specs.Words.{IsLink}
+use Rattle.crq_rule.specs.declared.pass.Pass.{Pass}
+use Rattle.crq_rule.specs.declared.pass.Table.{Table}
+use Rattle.crq_rule.specs.declared.view.CutRow.{CutRow}
+use Rattle.crq_rule.specs.declared.view.Stand.{Stand}
+use Rattle.crq_rule.specs.declared.view.Caller.{Caller}
+use Rattle.crq_rule.specs.Lists.{In}
+use Rattle.crq_rule.specs.Parts.{IsOn}
+use Rattle.crq_rule.specs.ListKinds.{StandsOn}
+use Rattle.crq_rows.specs.Passes.{caller, IsPassOf}
+use Rattle.crq_list.specs.declared.parts.ListAt.{ListAt}
+use Rattle.crq_list.specs.declared.parts.Spot.TheVariants.{Head, Row}
+use Rattle.crq_list.specs.declared.parts.Before.{Before}
+use Rattle.crq_list.specs.declared.seek.Seek.{Seek}
+use Rattle.crq_list.specs.declared.seek.Seek.TheVariants.{Load, Reading, Passing, Cutting, Tagging, Retiring}
+use Rattle.crq_list.specs.declared.seek.Sought.{Sought}
+use Rattle.crq_list.specs.declared.seek.Sought.TheVariants.{More, There, Frozen}
+use Rattle.crq_list.specs.Known.{Works, turns_after}
+use Rattle.crq_list.specs.Spots.{Target, IsUpTo, IsAfter, IsReached, IsPassed, IsListOf, IsTarget, left_of}
+
+-- the words of the next row's event that were read are those of the target: the time and source, before the place that is read next
+abbrev pub HasRead : ℕ → Event → Event → Type 0
+HasRead place e t = (2 < place → e.time ≡ t.time) × (3 < place → e.src ≡ t.src)
+
+-- the next row doesn't come after the target
+pub record IsPassing (n : ℕ) (table : Table) (x : Control) (q : ℕ) (target : Target) (b : Before) (p : Caller) : Type 0 where
+  pub passed : IsPassed n table.start.layout x q target b p
+  pub some_row : 0 < b.link.row
+  pub up_to : (e : Event) → StandsOn p.position.rows b.link.row e → IsUpTo target e b.link.row
+
+abbrev pub IsAt : ℕ → Table → Control → ℕ → Target → Seek → Caller → Type 0
+IsAt n table x q target (Load spot) p = (p.cut ≡ None) × IsReached x q target spot p
+IsAt n table x q target (Reading b place) p = (p.cut ≡ None) × IsPassed n table.start.layout x q target b p × (0 < b.link.row) × (2 ≤ place) × (place < 5)
+    × ((t : Event × ℕ) × (target ≡ Some t) × ((e : Event) → StandsOn p.position.rows b.link.row e → HasRead place e t.0))
+IsAt n table x q target (Passing b) p = (p.cut ≡ None) × IsPassing n table x q target b p
+IsAt n table x q target (Cutting b last) p = (p.cut ≡ None) × IsPassing n table x q target b p × IsLink last × (last.mark ≡ Del) × (last.row ≢ b.link.row) × ((s : Stand) × In s p.position.rows × (s.row ≡ b.link.row) × (s.last ≡ Some last))
+IsAt n table x q target (Tagging spot row) p = IsReached x q target spot p × ((y : CutRow) × (p.cut ≡ Some y) × (y.row ≡ row))
+IsAt n table x q target (Retiring spot row tag) p = IsReached x q target spot p × ((y : CutRow) × (p.cut ≡ Some y) × (y.row ≡ row) × In tag y.tags)
+
+-- a caller that walks the list of the target, whose control word it found
+pub record IsSeeking (n : ℕ) (table : Table) (x : Control) (list : ListAt) (target : Target) (seek : Seek) (p : Caller) : Type 0 where
+  pub counted : n ≤ length p.made
+  pub on : IsOn p.guard
+  pub list_is : IsListOf x list p
+  pub target_is : IsTarget x list target
+  pub at : IsAt n table x list.head target seek p
+
+-- after a spot was passed: what is to be done next, and what is answered
+abbrev pub next_seek : Before → Target → Seek × Sought
+next_seek b None = cond (b.link.row == 0) (Load b.spot, There b) (Passing b, More)
+next_seek b (Some t) = cond (b.link.row == 0) (Load b.spot, There b) (Reading b 2, More)
+
+-- the part of an event's key at a place, and that part of the word that stands there
+abbrev pub key_part : Event → ℕ → ℕ
+key_part e place = cond (place == 2) e.time (cond (place == 3) e.src e.seq)
+
+abbrev pub part_of : ℕ → ℕ → ℕ
+part_of word place = cond (place == 2) (word / 2 ^ 32) word
+
+-- whether its next step is an exchange
+abbrev pub seek_exchanges : Seek → Bool
+seek_exchanges (Cutting b last) = true
+seek_exchanges _ = false
+
+-- what is left to do until the next exchange: of the list, and of the present row
+abbrev pub seek_left : Seek → Caller → ℕ
+seek_left (Load (Head q)) p = (2 ^ 160) * 16 + 15
+seek_left (Load (Row r)) p = (2 ^ 160) * 16 + 20
+seek_left (Reading b place) p = left_of b.spot p * 16 + (14 - place)
+seek_left (Passing b) p = left_of b.spot p * 16 + 9
+seek_left (Cutting b last) p = left_of b.spot p * 16 + 8
+seek_left (Tagging spot row) p = (2 ^ 160) * 16 + 31
+seek_left (Retiring spot row tag) p = (2 ^ 160) * 16 + 30
+
+-- the caller passed the spot, and the next row, if there is one, comes after the target
+pub record IsThere (n : ℕ) (table : Table) (x : Control) (q : ℕ) (target : Target) (b : Before) (p : Caller) : Type 0 where
+  pub none : p.cut ≡ None
+  pub passed : IsPassed n table.start.layout x q target b p
+  pub after : (b.link.row ≡ 0) ⊎ ((e : Event) × StandsOn p.position.rows b.link.row e × IsAfter target e b.link.row)
+
+abbrev pub SeekAnswers : ℕ → Table → Control → ListAt → Target → Seek → Seek → Caller → Caller → Sought → Type 0
+SeekAnswers n table x list target seek seek' p q More = IsSeeking n table x list target seek' q × ((seek_exchanges seek ≡ true) ⊎ (seek_left seek' q < seek_left seek p))
+SeekAnswers n table x list target seek seek' p q (There b) = IsThere n table x list.head target b q
+SeekAnswers n table x list target seek seek' p q Frozen = ⊥
+
+-- one step of it was made: the caller's entries, rows in hand, words written and run-time state stay, but for a dead row that isn't owed any more
+pub record SeekStepped (n : ℕ) (table : Table) (x : Control) (list : ListAt) (target : Target) (seek seek' : Seek) (old new : Pass) (answer : Sought) : Type 0 where
+  pub is : IsPassOf table new
+  pub works : Works n (seek_exchanges seek) (caller table old) (caller table new)
+  pub turns : new.turns ≡ turns_after (seek_exchanges seek) old.turns
+  pub number : new.number ≡ old.number
+  pub free : new.free.items ≡ old.free.items
+  pub debts : new.debts ≡ old.debts
+  pub own : (caller table new).own ≡ (caller table old).own
+  pub written : (caller table new).written ≡ (caller table old).written
+  pub owed : ((caller table new).debts.cut ≡ None) ⊎ ((caller table new).debts.cut ≡ (caller table old).debts.cut)
+  pub answers : SeekAnswers n table x list target seek seek' (caller table old) (caller table new) answer

@@ -1,0 +1,92 @@
+-- The places at which a link stands, as the operations name them, and what is known of one that was passed.
+use Rattle.std.specs.Prelude.{◌≡◌, ℕ, ◌-◌, ◌^◌, ◌<◌, ◌≤◌, ◌==◌, cond, List, [], ◌∷◌, drop, Option, Some, None}
+use Rattle.crq_base.specs.declared.event.Event.{Event}
+use Rattle.crq_base.specs.declared.words.Mark.TheVariants.{Val}
+use Rattle.crq_base.specs.declared.words.Control.{Control}
+use Rattle.crq_base.specs.Words.{IsLink, link_word}
+use Rattle.crq_rule.specs.declared.layout.Layout.{Layout}
+use Rattle.crq_rule.specs.declared.debts.CutDebt.{CutDebt}
+use Rattle.crq_rule.specs.declared.view.Stand.{Stand}
+use Rattle.crq_rule.specs.declared.view.Caller.{Caller}
+use Rattle.crq_rule.specs.Places.{index, IsHead}
+use Rattle.crq_rule.specs.Parts.{IsEvent}
+use Rattle.crq_rule.specs.Ranks.{rank, head_of, IsOpen, Cell, at_head, at_row, cell_place}
+use Rattle.crq_rule.specs.ListKinds.{StandsOn}
+use Rattle.crq_list.specs.declared.parts.ListAt.{ListAt}
+use Rattle.crq_list.specs.declared.parts.Spot.{Spot}
+use Rattle.crq_list.specs.declared.parts.Spot.TheVariants.{Head, Row}
+use Rattle.crq_list.specs.declared.parts.Before.{Before}
+use Rattle.crq_list.specs.Known.{last_known}
+
+abbrev pub cell : Spot → Cell
+cell (Head q) = at_head q
+cell (Row r) = at_row r
+
+-- up to which row of which event an operation goes; none is all of the list
+abbrev pub Target : Type 0
+Target = Option (Event × ℕ)
+
+-- the row r with the event f doesn't come after the target
+abbrev pub IsUpTo : Target → Event → ℕ → Type 0
+IsUpTo None f r = Unit {0}
+IsUpTo (Some t) f r = rank f r ≤ rank t.0 t.1
+
+-- the row r with the event f comes after the target, if that fits its words
+abbrev pub IsAfter : Target → Event → ℕ → Type 0
+IsAfter None f r = ⊥
+IsAfter (Some t) f r = IsEvent t.0 → t.1 < 2 ^ 24 → rank t.0 t.1 < rank f r
+
+-- the spot is of the list q of the open table, and doesn't come after the target
+abbrev pub IsReached : Control → ℕ → Target → Spot → Caller → Type 0
+IsReached x q target (Head h) p = h ≡ q
+IsReached x q target (Row r) p = (f : Event) × StandsOn p.position.rows r f × (head_of x f ≡ q) × IsUpTo target f r
+
+-- the row with the event e comes after the spot
+abbrev pub IsBeyondSpot : Spot → Event → ℕ → Caller → Type 0
+IsBeyondSpot (Head h) e r p = Unit {0}
+IsBeyondSpot (Row s) e r p = (f : Event) → StandsOn p.position.rows s f → rank f s < rank e r
+
+-- the next row, of which the caller knows the event, is of the list, and comes after the spot
+pub record Next (x : Control) (q : ℕ) (b : Before) (p : Caller) : Type 0 where
+  pub event : Event
+  pub on : StandsOn p.position.rows b.link.row event
+  pub belongs : head_of x event ≡ q
+  pub beyond : IsBeyondSpot b.spot event b.link.row p
+
+-- the dead row that is still owed, if it is the target, comes no later than the next row
+pub record IsOwedAhead (target : Target) (q : ℕ) (b : Before) (p : Caller) : Type 0 where
+  pub ahead : (d : CutDebt) → target ≡ Some (d.event, d.row) → d.head ≡ q → p.debts.cut ≡ Some d → (0 < b.link.row) × ((e : Event) → StandsOn p.position.rows b.link.row e → rank e b.link.row ≤ rank d.event d.row)
+
+-- the spot was passed, and its link was the last one known
+pub record IsPassed (n : ℕ) (l : Layout) (x : Control) (q : ℕ) (target : Target) (b : Before) (p : Caller) : Type 0 where
+  pub bits : IsLink b.link
+  pub present : b.link.mark ≡ Val
+  pub known : last_known (drop n p.made) (index l (cell_place (cell b.spot))) ≡ Some (link_word b.link)
+  pub reached : IsReached x q target b.spot p
+  pub next : 0 < b.link.row → Next x q b p
+  pub owed : IsOwedAhead target q b p
+
+-- the list is one of the open table, whose control word the caller found
+pub record IsListOf (x : Control) (list : ListAt) (p : Caller) : Type 0 where
+  pub control : p.found.control ≡ Some x
+  pub generation : list.generation ≡ x.generation
+  pub is_head : IsHead list.head
+  pub opened : IsOpen x list.head
+
+-- the target is of the list
+abbrev pub IsTarget : Control → ListAt → Target → Type 0
+IsTarget x list None = Unit {0}
+IsTarget x list (Some t) = head_of x t.0 ≡ list.head
+
+-- how far the spot lies in the list
+abbrev pub rank_at : List Stand → ℕ → ℕ
+rank_at [] r = 0
+rank_at (s ∷ ss) r = cond (s.row == r) (rank s.event r) (rank_at ss r)
+
+abbrev pub far : Spot → Caller → ℕ
+far (Head q) p = 0
+far (Row r) p = rank_at p.position.rows r
+
+-- what is left of the list behind the spot, up to the greatest rank there is
+abbrev pub left_of : Spot → Caller → ℕ
+left_of spot p = 2 ^ 160 - far spot p

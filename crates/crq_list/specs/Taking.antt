@@ -1,0 +1,95 @@
+-- Taking the first present event of a list: what is known between two steps, and what each step tells.
+use Rattle.std.specs.Prelude.{◌≡◌, ◌⊎◌, ℕ, ◌+◌, ◌-◌, ◌*◌, ◌^◌, ◌<◌, ◌≤◌, Bool, true, false, [], ◌∷◌, ◌++◌, length, drop, Some, None}
+use Rattle.crq_base.specs.declared.event.Event.{Event}
+use Rattle.crq_base.specs.declared.entry.Entry.TheVariants.{Take}
+use Rattle.crq_base.specs.declared.words.Link.{Link}
+use Rattle.crq_base.specs.declared.words.Mark.TheVariants.{Val}
+use Rattle.crq_base.specs.declared.words.Control.{Control}
+use Rattle.crq_base.specs.Words.{IsLink, link_word}
+use Rattle.crq_rule.specs.declared.pass.Pass.{Pass}
+use Rattle.crq_rule.specs.declared.pass.Table.{Table}
+use Rattle.crq_rule.specs.declared.view.Walk.{Walk}
+use Rattle.crq_rule.specs.declared.view.Caller.{Caller}
+use Rattle.crq_rule.specs.Places.{index, link as link_place, IsHead}
+use Rattle.crq_rule.specs.Parts.{IsOn}
+use Rattle.crq_rule.specs.Ranks.{IsOpen}
+use Rattle.crq_rule.specs.HistoryParts.{EndsInBegin}
+use Rattle.crq_rule.specs.ListKinds.{StandsOn, MayMiss, cut_debt}
+use Rattle.crq_rows.specs.Passes.{caller, IsPassOf}
+use Rattle.crq_list.specs.declared.parts.Progress.{Progress}
+use Rattle.crq_list.specs.declared.parts.Progress.TheVariants.{More, Done}
+use Rattle.crq_list.specs.declared.take.MarkEnd.{MarkEnd}
+use Rattle.crq_list.specs.declared.take.MarkEnd.TheVariants.{Marked, Beyond, Nothing, Lost, Frozen}
+use Rattle.crq_list.specs.declared.take.TakeOp.{TakeOp}
+use Rattle.crq_list.specs.declared.take.Taking.{Taking}
+use Rattle.crq_list.specs.declared.take.Taking.TheVariants.{Load, Walking, Reading, Marking}
+use Rattle.crq_list.specs.Known.{Works, turns_after, last_known}
+use Rattle.crq_list.specs.Spots.{rank_at}
+
+-- the caller's walk stands at the row
+abbrev pub IsWalkAt : Caller → ℕ → Type 0
+IsWalkAt p r = (w : Walk) × (p.walk ≡ Some w) × (w.at ≡ r) × (0 < r) × ((e : Event) × StandsOn p.position.rows r e)
+
+-- and found its row present, with this link
+pub record IsPresent (n : ℕ) (table : Table) (r : ℕ) (l : Link) (p : Caller) : Type 0 where
+  pub at : IsWalkAt p r
+  pub bits : IsLink l
+  pub present : l.mark ≡ Val
+  pub known : last_known (drop n p.made) (index table.start.layout (link_place r)) ≡ Some (link_word l)
+
+-- the words of the row's event that were read, before this place, are those of `read`
+abbrev pub IsRead : ℕ → Event → Event → Type 0
+IsRead place read e = (2 < place → (read.time ≡ e.time) × (read.dst ≡ e.dst)) × (3 < place → read.src ≡ e.src) × (4 < place → read.seq ≡ e.seq)
+
+abbrev pub IsTakingAt : ℕ → Table → Taking → Caller → Type 0
+IsTakingAt n table Load p = Unit {0}
+IsTakingAt n table (Walking r) p = IsWalkAt p r
+IsTakingAt n table (Reading r l place read) p = IsPresent n table r l p × (2 ≤ place) × (place < 6) × ((e : Event) → StandsOn p.position.rows r e → IsRead place read e)
+IsTakingAt n table (Marking r l e) p = IsPresent n table r l p × StandsOn p.position.rows r e
+
+-- a caller that began and takes from the one list of the table that it found, and owes no dead row
+pub record IsTaking (n : ℕ) (table : Table) (x : Control) (op : TakeOp) (p : Caller) : Type 0 where
+  pub counted : n ≤ length p.made
+  pub on : IsOn p.guard
+  pub began : EndsInBegin p.own
+  pub control : p.found.control ≡ Some x
+  pub one : x.log ≡ 0
+  pub is_head : IsHead op.head
+  pub opened : IsOpen x op.head
+  pub control_is : op.found ≡ x
+  pub uncut : p.cut ≡ None
+  pub free : p.debts.cut ≡ None
+  pub below : (r : ℕ) (l : Link) (e : Event) → op.state ≡ Marking r l e → e.time < op.limit
+  pub at : IsTakingAt n table op.state p
+
+abbrev pub taking_exchanges : Taking → Bool
+taking_exchanges (Marking r l e) = true
+taking_exchanges _ = false
+
+abbrev pub taking_left : Taking → Caller → ℕ
+taking_left Load p = (2 ^ 160) * 16 + 15
+taking_left (Walking r) p = (2 ^ 160 - rank_at p.position.rows r) * 16 + 12
+taking_left (Reading r l place read) p = (2 ^ 160 - rank_at p.position.rows r) * 16 + (11 - place)
+taking_left (Marking r l e) p = 0
+
+abbrev pub TakeAnswers : ℕ → Table → Control → TakeOp → TakeOp → Pass → Pass → Progress MarkEnd → Type 0
+TakeAnswers n table x op op' old new More = let p = caller table old in let q = caller table new in
+    IsTaking n table x op' q × (op' ≡ record op { state = op'.state }) × (q.own ≡ p.own) × (new.debts ≡ old.debts) × ((taking_exchanges op.state ≡ true) ⊎ (taking_left op'.state q < taking_left op.state p))
+TakeAnswers n table x op op' old new (Done (Marked r e)) = let p = caller table old in let q = caller table new in
+    (q.own ≡ p.own ++ Take old.number e ∷ []) × (e.time < op.limit) × (new.debts ≡ record old.debts { cut = Some (cut_debt x r e) }) × (q.cut ≡ None)
+TakeAnswers n table x op op' old new (Done (Beyond e)) = let p = caller table old in let q = caller table new in
+    (q.own ≡ p.own) × (new.debts ≡ old.debts) × MayMiss x op.limit q × (op.limit ≤ e.time) × (q.cut ≡ None) × (q.debts.cut ≡ None)
+TakeAnswers n table x op op' old new (Done Nothing) = let p = caller table old in let q = caller table new in
+    (q.own ≡ p.own) × (new.debts ≡ old.debts) × ((limit : ℕ) → MayMiss x limit q) × (q.cut ≡ None) × (q.debts.cut ≡ None)
+TakeAnswers n table x op op' old new (Done Lost) = let p = caller table old in let q = caller table new in
+    (q.own ≡ p.own) × (new.debts ≡ old.debts) × (taking_exchanges op.state ≡ true) × (q.cut ≡ None) × (q.debts.cut ≡ None)
+TakeAnswers n table x op op' old new (Done Frozen) = ⊥
+
+-- one step of it was made
+pub record TakeStepped (n : ℕ) (table : Table) (x : Control) (op op' : TakeOp) (old new : Pass) (answer : Progress MarkEnd) : Type 0 where
+  pub is : IsPassOf table new
+  pub works : Works n (taking_exchanges op.state) (caller table old) (caller table new)
+  pub turns : new.turns ≡ turns_after (taking_exchanges op.state) old.turns
+  pub number : new.number ≡ old.number
+  pub free : new.free.items ≡ old.free.items
+  pub answers : TakeAnswers n table x op op' old new answer

@@ -1,0 +1,68 @@
+//! Cutting dead rows out of a list.
+ghost use Rattle.std.specs.Prelude.{◌≡◌, ℕ};
+ghost use Rattle.crq_base.specs.declared.words.Control.{Control};
+ghost use Rattle.crq_rows.specs.Passes.{caller, IsPassOf};
+ghost use Rattle.crq_list.specs.declared.seek.Seek.TheVariants.{Load};
+ghost use Rattle.crq_list.specs.declared.parts.Spot.TheVariants.{Head};
+ghost use Rattle.crq_list.specs.Seeking.{seek_exchanges};
+ghost use Rattle.crq_list.specs.Cutting.{IsCutting, CutStepped};
+
+use crate::parts::{ListAt, Progress, Spot};
+use crate::seek::{Seek, Sought};
+use crq_base::Event;
+use crq_rows::{Pass, Table};
+
+/// How a cut ends.
+#[derive(Clone, Copy, Debug, PartialEq, Eq)]
+pub enum CutEnd {
+    /// The list was walked up to the row asked for, or to its end, and each dead row that was met is cut and retired. If
+    /// the pass owed the row asked for, it doesn't any more.
+    Clean,
+    /// A head or row was found that a migration froze, or a head of another table. Over one list this doesn't come.
+    Frozen,
+}
+
+/// Cuts dead rows out of a list, one atomic step at a time: up to a row of an event, or all of them. Each is retired before
+/// the next is cut.
+#[derive(Clone, Copy, Debug, PartialEq, Eq)]
+pub struct CutOp {
+    /// The list.
+    pub list: ListAt,
+    /// Up to which row of which event; none is the whole list.
+    pub upto: Option<(Event, u32)>,
+    /// How far it is.
+    pub seek: Seek,
+}
+
+impl CutOp {
+    /// A cut that has made no step.
+    pub fn new(list: ListAt, upto: Option<(Event, u32)>) -> CutOp
+        ensures { result ≡ record { list = list; upto = upto; seek = Load (Head list.head) } }
+    {
+        CutOp {
+            list,
+            upto,
+            seek: Seek::Load(Spot::Head(list.head)),
+        }
+    }
+
+    /// Whether the next step is an exchange.
+    pub fn exchanges(&self) -> bool
+        ensures { result ≡ seek_exchanges self.now.seek }
+    {
+        self.seek.exchanges()
+    }
+
+    /// Makes one atomic step.
+    pub fn step(&mut self, table: &Table, pass: &mut Pass) -> Progress<CutEnd>
+        requires of { IsPassOf table.now pass.old }
+        requires op { (n : ℕ) × (x : Control) × IsCutting n table.now x self.old (caller table.now pass.old) }
+        ensures { (n : ℕ) (x : Control) → IsCutting n table.now x self.old (caller table.now pass.old) → CutStepped n table.now x self.old self.new pass.old pass.new result }
+    {
+        match self.seek.step(table, pass, &self.list, &self.upto) {
+            Sought::More => Progress::More,
+            Sought::There(_) => Progress::Done(CutEnd::Clean),
+            Sought::Frozen => Progress::Done(CutEnd::Frozen),
+        }
+    }
+}

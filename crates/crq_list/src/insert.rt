@@ -1,0 +1,189 @@
+//! Inserting a row into a sorted list.
+ghost use Rattle.std.specs.Prelude.{◌≡◌, ◌<◌, ◌≤◌, ℕ};
+ghost use Rattle.crq_base.specs.declared.words.Control.{Control};
+ghost use Rattle.crq_rule.specs.ListKinds.{event_word};
+ghost use Rattle.crq_rows.specs.Passes.{caller, IsPassOf};
+ghost use Rattle.crq_list.specs.declared.insert.InsertOp.{InsertOp};
+ghost use Rattle.crq_list.specs.declared.insert.Inserting.TheVariants.{Writing, Seeking, Placing, Linking};
+ghost use Rattle.crq_list.specs.Inserting.{IsInserting, InsertStepped, insert_exchanges};
+
+use crate::parts::{Before, ListAt, Progress, Spot};
+use crate::seek::{Seek, Sought};
+use crate::steps::link_step;
+use crq_base::Event;
+use crq_rows::{Pass, Table, write_step};
+
+/// How an insertion ends.
+#[derive(Clone, Copy, Debug, PartialEq, Eq)]
+pub enum InsertEnd {
+    /// The row is linked: the event was put.
+    Linked,
+    /// A head or row was found that a migration froze, or a head of another table. Over one list this doesn't come.
+    Frozen,
+}
+
+/// How far an insertion is.
+#[derive(Clone, Copy, Debug, PartialEq, Eq)]
+pub enum Inserting {
+    /// The word at this place of the row is to be written: 1 for the twin, 2 to 5 for the event.
+    Writing(u32),
+    /// The row's place in the list is looked for.
+    Seeking(Seek),
+    /// The row's own link is to be written: it comes behind this spot.
+    Placing(Before),
+    /// The row is to be linked behind this spot.
+    Linking(Before),
+}
+
+/// The insertion of a row in hand before the first row with a greater key, one atomic step at a time. It writes the words
+/// of its row, walks to the row's place, cuts dead rows on its way, and links the row by one exchange.
+#[derive(Clone, Copy, Debug, PartialEq, Eq)]
+pub struct InsertOp {
+    /// The event's list.
+    pub list: ListAt,
+    /// The row, which is in hand.
+    pub row: u32,
+    /// The event.
+    pub event: Event,
+    /// How far it is.
+    pub state: Inserting,
+}
+
+/// The word of an event's row at a place: 1 for its twin, of which it has none, 2 for the event's time and destination, 3
+/// for its source, 4 for its number and 5 for its load.
+fn word_at(event: &Event, place: u32) -> u64
+    requires { (1 ≤ place) × (place < 6) }
+    ensures { result ≡ event_word event.now place }
+{
+    match place {
+        1 => 0,
+        2 => (u64::from(event.time) << 32) + u64::from(event.dst),
+        3 => u64::from(event.src),
+        4 => event.seq,
+        _ => event.load,
+    }
+}
+
+/// Writes the word at a place of the row: no twin, or a word of the event.
+fn write_word(
+    table: &Table,
+    pass: &mut Pass,
+    op: &InsertOp,
+    place: u32,
+) -> (Inserting, Progress<InsertEnd>)
+    requires of { IsPassOf table.now pass.old }
+    requires op { (n : ℕ) × (x : Control) × IsInserting n table.now x (record op.now { state = Writing place }) (caller table.now pass.old) }
+    ensures { (n : ℕ) (x : Control) → IsInserting n table.now x (record op.now { state = Writing place }) (caller table.now pass.old) → InsertStepped n table.now x (record op.now { state = Writing place }) (record op.now { state = result.0 }) pass.old pass.new result.1 }
+{
+    let word = word_at(&op.event, place);
+    write_step(table, pass, op.row, place, word);
+    if place < 5 {
+        (Inserting::Writing(place + 1), Progress::More)
+    } else {
+        (
+            Inserting::Seeking(Seek::Load(Spot::Head(op.list.head))),
+            Progress::More,
+        )
+    }
+}
+
+/// Makes one step of the walk to the row's place.
+fn seek_place(
+    table: &Table,
+    pass: &mut Pass,
+    op: &InsertOp,
+    seek: Seek,
+) -> (Inserting, Progress<InsertEnd>)
+    requires of { IsPassOf table.now pass.old }
+    requires op { (n : ℕ) × (x : Control) × IsInserting n table.now x (record op.now { state = Seeking seek }) (caller table.now pass.old) }
+    ensures { (n : ℕ) (x : Control) → IsInserting n table.now x (record op.now { state = Seeking seek }) (caller table.now pass.old) → InsertStepped n table.now x (record op.now { state = Seeking seek }) (record op.now { state = result.0 }) pass.old pass.new result.1 }
+{
+    let mut seek = seek;
+    match seek.step(table, pass, &op.list, &Some((op.event, op.row))) {
+        Sought::More => (Inserting::Seeking(seek), Progress::More),
+        Sought::There(before) => (Inserting::Placing(before), Progress::More),
+        Sought::Frozen => (Inserting::Seeking(seek), Progress::Done(InsertEnd::Frozen)),
+    }
+}
+
+/// Writes the row's own link: the row that is next behind the spot is to follow it.
+fn place_row(
+    table: &Table,
+    pass: &mut Pass,
+    op: &InsertOp,
+    before: Before,
+) -> (Inserting, Progress<InsertEnd>)
+    requires of { IsPassOf table.now pass.old }
+    requires op { (n : ℕ) × (x : Control) × IsInserting n table.now x (record op.now { state = Placing before }) (caller table.now pass.old) }
+    ensures { (n : ℕ) (x : Control) → IsInserting n table.now x (record op.now { state = Placing before }) (caller table.now pass.old) → InsertStepped n table.now x (record op.now { state = Placing before }) (record op.now { state = result.0 }) pass.old pass.new result.1 }
+{
+    let word = before.link.pack();
+    write_step(table, pass, op.row, 0, word);
+    (Inserting::Linking(before), Progress::More)
+}
+
+/// Links the row behind the spot, or walks the list anew where the spot's link has changed.
+fn link_row(
+    table: &Table,
+    pass: &mut Pass,
+    op: &InsertOp,
+    before: Before,
+) -> (Inserting, Progress<InsertEnd>)
+    requires of { IsPassOf table.now pass.old }
+    requires op { (n : ℕ) × (x : Control) × IsInserting n table.now x (record op.now { state = Linking before }) (caller table.now pass.old) }
+    ensures { (n : ℕ) (x : Control) → IsInserting n table.now x (record op.now { state = Linking before }) (caller table.now pass.old) → InsertStepped n table.now x (record op.now { state = Linking before }) (record op.now { state = result.0 }) pass.old pass.new result.1 }
+{
+    if link_step(table, pass, before.spot, before.link, op.row, &op.event) {
+        (
+            Inserting::Linking(before),
+            Progress::Done(InsertEnd::Linked),
+        )
+    } else {
+        (
+            Inserting::Seeking(Seek::Load(Spot::Head(op.list.head))),
+            Progress::More,
+        )
+    }
+}
+
+impl InsertOp {
+    /// An insertion that has made no step. `old` is the row of which this one is a copy: none for a put.
+    pub fn new(list: ListAt, row: u32, event: Event, old: Option<u32>) -> InsertOp
+        ensures { result ≡ record { list = list; row = row; event = event; state = Writing 1 } }
+    {
+        let _of_a_migration = old;
+        InsertOp {
+            list,
+            row,
+            event,
+            state: Inserting::Writing(1),
+        }
+    }
+
+    /// Whether the next step is an exchange.
+    pub fn exchanges(&self) -> bool
+        ensures { result ≡ insert_exchanges self.now }
+    {
+        match self.state {
+            Inserting::Writing(_) | Inserting::Placing(_) => false,
+            Inserting::Seeking(seek) => seek.exchanges(),
+            Inserting::Linking(_) => true,
+        }
+    }
+
+    /// Makes one atomic step.
+    pub fn step(&mut self, table: &Table, pass: &mut Pass) -> Progress<InsertEnd>
+        requires of { IsPassOf table.now pass.old }
+        requires op { (n : ℕ) × (x : Control) × IsInserting n table.now x self.old (caller table.now pass.old) }
+        ensures { (n : ℕ) (x : Control) → IsInserting n table.now x self.old (caller table.now pass.old) → InsertStepped n table.now x self.old self.new pass.old pass.new result }
+    {
+        let (state, answer) = match self.state {
+            Inserting::Writing(place) => write_word(table, pass, self, place),
+            Inserting::Seeking(seek) => seek_place(table, pass, self, seek),
+            Inserting::Placing(before) => place_row(table, pass, self, before),
+            Inserting::Linking(before) => link_row(table, pass, self, before),
+        };
+        self.state = state;
+        answer
+    }
+}

@@ -1,0 +1,237 @@
+//! Walking a list to a target, with dead rows cut on the way.
+ghost use Rattle.std.specs.Prelude.{◌≡◌, ◌<◌, ◌≤◌, ℕ, Bool, true, IsTrue, ◌↔◌};
+ghost use Rattle.crq_base.specs.declared.words.Control.{Control};
+ghost use Rattle.crq_rows.specs.Passes.{caller, IsPassOf};
+ghost use Rattle.crq_list.specs.declared.seek.Seek.TheVariants.{Load, Reading, Passing, Cutting, Tagging, Retiring};
+ghost use Rattle.crq_list.specs.Seeking.{IsSeeking, SeekStepped, seek_exchanges, next_seek, key_part, part_of};
+
+use crate::parts::{Before, ListAt, Spot};
+use crate::steps::{cut_step, walk_step};
+use crq_base::{Event, Link, Mark};
+use crq_rows::{Pass, Table, epoch_step, read_step, retire_step};
+
+/// Up to which row of which event the walk goes: not past its place in the order by key and row. None is the whole list.
+pub type Target = Option<(Event, u32)>;
+
+/// A walk to the place of a target in a list, one atomic step at a time. Dead rows that it meets are cut out of the list
+/// and retired, each before the next.
+#[derive(Clone, Copy, Debug, PartialEq, Eq)]
+pub enum Seek {
+    /// The link of this spot is to be loaded.
+    Load(Spot),
+    /// Of the row that was found next, this word of the event is to be read.
+    Reading(Before, u32),
+    /// The row that was found next doesn't come after the target, and its link is to be loaded.
+    Passing(Before),
+    /// That row was found dead, with this last link, and is to be cut.
+    Cutting(Before, Link),
+    /// This row was cut behind the spot, and the epoch is to be loaded.
+    Tagging(Spot, u32),
+    /// This row was cut behind the spot, and is to be retired with this tag.
+    Retiring(Spot, u32, u64),
+}
+
+/// What one step of a walk answers.
+#[derive(Clone, Copy, Debug, PartialEq, Eq)]
+pub enum Sought {
+    /// There is more to do.
+    More,
+    /// The target's place is behind this spot.
+    There(Before),
+    /// A head or row was found that a migration froze, or a head of another table.
+    Frozen,
+}
+
+/// What is to be done after a spot was passed: to read of the next row, to load its link where all of the list is walked,
+/// or nothing more where there is none.
+fn next_of(before: Before, target: &Target) -> (Seek, Sought)
+    ensures { result ≡ next_seek before target.now }
+{
+    if before.link.row == 0 {
+        return (Seek::Load(before.spot), Sought::There(before));
+    }
+    match target {
+        Some(_) => (Seek::Reading(before, 2), Sought::More),
+        None => (Seek::Passing(before), Sought::More),
+    }
+}
+
+/// Loads the link of a spot.
+fn load(
+    table: &Table,
+    pass: &mut Pass,
+    list: &ListAt,
+    target: &Target,
+    spot: Spot,
+) -> (Seek, Sought)
+    requires of { IsPassOf table.now pass.old }
+    requires seek { (n : ℕ) × (x : Control) × IsSeeking n table.now x list.now target.now (Load spot) (caller table.now pass.old) }
+    ensures { (n : ℕ) (x : Control) → IsSeeking n table.now x list.now target.now (Load spot) (caller table.now pass.old) → SeekStepped n table.now x list.now target.now (Load spot) result.0 pass.old pass.new result.1 }
+{
+    let link = walk_step(table, pass, spot, false);
+    match link.mark {
+        Mark::Val => next_of(Before { spot, link }, target),
+        Mark::Del => (Seek::Load(Spot::Head(list.head)), Sought::More),
+        _ => (Seek::Load(spot), Sought::Frozen),
+    }
+}
+
+/// The part of an event's key that stands at this place of its row: 2 for its time, 3 for its source and 4 for its number.
+fn key_part(event: &Event, place: u32) -> u64
+    ensures { result ≡ key_part event.now place }
+{
+    match place {
+        2 => event.time as u64,
+        3 => event.src as u64,
+        _ => event.seq,
+    }
+}
+
+/// That part of the word at the place.
+fn part_of(word: u64, place: u32) -> u64
+    ensures { result ≡ part_of word place }
+{
+    if place == 2 { word >> 32 } else { word }
+}
+
+/// Reads a word of the next row's event, and compares it with the target's.
+fn read(
+    table: &Table,
+    pass: &mut Pass,
+    list: &ListAt,
+    target: &Target,
+    before: Before,
+    place: u32,
+) -> (Seek, Sought)
+    requires of { IsPassOf table.now pass.old }
+    requires seek { (n : ℕ) × (x : Control) × IsSeeking n table.now x list.now target.now (Reading before place) (caller table.now pass.old) }
+    ensures { (n : ℕ) (x : Control) → IsSeeking n table.now x list.now target.now (Reading before place) (caller table.now pass.old) → SeekStepped n table.now x list.now target.now (Reading before place) result.0 pass.old pass.new result.1 }
+{
+    let Some((event, row)) = target else {
+        unreachable!()
+    };
+    let found = part_of(read_step(table, pass, before.link.row, place), place);
+    let wanted = key_part(event, place);
+    if found < wanted {
+        return (Seek::Passing(before), Sought::More);
+    }
+    if found > wanted {
+        return (Seek::Load(before.spot), Sought::There(before));
+    }
+    if place < 4 {
+        return (Seek::Reading(before, place + 1), Sought::More);
+    }
+    if before.link.row <= *row {
+        return (Seek::Passing(before), Sought::More);
+    }
+    (Seek::Load(before.spot), Sought::There(before))
+}
+
+/// Loads the link of the next row, which is passed where it is present.
+fn pass_row(
+    table: &Table,
+    pass: &mut Pass,
+    list: &ListAt,
+    target: &Target,
+    before: Before,
+) -> (Seek, Sought)
+    requires of { IsPassOf table.now pass.old }
+    requires seek { (n : ℕ) × (x : Control) × IsSeeking n table.now x list.now target.now (Passing before) (caller table.now pass.old) }
+    ensures { (n : ℕ) (x : Control) → IsSeeking n table.now x list.now target.now (Passing before) (caller table.now pass.old) → SeekStepped n table.now x list.now target.now (Passing before) result.0 pass.old pass.new result.1 }
+{
+    let spot = Spot::Row(before.link.row);
+    let link = walk_step(table, pass, spot, false);
+    match link.mark {
+        Mark::Val => next_of(Before { spot, link }, target),
+        Mark::Del => (Seek::Cutting(before, link), Sought::More),
+        _ => (Seek::Load(spot), Sought::Frozen),
+    }
+}
+
+/// Cuts the next row, which is dead.
+fn cut_row(
+    table: &Table,
+    pass: &mut Pass,
+    list: &ListAt,
+    target: &Target,
+    before: Before,
+    last: Link,
+) -> (Seek, Sought)
+    requires of { IsPassOf table.now pass.old }
+    requires seek { (n : ℕ) × (x : Control) × IsSeeking n table.now x list.now target.now (Cutting before last) (caller table.now pass.old) }
+    ensures { (n : ℕ) (x : Control) → IsSeeking n table.now x list.now target.now (Cutting before last) (caller table.now pass.old) → SeekStepped n table.now x list.now target.now (Cutting before last) result.0 pass.old pass.new result.1 }
+{
+    if cut_step(table, pass, before.spot, before.link, last) {
+        (Seek::Tagging(before.spot, before.link.row), Sought::More)
+    } else {
+        (Seek::Load(Spot::Head(list.head)), Sought::More)
+    }
+}
+
+/// Loads the epoch, with which the row that was cut is to be retired.
+fn tag(
+    table: &Table,
+    pass: &mut Pass,
+    list: &ListAt,
+    target: &Target,
+    spot: Spot,
+    row: u32,
+) -> (Seek, Sought)
+    requires of { IsPassOf table.now pass.old }
+    requires seek { (n : ℕ) × (x : Control) × IsSeeking n table.now x list.now target.now (Tagging spot row) (caller table.now pass.old) }
+    ensures { (n : ℕ) (x : Control) → IsSeeking n table.now x list.now target.now (Tagging spot row) (caller table.now pass.old) → SeekStepped n table.now x list.now target.now (Tagging spot row) result.0 pass.old pass.new result.1 }
+{
+    let epoch = epoch_step(table, pass);
+    (Seek::Retiring(spot, row, epoch), Sought::More)
+}
+
+/// Retires the row that was cut, and goes on behind the spot.
+fn retire(
+    table: &Table,
+    pass: &mut Pass,
+    list: &ListAt,
+    target: &Target,
+    spot: Spot,
+    row: u32,
+    epoch: u64,
+) -> (Seek, Sought)
+    requires of { IsPassOf table.now pass.old }
+    requires seek { (n : ℕ) × (x : Control) × IsSeeking n table.now x list.now target.now (Retiring spot row epoch) (caller table.now pass.old) }
+    ensures { (n : ℕ) (x : Control) → IsSeeking n table.now x list.now target.now (Retiring spot row epoch) (caller table.now pass.old) → SeekStepped n table.now x list.now target.now (Retiring spot row epoch) result.0 pass.old pass.new result.1 }
+{
+    retire_step(table, pass, row, epoch);
+    (Seek::Load(spot), Sought::More)
+}
+
+impl Seek {
+    /// Whether the next step is an exchange.
+    pub(crate) fn exchanges(&self) -> bool
+        ensures { result ≡ seek_exchanges self.now }
+    {
+        matches!(self, Seek::Cutting(_, _))
+    }
+
+    /// Makes one atomic step.
+    pub(crate) fn step(
+        &mut self,
+        table: &Table,
+        pass: &mut Pass,
+        list: &ListAt,
+        target: &Target,
+    ) -> Sought
+        requires of { IsPassOf table.now pass.old }
+        requires seek { (n : ℕ) × (x : Control) × IsSeeking n table.now x list.now target.now self.old (caller table.now pass.old) }
+        ensures { (n : ℕ) (x : Control) → IsSeeking n table.now x list.now target.now self.old (caller table.now pass.old) → SeekStepped n table.now x list.now target.now self.old self.new pass.old pass.new result }
+    {
+        let (seek, answer) = match *self {
+            Seek::Load(spot) => load(table, pass, list, target, spot),
+            Seek::Reading(before, place) => read(table, pass, list, target, before, place),
+            Seek::Passing(before) => pass_row(table, pass, list, target, before),
+            Seek::Cutting(before, last) => cut_row(table, pass, list, target, before, last),
+            Seek::Tagging(spot, row) => tag(table, pass, list, target, spot, row),
+            Seek::Retiring(spot, row, epoch) => retire(table, pass, list, target, spot, row, epoch),
+        };
+        *self = seek;
+        answer
+    }
+}

@@ -1,0 +1,208 @@
+//! One function for each kind of step on lists.
+ghost use Rattle.std.specs.Prelude.{◌≡◌, Some, Bool};
+ghost use Rattle.std.specs.VecDeque.{deque_capacity};
+ghost use Rattle.crq_base.specs.declared.kinds.StepKind.TheVariants.{Begin, ControlLoad, Miss};
+ghost use Rattle.crq_base.specs.declared.words.Control.{Control};
+ghost use Rattle.crq_base.specs.declared.words.Mark.TheVariants.{Val};
+ghost use Rattle.crq_base.specs.Words.{IsLink, IsControl};
+ghost use Rattle.crq_rule.specs.Parts.{IsOn};
+ghost use Rattle.crq_rule.specs.Places.{index, IsPlace};
+ghost use Rattle.crq_rule.specs.Ranks.{at_row, cell_place, head_of};
+ghost use Rattle.crq_rule.specs.ListKinds.{MayWalk, MaySeek, MayLink, MayMark, MayCut, MayMiss, begins, misses, loads_control, unhanded};
+ghost use Rattle.crq_rows.specs.Passes.{caller, IsPassOf};
+ghost use Rattle.crq_list.specs.Spots.{cell};
+ghost use Rattle.crq_list.specs.Swaps.{Saw, LinkSwapped, MarkSwapped, CutSwapped, Controlled};
+
+use crate::parts::Spot;
+use crq_base::{Control, Event, Link, Mark};
+use crq_rows::{Pass, Table, exchange_as, exchange_seated, load_turning};
+use crq_rule::CutDebt;
+use std::collections::VecDeque;
+use std::marker::Brand;
+
+/// The word of the link that stands at this spot.
+fn word_of(table: &Table, spot: Spot) -> usize
+    requires { IsPlace table.now.start.layout (cell_place (cell spot)) }
+    ensures { result ≡ index table.now.start.layout (cell_place (cell spot)) }
+{
+    match spot {
+        Spot::Head(head) => table.start.layout.head(head as usize),
+        Spot::Row(row) => table.start.layout.row_word(row, 0),
+    }
+}
+
+/// Loads the link of a head, or of a row on which the pass stands. A take says that it seeks a present row.
+pub(crate) fn walk_step(table: &Table, pass: &mut Pass, spot: Spot, seeks: bool) -> Link
+    requires of { IsPassOf table.now pass.old }
+    requires on { IsOn (caller table.now pass.old).guard }
+    requires may { MayWalk (caller table.now pass.old).position.rows (cell spot) }
+    requires seek { MaySeek (caller table.now pass.old).own (caller table.now pass.old).walk (cell spot) seeks }
+    ensures { Saw table.now pass.old pass.new (cell spot) seeks result }
+{
+    let word = word_of(table, spot);
+    let found = load_turning::<Brand, (Spot, bool)>(table, pass, word, &(spot, seeks));
+    match Link::unpack(found) {
+        Some(link) => link,
+        None => unreachable!(),
+    }
+}
+
+/// Links a row in hand behind the spot, where its link is still this one, and answers whether it was.
+pub(crate) fn link_step(
+    table: &Table,
+    pass: &mut Pass,
+    spot: Spot,
+    link: Link,
+    row: u32,
+    event: &Event,
+) -> bool
+    requires of { IsPassOf table.now pass.old }
+    requires may { (x : Control) × MayLink table.now.start.layout.workers x (cell spot) link row event.now (caller table.now pass.old) }
+    ensures { LinkSwapped table.now pass.old pass.new (cell spot) link row event.now result }
+{
+    let word = word_of(table, spot);
+    let old = link.pack();
+    let new = Link { row, ..link }.pack();
+    let found = exchange_seated::<Brand, (Link, u32, Event)>(
+        table,
+        pass,
+        word,
+        old,
+        new,
+        &(link, row, *event),
+    );
+    let won = found == old;
+    if won {
+        forget(&mut pass.free, row);
+    }
+    won
+}
+
+/// Takes a row out of the free ones, where it stands first.
+fn forget(free: &mut VecDeque<u32>, row: u32)
+    ensures items { free.new.items ≡ unhanded row free.old.items }
+    ensures room { deque_capacity free.new ≡ deque_capacity free.old }
+{
+    for at in 0..free.len() {
+        if free[at] == row {
+            free.remove(at);
+            return;
+        }
+    }
+}
+
+/// Marks the row at which the pass's walk stands dead, where its link is still this one, and answers whether it was.
+pub(crate) fn mark_step(
+    table: &Table,
+    pass: &mut Pass,
+    control: &Control,
+    row: u32,
+    link: Link,
+    event: &Event,
+) -> bool
+    requires of { IsPassOf table.now pass.old }
+    requires bits { IsLink link }
+    requires present { link.mark ≡ Val }
+    requires may { MayMark control.now row event.now (caller table.now pass.old) }
+    requires free { pass.old.debts.cut ≡ None }
+    ensures { MarkSwapped table.now pass.old pass.new (at_row row) link control.now row event.now result }
+{
+    let word = word_of(table, Spot::Row(row));
+    let old = link.pack();
+    let dead = Link {
+        mark: Mark::Del,
+        ..link
+    };
+    let found = exchange_seated::<Brand, (Link, Control, u32, Event)>(
+        table,
+        pass,
+        word,
+        old,
+        dead.pack(),
+        &(link, *control, row, *event),
+    );
+    let won = found == old;
+    if won {
+        pass.debts.cut = Some(CutDebt {
+            generation: control.generation,
+            head: head_of(control, event),
+            event: *event,
+            row,
+        });
+    }
+    won
+}
+
+/// The list of an event in the table with this control word, numbered over both banks.
+pub fn head_of(control: &Control, event: &Event) -> u32
+    requires { IsControl control.now }
+    ensures { result ≡ head_of control.now event.now }
+{
+    control.generation % 2 * 32768 + (event.time >> control.shift) % (1 << control.log)
+}
+
+/// Cuts the dead row that the link names out of the list, where the spot's link is still that one, and answers whether it
+/// was. `last` is the dead row's own link.
+pub(crate) fn cut_step(table: &Table, pass: &mut Pass, spot: Spot, link: Link, last: Link) -> bool
+    requires of { IsPassOf table.now pass.old }
+    requires bits { IsLink link }
+    requires present { link.mark ≡ Val }
+    requires may { MayCut (cell spot) link.row last (caller table.now pass.old) }
+    ensures { CutSwapped table.now pass.old pass.new (cell spot) link last result }
+{
+    let word = word_of(table, spot);
+    let old = link.pack();
+    let new = Link {
+        row: last.row,
+        ..link
+    };
+    let found = exchange_as::<Brand, (Link, Link)>(
+        table,
+        pass,
+        word,
+        old,
+        new.pack(),
+        &(link, last),
+    );
+    found == old
+}
+
+/// Loads the control word.
+pub fn control_step(table: &Table, pass: &mut Pass) -> Control
+    requires of { IsPassOf table.now pass.old }
+    ensures { Controlled ControlLoad table.now pass.old pass.new loads_control result }
+{
+    let word = table.start.layout.control();
+    let found = load_turning::<Brand, ()>(table, pass, word, &());
+    match Control::unpack(found) {
+        Some(control) => control,
+        None => unreachable!(),
+    }
+}
+
+/// Begins a call: it loads the control word, and adds a Begin to the history.
+pub fn begin_step(table: &Table, pass: &mut Pass) -> Control
+    requires of { IsPassOf table.now pass.old }
+    ensures { Controlled Begin table.now pass.old pass.new begins result }
+{
+    let word = table.start.layout.control();
+    let found = load_turning::<Brand, ()>(table, pass, word, &());
+    match Control::unpack(found) {
+        Some(control) => control,
+        None => unreachable!(),
+    }
+}
+
+/// Ends a take that found no event below the limit: it loads the control word, and adds a Miss to the history.
+pub fn miss_step(table: &Table, pass: &mut Pass, limit: u64) -> Control
+    requires of { IsPassOf table.now pass.old }
+    requires may { (x : Control) × MayMiss x limit (caller table.now pass.old) }
+    ensures { Controlled Miss table.now pass.old pass.new (misses limit) result }
+{
+    let word = table.start.layout.control();
+    let found = load_turning::<Brand, u64>(table, pass, word, &limit);
+    match Control::unpack(found) {
+        Some(control) => control,
+        None => unreachable!(),
+    }
+}

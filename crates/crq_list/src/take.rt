@@ -1,0 +1,221 @@
+//! Taking the first present event of a list.
+ghost use Rattle.std.specs.Prelude.{◌≡◌, ◌⊎◌, ◌<◌, ◌≤◌, ◌+◌, ◌*◌, ◌%◌, ℕ, None};
+ghost use Rattle.crq_base.specs.declared.event.Event.{Event};
+ghost use Rattle.crq_base.specs.declared.words.Control.{Control};
+ghost use Rattle.crq_rows.specs.Passes.{caller, IsPassOf};
+ghost use Rattle.crq_rule.specs.ListKinds.{event_word};
+ghost use Rattle.crq_rule.specs.Parts.{IsEvent};
+ghost use Rattle.crq_list.specs.declared.parts.Progress.TheVariants.{More, Done};
+ghost use Rattle.crq_list.specs.declared.take.MarkEnd.TheVariants.{Nothing};
+ghost use Rattle.crq_list.specs.declared.take.Taking.TheVariants.{Load, Walking, Reading, Marking};
+ghost use Rattle.crq_list.specs.Taking.{IsRead, IsTaking, TakeStepped, taking_exchanges};
+
+use crate::parts::{Place, Progress, Spot};
+use crate::steps::{mark_step, walk_step};
+use crq_base::{Control, Event, Link, Mark};
+use crq_rows::{Pass, Table, read_step};
+
+/// How a take from a list ends.
+#[derive(Clone, Copy, Debug, PartialEq, Eq)]
+pub enum MarkEnd {
+    /// This row is marked dead: its event was taken.
+    Marked(u32, Event),
+    /// The first present event isn't below the limit. It is this one.
+    Beyond(Event),
+    /// The list has no present event.
+    Nothing,
+    /// The first present row has changed, and nothing was taken.
+    Lost,
+    /// A head or row was found that a migration froze, or a head of another table. Over one list this doesn't come.
+    Frozen,
+}
+
+/// How far a take is.
+#[derive(Clone, Copy, Debug, PartialEq, Eq)]
+pub enum Taking {
+    /// The list's head is to be loaded.
+    Load,
+    /// The link of this row is to be loaded.
+    Walking(u32),
+    /// This row was found present, with this link, and this word of its event is to be read. The words before it are read.
+    Reading(u32, Link, u32, Event),
+    /// This row, with this link and this event, is to be marked.
+    Marking(u32, Link, Event),
+}
+
+/// A take of the first present event of a list that is below a limit, one atomic step at a time. It goes past dead rows
+/// without cutting them, and marks the row that it takes by one exchange.
+#[derive(Clone, Copy, Debug, PartialEq, Eq)]
+pub struct TakeOp {
+    /// The control word under which the list is open.
+    pub found: Control,
+    /// The list's head, numbered over both banks.
+    pub head: u32,
+    /// The time from which on nothing is taken.
+    pub limit: u64,
+    /// How far it is.
+    pub state: Taking,
+}
+
+/// How many heads a bank has.
+const BANK: u32 = 32768;
+
+/// An event of which no word was read.
+const UNREAD: Event = Event {
+    time: 0,
+    dst: 0,
+    src: 0,
+    seq: 0,
+    load: 0,
+};
+
+/// What comes after a head or row that was passed: the row that its link names, or the end of the list.
+fn onward(link: Link) -> (Taking, Progress<MarkEnd>)
+    ensures { ((link.row ≡ 0) × (result ≡ (Load, Done Nothing))) ⊎ ((0 < link.row) × (result ≡ (Walking link.row, More))) }
+{
+    if link.row == 0 {
+        (Taking::Load, Progress::Done(MarkEnd::Nothing))
+    } else {
+        (Taking::Walking(link.row), Progress::More)
+    }
+}
+
+/// The event with the word that was read at this place of its row.
+fn with_word(event: Event, place: u32, word: u64) -> Event
+    requires place { (2 ≤ place) × (place < 6) }
+    requires word { (e : Event) × IsEvent e × (word ≡ event_word e place) }
+    ensures { (e : Event) → IsEvent e → word ≡ event_word e place → IsRead place event e → IsRead (place + 1) result e × (place ≡ 5 → result ≡ e) }
+{
+    match place {
+        2 => Event {
+            time: (word >> 32) as u32,
+            dst: (word % (1 << 32)) as u32,
+            ..event
+        },
+        3 => Event {
+            src: word as u32,
+            ..event
+        },
+        4 => Event { seq: word, ..event },
+        _ => Event {
+            load: word,
+            ..event
+        },
+    }
+}
+
+impl TakeOp {
+    /// A take that has made no step, of the table that has this steady control word. Over one list, `place` names that
+    /// list, whatever its number.
+    pub fn new(found: Control, place: Place, limit: u64) -> TakeOp
+        ensures { result ≡ record { found = found; head = found.generation % 2 * 32768; limit = limit; state = Load } }
+    {
+        let _one_list = place;
+        TakeOp {
+            found,
+            head: found.generation % 2 * BANK,
+            limit,
+            state: Taking::Load,
+        }
+    }
+
+    /// Whether the next step is an exchange.
+    pub fn exchanges(&self) -> bool
+        ensures { result ≡ taking_exchanges self.now.state }
+    {
+        matches!(self.state, Taking::Marking(_, _, _))
+    }
+
+    /// Loads the head.
+    fn load(&self, table: &Table, pass: &mut Pass) -> (Taking, Progress<MarkEnd>)
+        requires of { IsPassOf table.now pass.old }
+        requires op { (n : ℕ) × (x : Control) × IsTaking n table.now x (record self.now { state = Load }) (caller table.now pass.old) }
+        ensures { (n : ℕ) (x : Control) → IsTaking n table.now x (record self.now { state = Load }) (caller table.now pass.old) → TakeStepped n table.now x (record self.now { state = Load }) (record self.now { state = result.0 }) pass.old pass.new result.1 }
+    {
+        let link = walk_step(table, pass, Spot::Head(self.head), true);
+        match link.mark {
+            Mark::Val => onward(link),
+            _ => (Taking::Load, Progress::Done(MarkEnd::Frozen)),
+        }
+    }
+
+    /// Loads the link of the row at which the walk is, and goes past it where it is dead.
+    fn walk(&self, table: &Table, pass: &mut Pass, row: u32) -> (Taking, Progress<MarkEnd>)
+        requires of { IsPassOf table.now pass.old }
+        requires op { (n : ℕ) × (x : Control) × IsTaking n table.now x (record self.now { state = Walking row }) (caller table.now pass.old) }
+        ensures { (n : ℕ) (x : Control) → IsTaking n table.now x (record self.now { state = Walking row }) (caller table.now pass.old) → TakeStepped n table.now x (record self.now { state = Walking row }) (record self.now { state = result.0 }) pass.old pass.new result.1 }
+    {
+        let link = walk_step(table, pass, Spot::Row(row), true);
+        match link.mark {
+            Mark::Val => (Taking::Reading(row, link, 2, UNREAD), Progress::More),
+            Mark::Inv | Mark::Del => onward(link),
+            Mark::Mov => (Taking::Load, Progress::Done(MarkEnd::Frozen)),
+        }
+    }
+
+    /// Reads one word of the present row's event.
+    fn read(
+        &self,
+        table: &Table,
+        pass: &mut Pass,
+        row: u32,
+        link: Link,
+        place: u32,
+        event: Event,
+    ) -> (Taking, Progress<MarkEnd>)
+        requires of { IsPassOf table.now pass.old }
+        requires op { (n : ℕ) × (x : Control) × IsTaking n table.now x (record self.now { state = Reading row link place event }) (caller table.now pass.old) }
+        ensures { (n : ℕ) (x : Control) → IsTaking n table.now x (record self.now { state = Reading row link place event }) (caller table.now pass.old) → TakeStepped n table.now x (record self.now { state = Reading row link place event }) (record self.now { state = result.0 }) pass.old pass.new result.1 }
+    {
+        let word = read_step(table, pass, row, place);
+        let event = with_word(event, place, word);
+        if place < 5 {
+            return (Taking::Reading(row, link, place + 1, event), Progress::More);
+        }
+        if u64::from(event.time) >= self.limit {
+            return (Taking::Load, Progress::Done(MarkEnd::Beyond(event)));
+        }
+        (Taking::Marking(row, link, event), Progress::More)
+    }
+
+    /// Marks the present row.
+    fn mark(
+        &self,
+        table: &Table,
+        pass: &mut Pass,
+        row: u32,
+        link: Link,
+        event: Event,
+    ) -> (Taking, Progress<MarkEnd>)
+        requires of { IsPassOf table.now pass.old }
+        requires free { pass.old.debts.cut ≡ None }
+        requires op { (n : ℕ) × (x : Control) × IsTaking n table.now x (record self.now { state = Marking row link event }) (caller table.now pass.old) }
+        ensures { (n : ℕ) (x : Control) → IsTaking n table.now x (record self.now { state = Marking row link event }) (caller table.now pass.old) → TakeStepped n table.now x (record self.now { state = Marking row link event }) (record self.now { state = result.0 }) pass.old pass.new result.1 }
+    {
+        let end = if mark_step(table, pass, &self.found, row, link, &event) {
+            MarkEnd::Marked(row, event)
+        } else {
+            MarkEnd::Lost
+        };
+        (Taking::Load, Progress::Done(end))
+    }
+
+    /// Makes one atomic step.
+    pub fn step(&mut self, table: &Table, pass: &mut Pass) -> Progress<MarkEnd>
+        requires of { IsPassOf table.now pass.old }
+        requires free { pass.old.debts.cut ≡ None }
+        requires op { (n : ℕ) × (x : Control) × IsTaking n table.now x self.old (caller table.now pass.old) }
+        ensures { (n : ℕ) (x : Control) → IsTaking n table.now x self.old (caller table.now pass.old) → TakeStepped n table.now x self.old self.new pass.old pass.new result }
+    {
+        let (state, answer) = match self.state {
+            Taking::Load => self.load(table, pass),
+            Taking::Walking(row) => self.walk(table, pass, row),
+            Taking::Reading(row, link, place, event) => self.read(
+                table, pass, row, link, place, event,
+            ),
+            Taking::Marking(row, link, event) => self.mark(table, pass, row, link, event),
+        };
+        self.state = state;
+        answer
+    }
+}
