@@ -1,0 +1,109 @@
+-- The operations of a call: what they begin with, and what the stage made of one leaves.
+use Rattle.std.proofs.Common.{◌≡◌, ⊎_elim, ℕ, ◌*◌, ◌%◌, ◌≤◌, length, Some, None, Ok, Err, refl, sym, ap, ◌∙◌, subst, arith}
+use Rattle.crq_base.specs.declared.event.Event.{Event}
+use Rattle.crq_base.specs.declared.words.Control.{Control}
+use Rattle.crq_base.specs.declared.words.Link.{Link}
+use Rattle.crq_rule.specs.declared.debts.CutDebt.{CutDebt}
+use Rattle.crq_rule.specs.declared.debts.Debts.{Debts}
+use Rattle.crq_rule.specs.declared.pass.Pass.{Pass}
+use Rattle.crq_rule.specs.declared.pass.Table.{Table}
+use Rattle.crq_rule.specs.Lists.{In}
+use Rattle.crq_rule.specs.Parts.{IsEvent}
+use Rattle.crq_rule.specs.Places.{IsHead}
+use Rattle.crq_rule.specs.Ranks.{head_of, IsOpen}
+use Rattle.crq_rule.specs.HistoryParts.{EndsInBegin}
+use Rattle.crq_rule.specs.ListKinds.{IsFresh}
+use Rattle.crq_rows.specs.Passes.{caller, IsPassOf}
+use Rattle.crq_list.specs.declared.parts.ListAt.{ListAt}
+use Rattle.crq_list.specs.declared.parts.Spot.TheVariants.{Head}
+use Rattle.crq_list.specs.declared.seek.Seek.TheVariants.{Load}
+use Rattle.crq_list.specs.declared.cut.CutOp.{CutOp}
+use Rattle.crq_list.specs.declared.insert.InsertOp.{InsertOp}
+use Rattle.crq_list.specs.declared.insert.Inserting.TheVariants.{Writing}
+use Rattle.crq_list.specs.declared.take.TakeOp.{TakeOp}
+use Rattle.crq_list.specs.declared.take.Taking.TheVariants.{Load as LoadHead, Marking}
+use Rattle.crq_list.specs.Spots.{IsListOf}
+use Rattle.crq_list.specs.Cutting.{IsCutting}
+use Rattle.crq_list.specs.Inserting.{IsInserting}
+use Rattle.crq_list.specs.Taking.{IsTaking}
+use Rattle.crq_queue.specs.declared.runs.Spent.{Spent}
+use Rattle.crq_queue.specs.Runs.{IsInside}
+use Rattle.crq_queue.specs.Parts.{CutRan}
+use Rattle.crq_queue.specs.Stages.{CutFinished}
+use Rattle.crq_queue.proofs.CallSteps.{head_open, first_open, is_uncut, uncut_ran}
+
+module _ {table : Table} {x : Control} {pass : Pass} (of : IsPassOf table pass) (inside : IsInside table x pass) where
+  event_list : (list : ListAt) (e : Event) → list.generation ≡ x.generation → list.head ≡ head_of x e → IsListOf x list (caller table pass)
+  event_list list e generation head = let heads = head_open x e (of.lawful.controlled x inside.control).0 in record {
+    control = inside.control;
+    generation = generation;
+    is_head = subst IsHead (sym head) heads.0;
+    opened = subst (IsOpen x) (sym head) heads.1;
+  }
+
+  -- a cut up to a row of an event
+  pub may_cut : {n : ℕ} (op : CutOp) (list : ListAt) (e : Event) (r : ℕ) → n ≤ length (caller table pass).made → (list.generation ≡ x.generation) × (list.head ≡ head_of x e)
+      → op ≡ record { list = list; upto = Some (e, r); seek = Load (Head list.head) } → IsCutting n table x op (caller table pass)
+  may_cut {n} op list e r counted names is = subst (λ op. IsCutting n table x op (caller table pass)) (sym is) record {
+    counted = counted;
+    on = inside.on;
+    list_is = event_list list e names.0 names.1;
+    target_is = sym names.1;
+    at = (inside.uncut, refl);
+  }
+
+  -- an insertion of an event in a row in hand
+  pub may_insert : {n : ℕ} (op : InsertOp) (list : ListAt) (e : Event) (r : ℕ) → n ≤ length (caller table pass).made → (list.generation ≡ x.generation) × (list.head ≡ head_of x e) → IsEvent op.event → In r (caller table pass).hand
+      → IsFresh table.start.layout.workers (caller table pass).deal.history (caller table pass).own (caller table pass).deal.span (caller table pass).number e
+      → op ≡ record { list = list; row = r; event = e; state = Writing 1 } → IsInserting n table x op (caller table pass)
+  may_insert {n} op list e r counted names event held fresh is = subst (λ op. IsInserting n table x op (caller table pass)) (sym is) record {
+    counted = counted;
+    on = inside.on;
+    list_is = event_list list e names.0 names.1;
+    of_list = sym names.1;
+    held = held;
+    event = subst IsEvent (ap (λ (o : InsertOp). o.event) is) event;
+    fresh = fresh;
+    at = (inside.uncut, omega arith, omega arith, (λ b. absurd (omega arith), λ place low high _. absurd (omega arith)));
+  }
+
+  not_marking : {r : ℕ} {l : Link} {e : Event} → LoadHead ≡ Marking r l e → ⊥
+  not_marking is = cc
+
+  -- a take from the one list of the table
+  pub may_take : {n : ℕ} (op : TakeOp) (limit : ℕ) → n ≤ length (caller table pass).made → x.log ≡ 0 → EndsInBegin (caller table pass).own → pass.debts.cut ≡ None
+      → op ≡ record { found = x; head = x.generation % 2 * 32768; limit = limit; state = LoadHead } → IsTaking n table x op (caller table pass)
+  may_take {n} op limit counted one began free is = let heads = first_open x (x.generation % 2 * 32768) refl in subst (λ op. IsTaking n table x op (caller table pass)) (sym is) record {
+    counted = counted;
+    on = inside.on;
+    began = began;
+    control = inside.control;
+    one = one;
+    is_head = heads.0;
+    opened = heads.1;
+    control_is = refl;
+    uncut = inside.uncut;
+    free = ⊎_elim (λ q. q) (λ q. q ∙ free) of.debts.cut;
+    below = λ r l e is. absurd (not_marking is);
+    at = tt;
+  }
+
+-- The dead row that was owed is cut
+
+module _ {table : Table} {n budget : ℕ} {x : Control} {op : CutOp} {old mid : Pass} (d : CutDebt) where
+  -- it isn't known as owed any more
+  cut_known : CutRan table n budget x op old mid (Ok tt) → old.debts.cut ≡ Some d → op.upto ≡ Some (d.event, d.row) → op.list.head ≡ head_of x d.event → (caller table mid).debts.cut ≡ None
+  cut_known c owes upto head = ⊎_elim (λ q. q) (λ q. let known : (caller table mid).debts.cut ≡ Some d = q ∙ (ap (λ (d : Debts). d.cut) c.debts ∙ owes) in
+      absurd (c.ended d upto (c.ran.is.lawful.owed_at d x known c.inside.control ∙ sym head) known)) c.ran.is.debts.cut
+
+  pub cut_finished : {u : Unit {0}} → CutRan table n budget x op old mid (Ok u) → old.debts.cut ≡ Some d → op.upto ≡ Some (d.event, d.row) → op.list.head ≡ head_of x d.event
+      → CutFinished table n budget x old (record mid { debts = record mid.debts { cut = None } }) (Ok tt)
+  cut_finished c owes upto head = let of = is_uncut c.ran.is (cut_known c owes upto head) in record {
+    ran = uncut_ran c.ran of;
+    inside = record { on = c.inside.on; uncut = c.inside.uncut; control = c.inside.control };
+    free = c.free;
+    finished = refl;
+  }
+
+pub cut_unfinished : {table : Table} {n budget : ℕ} {x : Control} {op : CutOp} {old new : Pass} {s t : Spent} → CutRan table n budget x op old new (Err s) → CutFinished table n budget x old new (Err t)
+cut_unfinished c = record { ran = c.ran; inside = c.inside; free = c.free; finished = c.ended }

@@ -1,0 +1,205 @@
+-- The stages of a call, each made of parts.
+use Rattle.std.proofs.Common.{◌≡◌, inl, ℕ, ◌*◌, ◌%◌, ◌<◌, ◌≤◌, true, List, [], ◌∷◌, length, Option, Some, None, Result, Ok, Err, get_or, refl, sym, ap, ◌∙◌, subst, arith}
+use Rattle.std.specs.Option.{is_some}
+use Rattle.std.proofs.lemmas.Bool.{false≢true}
+use Rattle.std.proofs.lemmas.List.{append-nil}
+use Rattle.crq_base.specs.declared.entry.Entry.{Entry}
+use Rattle.crq_base.specs.declared.entry.Entry.TheVariants.{Take, Miss}
+use Rattle.crq_base.specs.declared.answers.Refusal.{Refusal}
+use Rattle.crq_base.specs.declared.answers.Refusal.TheVariants.{Again, Held, Rows}
+use Rattle.crq_base.specs.declared.holder.Holder.{Holder}
+use Rattle.crq_base.specs.declared.event.Event.{Event}
+use Rattle.crq_base.specs.declared.kinds.StepKind.TheVariants.{ControlLoad, Miss as MissKind}
+use Rattle.crq_base.specs.declared.words.Control.{Control}
+use Rattle.crq_rule.specs.declared.debts.CutDebt.{CutDebt}
+use Rattle.crq_rule.specs.declared.debts.Debts.{Debts}
+use Rattle.crq_rule.specs.declared.pass.Pass.{Pass}
+use Rattle.crq_rule.specs.declared.pass.Table.{Table}
+use Rattle.crq_rule.specs.declared.view.Deal.{Deal}
+use Rattle.crq_rule.specs.Lists.{In}
+use Rattle.crq_rule.specs.Parts.{IsEvent}
+use Rattle.crq_rule.specs.Ranks.{head_of}
+use Rattle.crq_rule.specs.HistoryParts.{EndsInBegin}
+use Rattle.crq_rule.specs.ListKinds.{IsFresh, MayMiss, loads_control, misses, put_entries}
+use Rattle.crq_rows.specs.declared.recover.Recover.{Recover}
+use Rattle.crq_rows.specs.declared.recover.Recover.TheVariants.{Held as IsHeld, Rows as NoRows}
+use Rattle.crq_rows.specs.Passes.{caller, IsPassOf}
+use Rattle.crq_list.specs.declared.parts.ListAt.{ListAt}
+use Rattle.crq_list.specs.declared.insert.InsertOp.{InsertOp}
+use Rattle.crq_list.specs.declared.insert.Inserting.TheVariants.{Writing}
+use Rattle.crq_list.specs.declared.take.TakeOp.{TakeOp}
+use Rattle.crq_list.specs.declared.take.MarkEnd.{MarkEnd}
+use Rattle.crq_list.specs.declared.take.MarkEnd.TheVariants.{Marked, Beyond, Nothing, Lost, Frozen}
+use Rattle.crq_list.specs.declared.take.Taking.TheVariants.{Load as LoadHead}
+use Rattle.crq_list.specs.Inserting.{IsInserting}
+use Rattle.crq_list.specs.Taking.{IsTaking}
+use Rattle.crq_list.specs.Swaps.{Controlled}
+use Rattle.crq_queue.specs.declared.runs.Spent.{Spent}
+use Rattle.crq_queue.specs.Wholes.{IsResting}
+use Rattle.crq_queue.specs.Runs.{Ran, RanTicks, MayRun, IsInside}
+use Rattle.crq_queue.specs.Parts.{Entered, Left, InsertRan, OwnRan, RecoverRan, TakeRan}
+use Rattle.crq_queue.specs.Stages.{CutFinished, DebtSettled, EventInserted, EventTaken, IsFinished, RowAnswers, RowFound}
+use Rattle.crq_queue.proofs.RunLaws.{ran_none, ran_trans, ran_both, ran_ticks, used_on}
+use Rattle.crq_queue.proofs.CallSteps.{IsAtWork, may_go, goes_inside, works_on, comes_to_rest, load_rests, load_found, load_ran, miss_inside, miss_ran}
+use Rattle.crq_queue.proofs.CallOps.{may_insert, may_take}
+
+-- what a part leaves, wherever its call began
+abbrev pub Leaves : Table → ℕ → Pass → (ℕ → Type 0) → Type 0
+Leaves table budget old P = (n : ℕ) → MayRun table n budget old → P n
+
+-- Settling what is owed
+
+owes_some : (o : Option CutDebt) → is_some o ≡ true → o ≡ None → ⊥
+owes_some (Some d) e is = cc
+owes_some None e is = false≢true e
+
+still_finished : {table : Table} {n : ℕ} (budget : ℕ) (old new : Pass) (result : Result (Unit {0}) Spent) → Left table n budget old new → IsFinished table n budget old result → IsFinished table n budget new result
+still_finished budget old new (Ok u) l f = ap (λ (d : Debts). d.cut) l.keeps.debts ∙ f
+still_finished budget old new (Err s) l f = used_on f l.ran l.turns
+
+module _ {table : Table} {budget : ℕ} {a b c : Pass} {x : Control} (r : IsResting table a) (load : Controlled ControlLoad table a b loads_control x) (enter : (n budget : ℕ) → MayRun table n budget b → Entered table n budget b c) where
+  -- inside, after a load of the control word
+  pub load_enter : {n : ℕ} → MayRun table n budget a → Ran table n budget a c [] × IsAtWork table x c
+  load_enter {n} may = let one = load_ran load may in let e = enter n budget (may_go may one) in (ran_trans one e.ran, goes_inside (load_rests load r) (load_found load) e)
+
+  module _ {d : Pass} {result : Result (Unit {0}) Spent} (cut : (n : ℕ) → MayRun table n budget c → CutFinished table n budget x c d result) where
+    pub load_cut : {n : ℕ} → MayRun table n budget a → Ran table n budget a d [] × IsAtWork table x d × IsFinished table n budget d result
+    load_cut {n} may = let one = load_enter may in let f = cut n (may_go may one.0) in (ran_trans one.0 f.ran, works_on one.1 f.ran f.inside, f.finished)
+
+    pub debt_settled : {e : Pass} → is_some a.debts.cut ≡ true → ((n budget : ℕ) → MayRun table n budget d → Left table n budget d e) → {n : ℕ} → MayRun table n budget a → DebtSettled table n budget a e result
+    debt_settled {e} some leave {n} may = let one = load_cut may in let l = leave n budget (may_go may one.0) in record {
+      ran = ran_trans one.0 l.ran;
+      rests = comes_to_rest one.1 l;
+      idle = λ none. absurd (owes_some a.debts.cut some none);
+      finished = still_finished budget d e result l one.2;
+    }
+
+pub nothing_settled : {table : Table} {n budget : ℕ} {pass : Pass} → IsResting table pass → pass.debts.cut ≡ None → MayRun table n budget pass → DebtSettled table n budget pass pass (Ok tt)
+nothing_settled r none may = record { ran = ran_none r.is may; rests = r; idle = λ _. refl; finished = none }
+
+-- Inserting an event
+
+pub fresh_on : (w : ℕ) (e : Event) (d d' : Deal) (own own' : List Entry) (j j' : ℕ) → d' ≡ d → own' ≡ own → j' ≡ j → IsFresh w d.history own d.span j e → IsFresh w d'.history own' d'.span j' e
+fresh_on w e d d' own own' j j' deal same number fresh = subst (λ (z : Deal). IsFresh w z.history own' z.span j' e) (sym deal) (subst (λ z. IsFresh w d.history z d.span j' e) (sym same) (subst (λ z. IsFresh w d.history own d.span z e) (sym number) fresh))
+
+-- an insertion that ended, or for which the budget ended
+inserted_inside : {table : Table} {x : Control} {b c : Pass} (n budget : ℕ) (op : InsertOp) (result : Result (Unit {0}) Spent) → IsAtWork table x b → InsertRan table n budget x op b c result → IsAtWork table x c
+inserted_inside n budget op (Ok u) w i = works_on w i.0 i.1
+inserted_inside n budget op (Err s) w i = works_on w i.0 i.1
+
+module _ {table : Table} {budget : ℕ} {a b : Pass} {x : Control} (r : IsResting table a) (found : (caller table a).found.control ≡ Some x) (enter : (n budget : ℕ) → MayRun table n budget a → Entered table n budget a b) where
+  pub enter_inside : {n : ℕ} → MayRun table n budget a → Ran table n budget a b [] × IsAtWork table x b
+  enter_inside {n} may = let e = enter n budget may in (e.ran, goes_inside r found e)
+
+  module _ {op : InsertOp} {list : ListAt} {row : ℕ} {event : Event} (names : (list.generation ≡ x.generation) × (list.head ≡ head_of x event)) (fits : IsEvent op.event) (held : In row (caller table a).hand)
+      (fresh : IsFresh table.start.layout.workers (caller table a).deal.history (caller table a).own (caller table a).deal.span a.number event) (is : op ≡ record { list = list; row = row; event = event; state = Writing 1 }) where
+    pub enter_insert : {n : ℕ} → MayRun table n budget a → IsInserting n table x op (caller table b)
+    enter_insert {n} may = let e = enter n budget may in let w = goes_inside r found e in
+        may_insert w.is w.inside op list event row e.ran.counted names fits (subst (In row) (sym r.is.free ∙ (sym e.keeps.free ∙ w.is.free)) held)
+        (fresh_on table.start.layout.workers event (caller table a).deal (caller table b).deal (caller table a).own (caller table b).own a.number (caller table b).number e.ran.deal (e.ran.own ∙ append-nil (caller table a).own) (w.is.sits.numbered ∙ e.ran.number) fresh) is
+
+    module _ (c : Pass) (result : Result (Unit {0}) Spent) (insert : (n : ℕ) (y : Control) → IsInserting n table y op (caller table b) → InsertRan table n budget y op b c result) where
+      pub enter_linked : {n : ℕ} → MayRun table n budget a → IsAtWork table x c
+      enter_linked {n} may = inserted_inside n budget op result (enter_inside may).1 (insert n x (enter_insert may))
+
+    inserted : (n : ℕ) (c d : Pass) (answer : Result (Unit {0}) Spent) → Ran table n budget a b [] × IsAtWork table x b → InsertRan table n budget x op b c answer → (MayRun table n budget c → Left table n budget c d) → MayRun table n budget a → EventInserted table n budget event a d answer
+    inserted n c d (Ok u) one i leave may = let ran = one.0 in let l = leave (may_go (may_go may ran) i.0) in
+        (subst (λ (p : ℕ × Event). Ran table n budget a d (put_entries p.0 p.1)) (λ k. (ran.number k, ap (λ (o : InsertOp). o.event) is k)) (ran_trans ran (ran_trans i.0 l.ran)), comes_to_rest (works_on one.1 i.0 i.1) l)
+    inserted n c d (Err s) one i leave may = let ran = one.0 in let l = leave (may_go (may_go may ran) i.0) in (ran_trans ran (ran_trans i.0 l.ran), comes_to_rest (works_on one.1 i.0 i.1) l, used_on i.3 l.ran l.turns)
+
+    pub event_inserted : (c d : Pass) (result : Result (Unit {0}) Spent) → ((n : ℕ) (y : Control) → IsInserting n table y op (caller table b) → InsertRan table n budget y op b c result) → ((n budget : ℕ) → MayRun table n budget c → Left table n budget c d)
+        → {n : ℕ} → MayRun table n budget a → EventInserted table n budget event a d result
+    event_inserted c d result insert leave {n} may = inserted n c d result (enter_inside may) (insert n x (enter_insert may)) (leave n budget) may
+
+-- A row to put an event into
+
+first_in : (xs : List ℕ) (r : ℕ) → 0 < length xs → ((d : ℕ) → r ≡ get_or xs 0 d) → In r xs
+first_in [] r some first = absurd (omega arith)
+first_in (x ∷ xs) r some first = inl (first 0)
+
+stays_at_rest : {table : Table} {n budget most : ℕ} {old new : Pass} {es : List Entry} → IsResting table old → RanTicks table n budget most old new es → (caller table new).guard ≡ (caller table old).guard → ((caller table old).cut ≡ None → (caller table new).cut ≡ None) → IsResting table new
+stays_at_rest r ran guard cut = record { is = ran.is; guard = guard ∙ r.guard; cut = cut r.cut; settle = ran.settle ∙ r.settle; copy = ran.copy ∙ r.copy; second_cut = ran.second_cut ∙ r.second_cut }
+
+module _ {table : Table} {n budget : ℕ} {a b : Pass} (r : IsResting table a) where
+  pub own_rests : {result : Option ℕ} → OwnRan table n budget a b result → IsResting table b
+  own_rests o = stays_at_rest r o.ran o.guard o.uncut
+
+  pub own_found : {row : ℕ} → OwnRan table n budget a b (Some row) → RowFound table n budget a b (Ok row)
+  own_found o = record { ran = ran_ticks o.ran (let none = o.ran.ticks in omega arith); rests = own_rests o; found = o.found; debts = o.debts; answers = o.ended }
+
+  -- after a recovery
+  recovered : {c : Pass} {result : Result Recover Spent} (answer : Result ℕ Refusal) → OwnRan table n budget a b None → RecoverRan table n budget b c result → RowAnswers table n budget c answer → RowFound table n budget a c answer
+  recovered answer o v answers = record { ran = ran_both o.ran v.ran; rests = stays_at_rest (own_rests o) v.ran v.guard v.uncut; found = v.found ∙ o.found; debts = v.debts ∙ o.debts; answers = answers }
+
+  module _ {c : Pass} (o : OwnRan table n budget a b None) where
+    pub recovered_held : {holder : Holder} → RecoverRan table n budget b c (Ok (IsHeld holder)) → RowFound table n budget a c (Err (Held holder))
+    recovered_held {holder} v = recovered (Err (Held holder)) o v (b, o.ended, v.ended)
+
+    pub recovered_none : RecoverRan table n budget b c (Ok NoRows) → RowFound table n budget a c (Err Rows)
+    recovered_none v = recovered (Err Rows) o v (b, o.ended, v.ended)
+
+    pub recovered_late : {s : Spent} → RecoverRan table n budget b c (Err s) → RowFound table n budget a c (Err (Again budget))
+    recovered_late v = recovered (Err (Again budget)) o v (refl, v.ended)
+
+    pub recovered_row : {end : Recover} (row : ℕ) → RecoverRan table n budget b c (Ok end) → 0 < length c.free.items → ((d : ℕ) → row ≡ get_or c.free.items 0 d) → RowFound table n budget a c (Ok row)
+    recovered_row row v some first = recovered (Ok row) o v (subst (In row) v.ran.is.free (first_in c.free.items row some first))
+
+-- Marking the least event
+
+-- what holds whenever a take of the list begins
+pub record IsMarking (table : Table) (budget : ℕ) (x : Control) (start pass : Pass) : Type 0 where
+  pub of : IsPassOf table pass
+  pub inside : IsInside table x pass
+  pub began : EndsInBegin (caller table pass).own
+  pub free : pass.debts.cut ≡ None
+  pub within : pass.turns ≤ budget
+  pub ran : (n : ℕ) → MayRun table n budget start → Ran table n budget start pass []
+
+-- a take that marked nothing, and didn't lose its row
+is_missed : {table : Table} {x : Control} {a b : Pass} (n budget : ℕ) (op : TakeOp) (end : MarkEnd) → ((row : ℕ) (e : Event) → end ≡ Marked row e → ⊥) → (end ≡ Lost → ⊥) → TakeRan table n budget x op a b (Ok end)
+    → Ran table n budget a b [] × IsInside table x b × (b.debts ≡ a.debts) × MayMiss x op.limit (caller table b)
+is_missed n budget op (Marked row e) marked lost t = absurd (marked row e refl)
+is_missed n budget op (Beyond e) marked lost t = t
+is_missed n budget op Nothing marked lost t = t
+is_missed n budget op Lost marked lost t = absurd (lost refl)
+is_missed n budget op Frozen marked lost t = absurd t
+
+module _ {table : Table} {budget : ℕ} {x : Control} {start a : Pass} {op : TakeOp} {limit : ℕ} (m : IsMarking table budget x start a) (one : x.log ≡ 0) (is : op ≡ record { found = x; head = x.generation % 2 * 32768; limit = limit; state = LoadHead }) where
+  pub mark_take : {n : ℕ} → n ≤ length (caller table a).made → IsTaking n table x op (caller table a)
+  mark_take counted = may_take m.of m.inside op limit counted one m.began m.free is
+
+  module _ (b : Pass) (end : Result MarkEnd Spent) (take : (n : ℕ) (y : Control) → IsTaking n table y op (caller table a) → TakeRan table n budget y op a b end) where
+    taken : {n : ℕ} → MayRun table n budget start → TakeRan table n budget x op a b end
+    taken {n} may = take n x (mark_take (m.ran n may).counted)
+
+    taken_first : TakeRan table 0 budget x op a b end
+    taken_first = take 0 x (mark_take (omega arith))
+
+  module _ (b : Pass) (end : MarkEnd) (take : (n : ℕ) (y : Control) → IsTaking n table y op (caller table a) → TakeRan table n budget y op a b (Ok end)) where
+    pub take_marked : {row : ℕ} {e : Event} → end ≡ Marked row e → {n : ℕ} → MayRun table n budget start → EventTaken table n budget x limit start b (Ok (Some e))
+    take_marked {row} {e} at {n} may = let t = subst (λ z. TakeRan table n budget x op a b (Ok z)) at (taken b (Ok end) take may) in let r = m.ran n may in
+        (subst (λ j. Ran table n budget start b (Take j e ∷ [])) r.number (ran_trans r t.0), t.1, subst (λ (o : TakeOp). e.time < o.limit) is t.2)
+
+    pub take_lost : end ≡ Lost → IsMarking table budget x start b × (a.turns < b.turns)
+    take_lost at = let t = subst (λ z. TakeRan table 0 budget x op a b (Ok z)) at (taken_first b (Ok end) take) in (
+      record {
+        of = t.0.is;
+        inside = t.1;
+        began = subst EndsInBegin (sym (t.0.own ∙ append-nil (caller table a).own)) m.began;
+        free = ap (λ (d : Debts). d.cut) t.2 ∙ m.free;
+        within = t.0.within;
+        ran = λ n may. ran_trans (m.ran n may) (subst (λ z. TakeRan table n budget x op a b (Ok z)) at (taken b (Ok end) take may)).0;
+      },
+      t.4,
+    )
+
+    module _ (not_marked : (row : ℕ) (e : Event) → end ≡ Marked row e → ⊥) (not_lost : end ≡ Lost → ⊥) where
+      pub take_missed : IsPassOf table b × MayMiss x limit (caller table b)
+      take_missed = let t = is_missed 0 budget op end not_marked not_lost (taken_first b (Ok end) take) in (t.0.is, subst (λ (o : TakeOp). MayMiss x o.limit (caller table b)) is t.3)
+
+      pub miss_told : {d : Pass} {y : Control} → Controlled MissKind table b d (misses limit) y → {n : ℕ} → MayRun table n budget start → EventTaken table n budget x limit start d (Ok None)
+      miss_told {d} {y} c {n} may = let t = is_missed n budget op end not_marked not_lost (taken b (Ok end) take may) in let r = m.ran n may in let both = ran_trans r t.0 in let miss = miss_ran c t.0.is (may_go may both) in
+          (subst (λ j. Ran table n budget start d (Miss j limit ∷ [])) both.number (ran_trans both miss), (y, miss_inside c t.1), ap (λ (p : Pass). p.debts.cut) c.same ∙ (ap (λ (d : Debts). d.cut) t.2 ∙ m.free))
+
+  pub take_late : (b : Pass) (s s' : Spent) → ((n : ℕ) (y : Control) → IsTaking n table y op (caller table a) → TakeRan table n budget y op a b (Err s)) → {n : ℕ} → MayRun table n budget start → EventTaken table n budget x limit start b (Err s')
+  take_late b s s' take {n} may = let t = taken b (Err s) take may in (ran_trans (m.ran n may) t.0, t.1, t.3)

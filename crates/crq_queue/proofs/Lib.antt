@@ -1,0 +1,10 @@
+pub mod Wholes
+pub mod Gathers
+pub mod Dealings
+pub mod RunLaws
+pub mod RunLoops
+pub mod RecoverRuns
+pub mod CallSteps
+pub mod CallOps
+pub mod CallStages
+pub mod CallEnds

@@ -1,0 +1,269 @@
+-- The loops over an operation's steps, within a budget.
+use Rattle.std.proofs.Common.{◌≡◌, ◌⊎◌, inl, inr, ℕ, ◌+◌, ◌-◌, ◌*◌, ◌^◌, ◌<◌, ◌≤◌, cond, Bool, true, false, List, [], ◌∷◌, ◌++◌, Option, Some, None, Ok, Err, sym, refl, ap, ◌∙◌, subst, arith}
+use Rattle.std.proofs.lemmas.Bool.{false≢true}
+use Rattle.std.proofs.lemmas.List.{append-nil}
+use Rattle.crq_base.specs.declared.entry.Entry.{Entry}
+use Rattle.crq_base.specs.declared.entry.Entry.TheVariants.{Take}
+use Rattle.crq_base.specs.declared.words.Control.{Control}
+use Rattle.crq_rule.specs.declared.debts.CutDebt.{CutDebt}
+use Rattle.crq_rule.specs.declared.pass.Pass.{Pass}
+use Rattle.crq_rule.specs.declared.pass.Table.{Table}
+use Rattle.crq_rule.specs.declared.view.Caller.{Caller}
+use Rattle.crq_rule.specs.Parts.{IsOn}
+use Rattle.crq_rule.specs.ListKinds.{put_entries, cut_debt, MayMiss}
+use Rattle.crq_rows.specs.Passes.{caller, IsPassOf}
+use Rattle.crq_rows.specs.Known.{Stays, turns_after}
+use Rattle.crq_list.specs.declared.cut.CutOp.{CutOp}
+use Rattle.crq_list.specs.declared.seek.Seek.{Seek}
+use Rattle.crq_list.specs.declared.seek.Seek.TheVariants.{Load, Reading, Passing, Cutting, Tagging, Retiring}
+use Rattle.crq_list.specs.declared.parts.ListAt.{ListAt}
+use Rattle.crq_list.specs.declared.parts.Spot.TheVariants.{Head, Row}
+use Rattle.crq_list.specs.declared.insert.InsertOp.{InsertOp}
+use Rattle.crq_list.specs.declared.insert.Inserting.{Inserting}
+use Rattle.crq_list.specs.declared.insert.Inserting.TheVariants.{Writing, Seeking, Placing, Linking}
+use Rattle.crq_list.specs.declared.insert.InsertEnd.{InsertEnd}
+use Rattle.crq_list.specs.declared.insert.InsertEnd.TheVariants.{Linked}
+use Rattle.crq_list.specs.declared.take.TakeOp.{TakeOp}
+use Rattle.crq_list.specs.declared.take.Taking.{Taking}
+use Rattle.crq_list.specs.declared.take.Taking.TheVariants.{Load as LoadHead, Walking, Reading as ReadingRow, Marking}
+use Rattle.crq_list.specs.declared.take.MarkEnd.{MarkEnd}
+use Rattle.crq_list.specs.declared.take.MarkEnd.TheVariants.{Marked, Beyond, Nothing, Lost, Frozen}
+use Rattle.crq_list.specs.declared.parts.Progress.{Progress}
+use Rattle.crq_list.specs.declared.parts.Progress.TheVariants.{More, Done}
+use Rattle.crq_list.specs.declared.cut.CutEnd.{CutEnd}
+use Rattle.crq_list.specs.declared.cut.CutEnd.TheVariants.{Clean}
+use Rattle.crq_list.specs.Spots.{Target}
+use Rattle.crq_list.specs.Seeking.{IsSeeking, seek_exchanges, seek_left}
+use Rattle.crq_list.specs.Cutting.{IsCutting, CutStepped}
+use Rattle.crq_list.specs.Inserting.{target_of, IsInsertingAt, IsInserting, state_exchanges, insert_exchanges, state_left, InsertStepped}
+use Rattle.crq_list.specs.Taking.{IsTaking, taking_exchanges, taking_left, TakeStepped}
+use Rattle.crq_queue.specs.declared.runs.Spent.{Spent}
+use Rattle.crq_queue.specs.Runs.{Ran, IsInside}
+use Rattle.crq_queue.specs.Parts.{CutRan, InsertRan, TakeRan, inserts, takes, cuts}
+use Rattle.crq_queue.proofs.RunLaws.{ran_none, ran_trans, ran_inside, may_run_on, used_up, stays_none, stays_trans, counts}
+
+-- What is left, of exchanges and then of other steps, where `big` is above what is left of these
+
+abbrev pub big : ℕ
+big = 2 ^ 170
+
+abbrev pub all_left : ℕ → ℕ → ℕ → ℕ
+all_left budget turns left = (budget - turns) * big + left
+
+falls_by_exchange : (budget turns left less : ℕ) → turns < budget → less < big → all_left budget (turns + 1) less < all_left budget turns left
+falls_by_exchange budget turns left less room low = let d : ℕ = budget - (turns + 1) in let is : budget - turns ≡ d + 1 = omega arith in subst (λ z. d * big + less < z * big + left) (sym is) (omega arith)
+
+-- a step falls: an exchange where the budget allows, or what is left falls
+falls : (exchanges : Bool) (budget turns after left less : ℕ) → after ≡ turns_after exchanges turns → turns ≤ budget → budget < 4294967296 → (exchanges ≡ true → turns < budget) → less < big → (exchanges ≡ true) ⊎ (less < left)
+    → all_left budget after less < all_left budget turns left
+falls true budget turns after left less is within low room small _ = let b = room refl in let c = (counts true turns budget within low room).0 in
+    subst (λ t. all_left budget t less < all_left budget turns left) (sym (is ∙ c)) (falls_by_exchange budget turns left less b small)
+falls false budget turns after left less is within low room small (inl e) = absurd (false≢true e)
+falls false budget turns after left less is within low room small (inr fewer) = subst (λ t. all_left budget t less < all_left budget turns left) (sym is) (omega arith)
+
+-- A walk of a list
+
+seek_small : (seek : Seek) (p : Caller) → seek_left seek p < 2 ^ 166
+seek_small (Load (Head q)) p = omega arith
+seek_small (Load (Row r)) p = omega arith
+seek_small (Reading b place) p = omega arith
+seek_small (Passing b) p = omega arith
+seek_small (Cutting b last) p = omega arith
+seek_small (Tagging spot row) p = omega arith
+seek_small (Retiring spot row tag) p = omega arith
+
+-- where the next step of a walk is an exchange, it has no cut row
+seek_uncut : (n : ℕ) (table : Table) (x : Control) (list : ListAt) (target : Target) (seek : Seek) (p : Caller) → IsSeeking n table x list target seek p → seek_exchanges seek ≡ true → p.cut ≡ None
+seek_uncut n table x list target (Cutting b last) p i e = i.at.0
+seek_uncut n table x list target (Load spot) p i e = i.at.0
+seek_uncut n table x list target (Reading b place) p i e = i.at.0
+seek_uncut n table x list target (Passing b) p i e = i.at.0
+seek_uncut n table x list target (Tagging spot row) p i e = absurd (false≢true e)
+seek_uncut n table x list target (Retiring spot row tag) p i e = absurd (false≢true e)
+
+state_small : (state : Inserting) (p : Caller) → state_left state p < big
+state_small (Writing place) p = omega arith
+state_small (Seeking seek) p = let small = seek_small seek p in omega arith
+state_small (Placing b) p = omega arith
+state_small (Linking b) p = omega arith
+
+taking_small : (state : Taking) (p : Caller) → taking_left state p < big
+taking_small LoadHead p = omega arith
+taking_small (Walking r) p = omega arith
+taking_small (ReadingRow r l place read) p = omega arith
+taking_small (Marking r l e) p = omega arith
+
+state_uncut : (n : ℕ) (table : Table) (x : Control) (op : InsertOp) (state : Inserting) (p : Caller) → IsInsertingAt n table x op state p → state_exchanges state ≡ true → p.cut ≡ None
+state_uncut n table x op (Writing place) p at e = at.0
+state_uncut n table x op (Seeking seek) p at e = seek_uncut n table x op.list (target_of op) seek p at.0 e
+state_uncut n table x op (Placing b) p at e = at.0.none
+state_uncut n table x op (Linking b) p at e = at.0.none
+
+-- no entry was added
+pub nothing_added : {xs ys : List Entry} → ys ≡ xs → ys ≡ xs ++ []
+nothing_added {xs} {ys} e = e ∙ sym (append-nil xs)
+
+-- what the caller found and its guard stay
+pub inside_of : {table : Table} {x : Control} {new : Pass} (mid : Pass) → Stays (caller table mid) (caller table new) → IsOn (caller table mid).guard → (caller table mid).found.control ≡ Some x → (caller table new).cut ≡ None → IsInside table x new
+inside_of mid stays on control uncut = record { on = subst IsOn (sym stays.guard) on; uncut = uncut; control = ap (λ f. f.control) stays.found ∙ control }
+
+-- A cut
+
+pub record CutGoes (table : Table) (n budget : ℕ) (x : Control) (op now : CutOp) (old new : Pass) : Type 0 where
+  pub ran : Ran table n budget old new []
+  pub stays : Stays (caller table old) (caller table new)
+  pub at : IsCutting n table x now (caller table new)
+  pub op_is : now ≡ record op { seek = now.seek }
+  pub free : new.free.items ≡ old.free.items
+  pub debts : new.debts ≡ old.debts
+  pub owed : ((caller table new).debts.cut ≡ None) ⊎ ((caller table new).debts.cut ≡ (caller table old).debts.cut)
+
+-- what a step leaves owed, after other steps
+pub owed_on : {a b c : Option CutDebt} → (b ≡ None) ⊎ (b ≡ a) → (c ≡ None) ⊎ (c ≡ b) → (c ≡ None) ⊎ (c ≡ a)
+owed_on first (inl none) = inl none
+owed_on (inl none) (inr same) = inl (same ∙ none)
+owed_on (inr was) (inr same) = inr (same ∙ was)
+
+module _ (table : Table) (n budget : ℕ) (x : Control) (op : CutOp) (old : Pass) (low : budget < 4294967296) where
+  pub cut_begins : IsPassOf table old → old.turns ≤ budget → IsCutting n table x op (caller table old) → CutGoes table n budget x op op old old
+  cut_begins of within at = record { ran = ran_none of (record { counted = at.counted; within = within; low = low }); stays = stays_none (caller table old); at = at; op_is = refl; free = refl; debts = refl; owed = inr refl }
+
+  module _ (now : CutOp) (mid : Pass) (g : CutGoes table n budget x op now old mid) (room : seek_exchanges now.seek ≡ true → mid.turns < budget) where
+    cut_ran : {after : CutOp} {new : Pass} {answer : Progress CutEnd} → CutStepped n table x now after mid new answer → Ran table n budget old new []
+    cut_ran s = ran_trans g.ran (ran_inside g.at.on (seek_exchanges now.seek) [] (may_run_on low g.ran) room s.is s.number (ap (λ d. d.settle) s.debts) (ap (λ d. d.copy) s.debts) (ap (λ d. d.second_cut) s.debts) s.works s.turns (nothing_added s.own))
+
+    pub cut_goes : (after : CutOp) (new : Pass) → CutStepped n table x now after mid new More → CutGoes table n budget x op after old new
+    cut_goes after new s = record {
+      ran = cut_ran s;
+      stays = stays_trans g.stays s.works.stays;
+      at = s.answers.0;
+      op_is = s.answers.1 ∙ ap (λ (o : CutOp). record o { seek = after.seek }) g.op_is;
+      free = s.free ∙ g.free;
+      debts = s.debts ∙ g.debts;
+      owed = owed_on g.owed s.owed;
+    }
+
+    pub cut_falls : (after : CutOp) (new : Pass) → CutStepped n table x now after mid new More → all_left budget new.turns (seek_left after.seek (caller table new)) < all_left budget mid.turns (seek_left now.seek (caller table mid))
+    cut_falls after new s = let small = seek_small after.seek (caller table new) in falls (seek_exchanges now.seek) budget mid.turns new.turns (seek_left now.seek (caller table mid)) (seek_left after.seek (caller table new)) s.turns g.ran.within low room (omega arith) s.answers.2
+
+    pub cut_ends : (after : CutOp) (new : Pass) → CutStepped n table x now after mid new (Done Clean) → CutRan table n budget x op old new (Ok tt)
+    cut_ends after new s = record {
+      ran = cut_ran s;
+      inside = inside_of mid s.works.stays g.at.on g.at.list_is.control s.answers.0;
+      free = s.free ∙ g.free;
+      debts = s.debts ∙ g.debts;
+      owed = owed_on g.owed s.owed;
+      ended = λ d upto head. s.answers.1 d (ap (λ (o : CutOp). o.upto) g.op_is ∙ upto) (head ∙ sym (ap (λ (o : CutOp). o.list.head) g.op_is));
+    }
+
+  pub cut_spent : (now : CutOp) (new : Pass) (s : Spent) → CutGoes table n budget x op now old new → seek_exchanges now.seek ≡ true → budget ≤ new.turns → CutRan table n budget x op old new (Err s)
+  cut_spent now new s g exchanges used = record {
+    ran = g.ran;
+    inside = record { on = g.at.on; uncut = seek_uncut n table x now.list now.upto now.seek (caller table new) g.at exchanges; control = g.at.list_is.control };
+    free = g.free;
+    debts = g.debts;
+    owed = g.owed;
+    ended = used_up g.ran.is g.ran.within used (cuts x now g.at exchanges);
+  }
+
+-- An insertion
+
+pub record InsertGoes (table : Table) (n budget : ℕ) (x : Control) (op now : InsertOp) (old new : Pass) : Type 0 where
+  pub ran : Ran table n budget old new []
+  pub stays : Stays (caller table old) (caller table new)
+  pub at : IsInserting n table x now (caller table new)
+  pub op_is : now ≡ record op { state = now.state }
+  pub debts : new.debts ≡ old.debts
+
+module _ (table : Table) (n budget : ℕ) (x : Control) (op : InsertOp) (old : Pass) (low : budget < 4294967296) where
+  pub insert_begins : IsPassOf table old → old.turns ≤ budget → IsInserting n table x op (caller table old) → InsertGoes table n budget x op op old old
+  insert_begins of within at = record { ran = ran_none of (record { counted = at.counted; within = within; low = low }); stays = stays_none (caller table old); at = at; op_is = refl; debts = refl }
+
+  module _ (now : InsertOp) (mid : Pass) (g : InsertGoes table n budget x op now old mid) (room : insert_exchanges now ≡ true → mid.turns < budget) where
+    insert_ran : {after : InsertOp} {new : Pass} {answer : Progress InsertEnd} (entries : List Entry) → InsertStepped n table x now after mid new answer → (caller table new).own ≡ (caller table mid).own ++ entries → Ran table n budget old new entries
+    insert_ran entries s own = ran_trans g.ran (ran_inside g.at.on (insert_exchanges now) entries (may_run_on low g.ran) room s.is s.number (ap (λ d. d.settle) s.debts) (ap (λ d. d.copy) s.debts) (ap (λ d. d.second_cut) s.debts) s.works s.turns own)
+
+    pub insert_goes : (after : InsertOp) (new : Pass) → InsertStepped n table x now after mid new More → InsertGoes table n budget x op after old new
+    insert_goes after new s = record {
+      ran = insert_ran [] s (nothing_added s.answers.2);
+      stays = stays_trans g.stays s.works.stays;
+      at = s.answers.0;
+      op_is = s.answers.1 ∙ ap (λ (o : InsertOp). record o { state = after.state }) g.op_is;
+      debts = s.debts ∙ g.debts;
+    }
+
+    pub insert_falls : (after : InsertOp) (new : Pass) → InsertStepped n table x now after mid new More → all_left budget new.turns (state_left after.state (caller table new)) < all_left budget mid.turns (state_left now.state (caller table mid))
+    insert_falls after new s = falls (insert_exchanges now) budget mid.turns new.turns (state_left now.state (caller table mid)) (state_left after.state (caller table new)) s.turns g.ran.within low room (state_small after.state (caller table new)) s.answers.4
+
+    pub insert_ends : (after : InsertOp) (new : Pass) → InsertStepped n table x now after mid new (Done Linked) → InsertRan table n budget x op old new (Ok tt)
+    insert_ends after new s = (
+      insert_ran (put_entries old.number op.event) s (s.answers.0 ∙ ap (λ es. (caller table mid).own ++ es) (λ i. put_entries (g.ran.number i) (ap (λ (o : InsertOp). o.event) g.op_is i))),
+      inside_of mid s.works.stays g.at.on g.at.list_is.control s.answers.2,
+      s.debts ∙ g.debts,
+    )
+
+  pub insert_spent : (now : InsertOp) (new : Pass) (s : Spent) → InsertGoes table n budget x op now old new → insert_exchanges now ≡ true → budget ≤ new.turns → InsertRan table n budget x op old new (Err s)
+  insert_spent now new s g exchanges used = (
+    g.ran,
+    record { on = g.at.on; uncut = state_uncut n table x now now.state (caller table new) g.at.at exchanges; control = g.at.list_is.control },
+    g.debts,
+    used_up g.ran.is g.ran.within used (inserts x now g.at exchanges),
+  )
+
+-- A take
+
+pub record TakeGoes (table : Table) (n budget : ℕ) (x : Control) (op now : TakeOp) (old new : Pass) : Type 0 where
+  pub ran : Ran table n budget old new []
+  pub stays : Stays (caller table old) (caller table new)
+  pub at : IsTaking n table x now (caller table new)
+  pub op_is : now ≡ record op { state = now.state }
+  pub debts : new.debts ≡ old.debts
+
+module _ (table : Table) (n budget : ℕ) (x : Control) (op : TakeOp) (old : Pass) (low : budget < 4294967296) where
+  pub take_begins : IsPassOf table old → old.turns ≤ budget → IsTaking n table x op (caller table old) → TakeGoes table n budget x op op old old
+  take_begins of within at = record { ran = ran_none of (record { counted = at.counted; within = within; low = low }); stays = stays_none (caller table old); at = at; op_is = refl; debts = refl }
+
+  module _ (now : TakeOp) (mid : Pass) (g : TakeGoes table n budget x op now old mid) (room : taking_exchanges now.state ≡ true → mid.turns < budget) where
+    take_ran : {after : TakeOp} {new : Pass} {answer : Progress MarkEnd} (entries : List Entry) (cut : Option CutDebt) → TakeStepped n table x now after mid new answer → new.debts ≡ record mid.debts { cut = cut } → (caller table new).own ≡ (caller table mid).own ++ entries → Ran table n budget old new entries
+    take_ran entries cut s debts own = ran_trans g.ran (ran_inside g.at.on (taking_exchanges now.state) entries (may_run_on low g.ran) room s.is s.number (ap (λ d. d.settle) debts) (ap (λ d. d.copy) debts) (ap (λ d. d.second_cut) debts) s.works s.turns own)
+
+    pub take_goes : (after : TakeOp) (new : Pass) → TakeStepped n table x now after mid new More → TakeGoes table n budget x op after old new
+    take_goes after new s = let a = s.answers in record {
+      ran = take_ran [] mid.debts.cut s a.3 (nothing_added a.2);
+      stays = stays_trans g.stays s.works.stays;
+      at = a.0;
+      op_is = a.1 ∙ ap (λ (o : TakeOp). record o { state = after.state }) g.op_is;
+      debts = a.3 ∙ g.debts;
+    }
+
+    pub take_falls : (after : TakeOp) (new : Pass) → TakeStepped n table x now after mid new More → all_left budget new.turns (taking_left after.state (caller table new)) < all_left budget mid.turns (taking_left now.state (caller table mid))
+    take_falls after new s = falls (taking_exchanges now.state) budget mid.turns new.turns (taking_left now.state (caller table mid)) (taking_left after.state (caller table new)) s.turns g.ran.within low room (taking_small after.state (caller table new)) s.answers.4
+
+    limit_is : now.limit ≡ op.limit
+    limit_is = ap (λ (o : TakeOp). o.limit) g.op_is
+
+    pub take_ends : (after : TakeOp) (new : Pass) (end : MarkEnd) → TakeStepped n table x now after mid new (Done end) → TakeRan table n budget x op old new (Ok end)
+    take_ends after new (Marked r e) s = let a = s.answers in (
+      take_ran (Take old.number e ∷ []) (Some (cut_debt x r e)) s a.2 (a.0 ∙ ap (λ j. (caller table mid).own ++ Take j e ∷ []) g.ran.number),
+      inside_of mid s.works.stays g.at.on g.at.control a.3,
+      subst (λ l. e.time < l) limit_is a.1,
+      ap (λ d. d.cut) a.2,
+    )
+    take_ends after new (Beyond e) s = let a = s.answers in (
+      take_ran [] mid.debts.cut s a.1 (nothing_added a.0),
+      inside_of mid s.works.stays g.at.on g.at.control a.4,
+      a.1 ∙ g.debts,
+      subst (λ l. MayMiss x l (caller table new)) limit_is a.2,
+    )
+    take_ends after new Nothing s = let a = s.answers in (take_ran [] mid.debts.cut s a.1 (nothing_added a.0), inside_of mid s.works.stays g.at.on g.at.control a.3, a.1 ∙ g.debts, a.2 op.limit)
+    take_ends after new Lost s = let a = s.answers in (
+      take_ran [] mid.debts.cut s a.1 (nothing_added a.0),
+      inside_of mid s.works.stays g.at.on g.at.control a.3,
+      a.1 ∙ g.debts,
+      a.4,
+      let more = (counts (taking_exchanges now.state) mid.turns budget g.ran.within low room).0 in let t = s.turns in let one : cond {A = ℕ} (taking_exchanges now.state) 1 0 ≡ 1 = ap (λ (b : Bool). cond {A = ℕ} b 1 0) a.2 in let before = g.ran.turns in omega arith,
+    )
+    take_ends after new Frozen s = absurd s.answers
+
+  pub take_spent : (now : TakeOp) (new : Pass) (s : Spent) → TakeGoes table n budget x op now old new → taking_exchanges now.state ≡ true → budget ≤ new.turns → TakeRan table n budget x op old new (Err s)
+  take_spent now new s g exchanges used = (g.ran, record { on = g.at.on; uncut = g.at.uncut; control = g.at.control }, g.debts, used_up g.ran.is g.ran.within used (takes x now g.at exchanges))

@@ -1,0 +1,5 @@
+pub mod Wholes
+pub mod Runs
+pub mod Parts
+pub mod Calls
+pub mod Stages

@@ -1,0 +1,125 @@
+-- What each part of a call leaves.
+use Rattle.std.specs.Prelude.{◌≡◌, ◌⊎◌, ℕ, ◌<◌, true, List, [], ◌∷◌, ◌++◌, Option, Some, None, Result, Ok, Err}
+use Rattle.crq_base.specs.declared.entry.Entry.TheVariants.{Take}
+use Rattle.crq_base.specs.declared.words.Control.{Control}
+use Rattle.crq_rule.specs.declared.pass.Pass.{Pass}
+use Rattle.crq_rule.specs.declared.pass.Table.{Table}
+use Rattle.crq_rule.specs.declared.debts.CutDebt.{CutDebt}
+use Rattle.crq_rule.specs.declared.view.Made.{Made}
+use Rattle.crq_rule.specs.declared.view.Caller.{Caller}
+use Rattle.crq_rule.specs.declared.view.Guard.TheVariants.{Off}
+use Rattle.crq_rule.specs.Lists.{In}
+use Rattle.crq_rule.specs.Parts.{IsOn}
+use Rattle.crq_rule.specs.ListKinds.{MayMiss, put_entries, cut_debt}
+use Rattle.crq_rows.specs.Passes.{caller, IsPassOf}
+use Rattle.crq_rows.specs.Owning.{FoundNone}
+use Rattle.crq_rows.specs.Recovering.{IsRecovering, RecoverKnows, recover_exchanges}
+use Rattle.crq_rows.specs.declared.recover.RecoverOp.{RecoverOp}
+use Rattle.crq_rows.specs.declared.recover.RecoverOp.TheVariants.{Ticking}
+use Rattle.crq_rows.specs.declared.tick.TickOp.TheVariants.{Load}
+use Rattle.crq_rows.specs.declared.recover.Recover.{Recover}
+use Rattle.crq_rows.specs.declared.recover.Recover.TheVariants.{More, Ready, Held, Rows}
+use Rattle.crq_list.specs.declared.cut.CutOp.{CutOp}
+use Rattle.crq_list.specs.declared.insert.InsertOp.{InsertOp}
+use Rattle.crq_list.specs.declared.take.TakeOp.{TakeOp}
+use Rattle.crq_list.specs.declared.take.MarkEnd.{MarkEnd}
+use Rattle.crq_list.specs.declared.take.MarkEnd.TheVariants.{Marked, Beyond, Nothing, Lost, Frozen}
+use Rattle.crq_list.specs.Seeking.{seek_exchanges}
+use Rattle.crq_list.specs.Cutting.{IsCutting}
+use Rattle.crq_list.specs.Inserting.{IsInserting, insert_exchanges}
+use Rattle.crq_list.specs.Taking.{IsTaking, taking_exchanges}
+use Rattle.crq_queue.specs.declared.runs.Spent.{Spent}
+use Rattle.crq_queue.specs.Runs.{Ran, RanTicks, IsInside, Recovered, exchanges_of}
+
+-- the control word that was found, and the debts to cut that are known, stay; so does a row that was cut, if there is none
+pub record Keeps (table : Table) (old new : Pass) : Type 0 where
+  pub found : (caller table new).found ≡ (caller table old).found
+  pub owed : (caller table new).debts.cut ≡ (caller table old).debts.cut
+  pub uncut : (caller table old).cut ≡ None → (caller table new).cut ≡ None
+  pub free : new.free.items ≡ old.free.items
+  pub debts : new.debts ≡ old.debts
+
+pub record Entered (table : Table) (n budget : ℕ) (old new : Pass) : Type 0 where
+  pub ran : Ran table n budget old new []
+  pub keeps : Keeps table old new
+  pub on : IsOn (caller table new).guard
+  pub turns : new.turns ≡ old.turns
+
+pub record Left (table : Table) (n budget : ℕ) (old new : Pass) : Type 0 where
+  pub ran : Ran table n budget old new []
+  pub keeps : Keeps table old new
+  pub off : (caller table new).guard ≡ Off
+  pub turns : new.turns ≡ old.turns
+
+-- The next step of what the caller does is an exchange: that of an insertion, a take, a cut or a recovery, which stands there
+pub data NeedsExchange (n : ℕ) (table : Table) (p : Caller) : Type 0 where
+  inserts : (x : Control) (op : InsertOp) → IsInserting n table x op p → insert_exchanges op ≡ true → NeedsExchange n table p
+  takes : (x : Control) (op : TakeOp) → IsTaking n table x op p → taking_exchanges op.state ≡ true → NeedsExchange n table p
+  cuts : (x : Control) (op : CutOp) → IsCutting n table x op p → seek_exchanges op.seek ≡ true → NeedsExchange n table p
+  recovers : (op : RecoverOp) → IsRecovering table.start.layout op p → RecoverKnows n table.start.layout op p → recover_exchanges table.start.layout op ≡ true → NeedsExchange n table p
+
+-- The budget is used up, and it ended before an exchange: with the pass `before` the next step was to be one. The steps made since are no exchanges
+pub record IsUsedUp (table : Table) (n budget : ℕ) (new : Pass) : Type 0 where
+  pub turns : new.turns ≡ budget
+  pub before : Pass
+  pub is : IsPassOf table before
+  pub number : new.number ≡ before.number
+  pub spent : before.turns ≡ budget
+  pub needs : NeedsExchange n table (caller table before)
+  pub rest : List Made
+  pub made : (caller table new).made ≡ (caller table before).made ++ rest
+  pub quiet : exchanges_of rest ≡ 0
+
+abbrev pub CutEnded : ℕ → ℕ → Table → CutOp → Pass → Result (Unit {0}) Spent → Type 0
+CutEnded n budget table op new (Ok u) = (d : CutDebt) → op.upto ≡ Some (d.event, d.row) → d.head ≡ op.list.head → (caller table new).debts.cut ≡ Some d → ⊥
+CutEnded n budget table op new (Err s) = IsUsedUp table n budget new
+
+pub record CutRan (table : Table) (n budget : ℕ) (x : Control) (op : CutOp) (old new : Pass) (result : Result (Unit {0}) Spent) : Type 0 where
+  pub ran : Ran table n budget old new []
+  pub inside : IsInside table x new
+  pub free : new.free.items ≡ old.free.items
+  pub debts : new.debts ≡ old.debts
+  pub owed : ((caller table new).debts.cut ≡ None) ⊎ ((caller table new).debts.cut ≡ (caller table old).debts.cut)
+  pub ended : CutEnded n budget table op new result
+
+abbrev pub InsertRan : Table → ℕ → ℕ → Control → InsertOp → Pass → Pass → Result (Unit {0}) Spent → Type 0
+InsertRan table n budget x op old new (Ok u) = Ran table n budget old new (put_entries old.number op.event) × IsInside table x new × (new.debts ≡ old.debts)
+InsertRan table n budget x op old new (Err s) = Ran table n budget old new [] × IsInside table x new × (new.debts ≡ old.debts) × IsUsedUp table n budget new
+
+abbrev pub TakeRan : Table → ℕ → ℕ → Control → TakeOp → Pass → Pass → Result MarkEnd Spent → Type 0
+TakeRan table n budget x op old new (Ok (Marked r e)) = Ran table n budget old new (Take old.number e ∷ []) × IsInside table x new × (e.time < op.limit) × (new.debts.cut ≡ Some (cut_debt x r e))
+TakeRan table n budget x op old new (Ok (Beyond e)) = Ran table n budget old new [] × IsInside table x new × (new.debts ≡ old.debts) × MayMiss x op.limit (caller table new)
+TakeRan table n budget x op old new (Ok Nothing) = Ran table n budget old new [] × IsInside table x new × (new.debts ≡ old.debts) × MayMiss x op.limit (caller table new)
+TakeRan table n budget x op old new (Ok Lost) = Ran table n budget old new [] × IsInside table x new × (new.debts ≡ old.debts) × ((caller table new).debts.cut ≡ None) × (old.turns < new.turns)
+TakeRan table n budget x op old new (Ok Frozen) = ⊥
+TakeRan table n budget x op old new (Err s) = Ran table n budget old new [] × IsInside table x new × (new.debts ≡ old.debts) × IsUsedUp table n budget new
+
+abbrev pub OwnEnded : Table → Pass → Option ℕ → Type 0
+OwnEnded table new (Some r) = In r (caller table new).hand
+OwnEnded table new None = FoundNone table.start.layout (caller table new)
+
+pub record OwnRan (table : Table) (n budget : ℕ) (old new : Pass) (result : Option ℕ) : Type 0 where
+  pub ran : Ran table n budget old new []
+  pub found : (caller table new).found ≡ (caller table old).found
+  pub guard : (caller table new).guard ≡ (caller table old).guard
+  pub owed : (caller table new).debts.cut ≡ (caller table old).debts.cut
+  pub uncut : (caller table old).cut ≡ None → (caller table new).cut ≡ None
+  pub debts : new.debts ≡ old.debts
+  pub turns : new.turns ≡ old.turns
+  pub ended : OwnEnded table new result
+
+abbrev pub RecoverEnded : Table → ℕ → ℕ → Pass → Pass → Result Recover Spent → Type 0
+RecoverEnded table n budget old new (Ok More) = ⊥
+RecoverEnded table n budget old new (Ok Ready) = (r : ℕ) × (rest : List ℕ) × ((caller table new).hand ≡ r ∷ rest)
+RecoverEnded table n budget old new (Ok (Held h)) = Recovered table (Ticking 0 Load) old new (Held h)
+RecoverEnded table n budget old new (Ok Rows) = Recovered table (Ticking 0 Load) old new Rows
+RecoverEnded table n budget old new (Err s) = IsUsedUp table n budget new
+
+pub record RecoverRan (table : Table) (n budget : ℕ) (old new : Pass) (result : Result Recover Spent) : Type 0 where
+  pub ran : RanTicks table n budget 3 old new []
+  pub found : (caller table new).found ≡ (caller table old).found
+  pub guard : (caller table new).guard ≡ (caller table old).guard
+  pub owed : (caller table new).debts.cut ≡ (caller table old).debts.cut
+  pub uncut : (caller table old).cut ≡ None → (caller table new).cut ≡ None
+  pub debts : new.debts ≡ old.debts
+  pub ended : RecoverEnded table n budget old new result

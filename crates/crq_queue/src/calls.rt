@@ -1,0 +1,218 @@
+//! The calls that put, take and settle, each within a budget of exchanges.
+ghost use Rattle.std.specs.Prelude.{◌≡◌, ◌≤◌, ◌<◌, ◌++◌, [], ◌∷◌, ℕ, Some, None, Ok, Err, length};
+ghost use Rattle.crq_base.specs.declared.words.Control.{Control};
+ghost use Rattle.crq_base.specs.Words.{IsControl};
+ghost use Rattle.crq_rule.specs.declared.view.Guard.TheVariants.{Off};
+ghost use Rattle.crq_rule.specs.Lists.{In};
+ghost use Rattle.crq_rule.specs.HistoryParts.{EndsInBegin};
+ghost use Rattle.crq_rule.specs.Ranks.{head_of};
+ghost use Rattle.crq_rule.specs.ListKinds.{IsFresh};
+ghost use Rattle.crq_rows.specs.Passes.{caller, IsPassOf};
+ghost use Rattle.crq_queue.specs.Wholes.{IsResting};
+ghost use Rattle.crq_queue.specs.Runs.{MayRun, IsInside};
+ghost use Rattle.crq_queue.specs.Calls.{PutAnswers, TakeAnswers, SettleAnswers};
+ghost use Rattle.crq_queue.specs.Stages.{CutFinished, DebtSettled, RowFound, EventInserted, EventTaken};
+
+use crate::calendar::Calendar;
+use crate::runs::{
+    Spent, cut_within, enter, insert_within, leave, own_row, recover_within, take_within,
+};
+use crq_base::{Control, Event, PutEnd, Refusal, Route, TakeEnd};
+use crq_list::{
+    CutOp, InsertOp, ListAt, MarkEnd, Place, TakeOp, begin_step, control_step, head_of, miss_step,
+};
+use crq_rows::{Pass, Recover};
+
+/// The number of the last bucket there can be: over one list, takes go up to it.
+const LAST_BUCKET: u32 = u32::MAX;
+
+/// The list of an event in the table with this control word.
+fn list_of(control: &Control, event: &Event) -> ListAt
+    requires { IsControl control.now }
+    ensures { (result.generation ≡ control.now.generation) × (result.head ≡ head_of control.now event.now) }
+{
+    ListAt {
+        generation: control.generation,
+        head: head_of(control, event),
+    }
+}
+
+impl Calendar {
+    /// Cuts the dead row that the pass owes, if it owes one, while its guard is on.
+    fn finish_cut(&self, pass: &mut Pass, control: &Control, budget: u32) -> Result<(), Spent>
+        requires of { IsPassOf self.now.table pass.old }
+        requires inside { IsInside self.now.table control.now pass.old }
+        requires within { pass.old.turns ≤ budget }
+        ensures { (n : ℕ) → MayRun self.now.table n budget pass.old → CutFinished self.now.table n budget control.now pass.old pass.new result }
+    {
+        let Some(debt) = pass.debts.cut else {
+            return Ok(());
+        };
+        let list = list_of(control, &debt.event);
+        cut_within(
+            &self.table,
+            pass,
+            CutOp::new(list, Some((debt.event, debt.row))),
+            budget,
+        )?;
+        pass.debts.cut = None;
+        Ok(())
+    }
+
+    /// Finishes what a resting pass owes.
+    fn settle(&self, pass: &mut Pass, budget: u32) -> Result<(), Spent>
+        requires rests { IsResting self.now.table pass.old }
+        requires within { pass.old.turns ≤ budget }
+        ensures { (n : ℕ) → MayRun self.now.table n budget pass.old → DebtSettled self.now.table n budget pass.old pass.new result }
+    {
+        if pass.debts.cut.is_none() {
+            return Ok(());
+        }
+        let control = control_step(&self.table, pass);
+        enter(&self.table, pass);
+        let end = self.finish_cut(pass, &control, budget);
+        leave(&self.table, pass);
+        end
+    }
+
+    /// A row that the pass may use: a free one, a ripe one, or one that a recovery makes free.
+    fn free_row(&self, pass: &mut Pass, budget: u32) -> Result<u32, Refusal>
+        requires rests { IsResting self.now.table pass.old }
+        requires within { pass.old.turns ≤ budget }
+        ensures { (n : ℕ) → MayRun self.now.table n budget pass.old → RowFound self.now.table n budget pass.old pass.new result }
+    {
+        if let Some(row) = own_row(&self.table, pass) {
+            return Ok(row);
+        }
+        match recover_within(&self.table, pass, budget) {
+            Ok(Recover::Held(holder)) => Err(Refusal::Held(holder)),
+            Ok(Recover::Rows) => Err(Refusal::Rows),
+            Ok(_) => match pass.free.front() {
+                Some(row) => Ok(*row),
+                None => unreachable!(),
+            },
+            Err(Spent) => Err(Refusal::Again { turns: budget }),
+        }
+    }
+
+    /// Links an event into the list, and rests.
+    fn insert(
+        &self,
+        pass: &mut Pass,
+        control: &Control,
+        row: u32,
+        event: &Event,
+        budget: u32,
+    ) -> Result<(), Spent>
+        requires rests { IsResting self.now.table pass.old }
+        requires control { (caller self.now.table pass.old).found.control ≡ Some control.now }
+        requires held { In row (caller self.now.table pass.old).hand }
+        requires fresh { IsFresh self.now.table.start.layout.workers (caller self.now.table pass.old).deal.history (caller self.now.table pass.old).own (caller self.now.table pass.old).deal.span pass.old.number event.now }
+        requires within { pass.old.turns ≤ budget }
+        ensures { (n : ℕ) → MayRun self.now.table n budget pass.old → EventInserted self.now.table n budget event.now pass.old pass.new result }
+    {
+        enter(&self.table, pass);
+        let op = InsertOp::new(list_of(control, event), row, *event, None);
+        let end = insert_within(&self.table, pass, op, budget);
+        leave(&self.table, pass);
+        end
+    }
+
+    /// Puts an event within a budget of exchanges. It first cuts a dead row that the pass owes. The entries that it adds are
+    /// a Begin, the Put and its Settled; after a refusal nothing was put, and at most a Begin was added.
+    ///
+    /// Again comes where the budget is used up and one more exchange is needed, Held where no row is free or ripe and a caller
+    /// keeps the epoch, Rows where none is free or ripe after the epoch rose three times.
+    pub fn try_put(&self, pass: &mut Pass, event: &Event, budget: u32) -> Result<PutEnd, Refusal>
+        requires rests { IsResting self.now.table pass.old }
+        requires budget { 1 ≤ budget }
+        requires fresh { IsFresh self.now.table.start.layout.workers (caller self.now.table pass.old).deal.history (caller self.now.table pass.old).own (caller self.now.table pass.old).deal.span pass.old.number event.now }
+        ensures { PutAnswers self.now.table budget pass.old pass.new event.now result }
+    {
+        pass.turns = 0;
+        let again = Refusal::Again { turns: budget };
+        if self.settle(pass, budget).is_err() {
+            return Err(again);
+        }
+        let control = begin_step(&self.table, pass);
+        let row = self.free_row(pass, budget)?;
+        match self.insert(pass, &control, row, event, budget) {
+            Ok(()) => Ok(PutEnd::Settled),
+            Err(Spent) => Err(again),
+        }
+    }
+
+    /// Marks the least event below the limit, while the guard is on: `Some` is the event, and its row is owed to be cut. None
+    /// where there is no such event.
+    fn mark(
+        &self,
+        pass: &mut Pass,
+        control: &Control,
+        limit: u64,
+        budget: u32,
+    ) -> Result<Option<Event>, Spent>
+        requires of { IsPassOf self.now.table pass.old }
+        requires inside { IsInside self.now.table control.now pass.old }
+        requires one { control.now.log ≡ 0 }
+        requires began { EndsInBegin (caller self.now.table pass.old).own }
+        requires free { pass.old.debts.cut ≡ None }
+        requires within { pass.old.turns ≤ budget }
+        ensures { (n : ℕ) → MayRun self.now.table n budget pass.old → EventTaken self.now.table n budget control.now limit pass.old pass.new result }
+    {
+        loop {
+            let op = TakeOp::new(*control, Place::Bucket(LAST_BUCKET), limit);
+            match take_within(&self.table, pass, op, budget)? {
+                MarkEnd::Marked(_, event) => return Ok(Some(event)),
+                MarkEnd::Lost => {}
+                _ => {
+                    miss_step(&self.table, pass, limit);
+                    return Ok(None);
+                }
+            }
+        }
+    }
+
+    /// Takes the least event below the limit within a budget of exchanges. It first cuts a dead row that the pass owes. The
+    /// entries that it adds are a Begin, and the Take or the Miss; after a refusal nothing was taken, and at most a Begin was
+    /// added. Where the budget ends after the event's row was marked, the pass owes the cut of that row.
+    ///
+    /// Its one refusal is Again, where the budget is used up and one more exchange is needed.
+    pub fn try_take(&self, pass: &mut Pass, limit: u64, budget: u32) -> Result<TakeEnd, Refusal>
+        requires rests { IsResting self.now.table pass.old }
+        requires budget { 1 ≤ budget }
+        ensures { TakeAnswers self.now.table budget pass.old pass.new limit result }
+    {
+        pass.turns = 0;
+        let again = Refusal::Again { turns: budget };
+        if self.settle(pass, budget).is_err() {
+            return Err(again);
+        }
+        let control = begin_step(&self.table, pass);
+        enter(&self.table, pass);
+        let end = match self.mark(pass, &control, limit, budget) {
+            Ok(Some(event)) => {
+                let _owed = self.finish_cut(pass, &control, budget);
+                Ok(TakeEnd::Taken(event, Route::Bucket(0)))
+            }
+            Ok(None) => Ok(TakeEnd::Missed),
+            Err(Spent) => Err(again),
+        };
+        leave(&self.table, pass);
+        end
+    }
+
+    /// Finishes what the pass owes within a budget of exchanges, and nothing else. It adds no entry. Where the pass owes
+    /// nothing it makes no step. Its one refusal is Again, as under `try_take`.
+    pub fn try_settle(&self, pass: &mut Pass, budget: u32) -> Result<(), Refusal>
+        requires rests { IsResting self.now.table pass.old }
+        requires budget { 1 ≤ budget }
+        ensures answers { SettleAnswers self.now.table budget pass.old pass.new result }
+        ensures idle { pass.old.debts.cut ≡ None → caller self.now.table pass.new ≡ caller self.now.table pass.old }
+    {
+        pass.turns = 0;
+        match self.settle(pass, budget) {
+            Ok(()) => Ok(()),
+            Err(Spent) => Err(Refusal::Again { turns: budget }),
+        }
+    }
+}
