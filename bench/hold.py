@@ -1,0 +1,127 @@
+#!/usr/bin/env python3
+"""hold.py PROGRAM PEER: times two programs of the hold model in turn; hold.sh builds the peer and calls it.
+
+From the environment: REPEATS (5) runs of each program per row, HOLDS (as many as take the peer about a second) holds
+per run, LIMIT (120) seconds per run.
+"""
+import os
+import re
+import statistics
+import subprocess
+import sys
+import time
+
+CASES = [(threads, pending) for threads in (1, 4) for pending in (16, 256)]
+SEED = 7
+LINES = re.compile(rb"holds ([0-9]+)\nsum [0-9]+\n")
+
+
+class Failure(Exception):
+    """Why a run gives no time."""
+
+
+def stop(why):
+    """Ends the measurement where nothing can be measured."""
+    print(f"hold.py: {why}", file=sys.stderr)
+    sys.exit(2)
+
+
+def setting(name, default):
+    """The number that the environment has under this name."""
+    word = os.environ.get(name)
+    if not word:
+        return default
+    if not re.fullmatch("[1-9][0-9]*", word):
+        stop(f"{name} has to be a positive number")
+    return int(word)
+
+
+REPEATS, HOLDS, LIMIT = setting("REPEATS", 5), setting("HOLDS", None), setting("LIMIT", 120)
+
+
+def timed(program, words):
+    """Runs the program once; the seconds by the clock, and the bytes printed."""
+    command = [program, *map(str, words)]
+    start = time.perf_counter()
+    try:
+        done = subprocess.run(command, stdin=subprocess.DEVNULL, stdout=subprocess.PIPE, timeout=LIMIT)
+    except subprocess.TimeoutExpired:
+        raise Failure(f"above {LIMIT} s") from None
+    except OSError as error:
+        raise Failure(error.strerror) from None
+    seconds = time.perf_counter() - start
+    if done.returncode != 0:
+        raise Failure(f"status {done.returncode}")
+    return seconds, done.stdout
+
+
+def timed_peer(peer, words):
+    """The same for the peer, which must not fail."""
+    try:
+        return timed(peer, words)
+    except Failure as failure:
+        stop(f"the peer with {' '.join(map(str, words))}: {failure}")
+
+
+def fitting(peer, threads, pending):
+    """A round number of holds that takes the peer about a second."""
+    holds, seconds = 25_000, 0
+    while seconds < 0.3:
+        holds *= 4
+        seconds, _ = timed_peer(peer, (threads, pending, holds, SEED))
+    rate = int(holds / seconds)
+    return round(rate, 2 - len(str(rate)))
+
+
+def measured(program, peer, words):
+    """The median seconds of the program and of the peer, and the holds made.
+
+    The two run in turn, and each repeat begins with the other one. Every run has to print what the peer printed
+    before the repeats.
+    """
+    _, due = timed_peer(peer, words)
+    form = LINES.fullmatch(due)
+    if not form:
+        stop(f"the peer printed {due[:80]!r}")
+    own, others = [], []
+    for repeat in range(REPEATS):
+        turns = [(timed, program, own), (timed_peer, peer, others)]
+        for run, what, times in turns if repeat % 2 == 0 else reversed(turns):
+            seconds, lines = run(what, words)
+            if lines != due:
+                raise Failure("other lines than the peer")
+            times.append(seconds)
+    return statistics.median(own), statistics.median(others), int(form[1])
+
+
+def row(program, peer, threads, pending):
+    """Prints one row of the table; whether it has figures."""
+    holds = HOLDS or fitting(peer, threads, pending)
+    print(f"| {threads} | {pending} | {holds:,} |", end=" ", flush=True)
+    try:
+        own, other, made = measured(program, peer, (threads, pending, holds, SEED))
+    except Failure as failure:
+        print(f"{failure} | | |", flush=True)
+        return False
+    print(f"{made / own:,.0f} | {made / other:,.0f} | {own / other:.2f} |", flush=True)
+    return True
+
+
+def load():
+    """The load of the machine over the last minute."""
+    return f"{os.getloadavg()[0]:.1f}"
+
+
+def main():
+    if len(sys.argv) != 3:
+        stop(__doc__)
+    program, peer = sys.argv[1:]
+    print(f"Medians of {REPEATS} runs of each, in turn, on {os.cpu_count()} processors; load {load()} at the start.\n")
+    print("| threads | pending | holds | program, holds per second | peer, holds per second | time of program / peer |")
+    print("|---:|---:|---:|---:|---:|---:|", flush=True)
+    whole = [row(program, peer, threads, pending) for threads, pending in CASES]
+    print(f"\nLoad {load()} at the end.")
+    sys.exit(0 if all(whole) else 1)
+
+
+main()

@@ -1,0 +1,53 @@
+//! The workers of all callers of a calendar.
+ghost use Rattle.std.specs.Prelude.{◌≡◌, ◌≤◌, length, IfOk};
+ghost use Rattle.crq_base.specs.Starts.{IsFirst};
+ghost use Rattle.crq_hold.specs.Teams.{AreAtHome, AreFree, AreInOrder, AreLifted, AreLowered, AreWorkers};
+
+use crate::worker::Worker;
+use crq_base::First;
+use crq_queue::{Calendar, Memory, Passes};
+use std::alloc::{AllocError, Global};
+
+/// Takes all passes out of their places, each for a new worker.
+pub fn lift_all(alloc: Global, callers: u32, passes: &mut Passes) -> Result<Vec<Worker>, AllocError>
+    requires { AreAtHome callers passes.old.places.items }
+    ensures { IfOk result (λ workers. AreLifted passes.old.places.items passes.new.places.items workers.items callers) }
+{
+    let mut workers = Vec::with_capacity(alloc, callers as usize)?;
+    for number in 0..callers {
+        let pass = passes.lift(number);
+        workers.push(Worker { pass, next: 0 })?;
+    }
+    Ok(workers)
+}
+
+/// Puts the passes of all workers back in their places.
+pub fn lower_all(passes: &mut Passes, workers: Vec<Worker>)
+    requires order { AreInOrder workers.items }
+    requires free { AreFree (length workers.items) passes.old.places.items }
+    ensures { AreLowered passes.old.places.items passes.new.places.items workers.items (length workers.items) }
+{
+    for worker in workers {
+        passes.lower(worker.pass);
+    }
+}
+
+/// A new calendar, and a worker for each of its callers. The places of their passes stay free.
+pub fn team(
+    alloc: Global,
+    callers: u32,
+    rows: u32,
+    first: First,
+) -> Result<(Calendar, Passes, Vec<Worker>), Memory>
+    requires callers { (1 ≤ callers) × (callers ≤ 16) }
+    requires rows { (4 ≤ rows) × (rows ≤ 131072) }
+    requires first { IsFirst first }
+    ensures workers { IfOk result (λ made. AreWorkers made.0.table made.2.items) }
+    ensures count { IfOk result (λ made. length made.2.items ≡ callers) }
+    ensures free { IfOk result (λ made. (length made.1.places.items ≡ callers) × AreFree callers made.1.places.items) }
+{
+    let (queue, whole) = Calendar::make(alloc, callers, rows, first)?;
+    let mut passes = queue.deal(whole, 1);
+    let workers = lift_all(alloc, callers, &mut passes)?;
+    Ok((queue, passes, workers))
+}

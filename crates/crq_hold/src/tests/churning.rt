@@ -1,0 +1,193 @@
+//! Callers that put and take at once: what they put comes out, each event once.
+ghost use Rattle.std.specs.Prelude.{◌≤◌};
+ghost use Rattle.crq_hold.specs.Workers.{IsWorker, WorksOn};
+
+use crate::team::team;
+use crate::tests::LIMIT;
+use crate::worker::Worker;
+use crq_base::{Event, First, TakeEnd};
+use crq_queue::{Calendar, Memory};
+use crq_sim::draw;
+use std::alloc::{AllocError, Global};
+use std::process::Abort;
+use std::test::Fail;
+use std::thread::{self, Threads};
+
+/// How often a refused call is tried again.
+const TRIES: u32 = 1_000_000;
+/// The exchanges that a call may make: so few that it is often refused.
+const BUDGET: u32 = 2;
+/// How many events a caller puts before it takes as many.
+const BATCH: u32 = 8;
+
+/// What came of one worker's calls.
+#[derive(Drop)]
+struct Record {
+    /// How many events it put.
+    puts: u64,
+    /// The events that it took, in order.
+    taken: Vec<Event>,
+    /// Whether it came to its end.
+    whole: bool,
+}
+
+/// The event that a source puts under this number.
+pub(crate) fn planned(src: u32, seq: u64) -> Event {
+    let (value, _) = draw(seq.wrapping_mul(16).wrapping_add(u64::from(src)));
+    Event {
+        time: (value % 64) as u32,
+        src,
+        seq,
+        dst: 1,
+        load: 0,
+    }
+}
+
+/// All events that so many callers put, each so many of them.
+pub(crate) fn all_planned(
+    alloc: Global,
+    callers: u32,
+    each: u64,
+) -> Result<Vec<Event>, AllocError> {
+    let mut events = Vec::new(alloc);
+    for src in 0..callers {
+        for seq in 0..each {
+            events.push(planned(src, seq))?;
+        }
+    }
+    Ok(events)
+}
+
+/// Puts the worker's next event, and says whether that was done.
+fn put_next(queue: &Calendar, worker: &mut Worker) -> bool
+    requires { IsWorker queue.now.table worker.old }
+    ensures { WorksOn queue.now.table worker.old worker.new }
+{
+    let event = planned(worker.pass.number, worker.next);
+    for _ in 0..TRIES {
+        if worker.put(queue, event.time, event.load, BUDGET).is_ok() {
+            return true;
+        }
+        thread::yield_now();
+    }
+    false
+}
+
+/// Puts the worker's next events, and says whether all were put.
+pub(crate) fn put_some(queue: &Calendar, worker: &mut Worker, count: u32) -> bool
+    requires { IsWorker queue.now.table worker.old }
+    ensures { WorksOn queue.now.table worker.old worker.new }
+{
+    for _ in 0..count {
+        if !put_next(queue, worker) {
+            return false;
+        }
+    }
+    true
+}
+
+/// Takes an event, where one comes in time.
+fn take_next(queue: &Calendar, worker: &mut Worker) -> Option<Event>
+    requires { IsWorker queue.now.table worker.old }
+    ensures { WorksOn queue.now.table worker.old worker.new }
+{
+    for _ in 0..TRIES {
+        if let Ok(TakeEnd::Taken(event, _)) = worker.take(queue, LIMIT, BUDGET) {
+            return Some(event);
+        }
+        thread::yield_now();
+    }
+    None
+}
+
+/// Takes a batch of events, and says whether all were taken and noted.
+fn take_some(queue: &Calendar, worker: &mut Worker, taken: &mut Vec<Event>) -> bool
+    requires { IsWorker queue.now.table worker.old }
+    ensures { WorksOn queue.now.table worker.old worker.new }
+{
+    for _ in 0..BATCH {
+        let Some(event) = take_next(queue, worker) else {
+            return false;
+        };
+        if taken.push(event).is_err() {
+            return false;
+        }
+    }
+    true
+}
+
+/// Puts and takes so many batches of events.
+fn churn(alloc: Global, queue: &Calendar, mut worker: Worker, batches: u32) -> Record
+    requires { IsWorker queue.now.table worker }
+{
+    let mut taken = Vec::new(alloc);
+    let mut whole = true;
+    for _ in 0..batches {
+        whole = put_some(queue, &mut worker, BATCH)
+            && take_some(queue, &mut worker, &mut taken)
+            && whole;
+    }
+    Record {
+        puts: worker.next,
+        taken,
+        whole,
+    }
+}
+
+/// Has so many callers put and take so many batches each, all at once.
+fn churn_all<R: Threads + Sync>(
+    rt: &R,
+    alloc: Global,
+    callers: u32,
+    batches: u32,
+) -> Result<Vec<Record>, Memory>
+    requires { (1 ≤ callers) × (callers ≤ 16) }
+{
+    let (queue, _places, workers) = team(alloc, callers, 64, First::of_program())?;
+    let queue = &queue;
+    let records = thread::map_vec(
+        rt,
+        workers,
+        &|worker: Worker| -> Record
+            requires { IsWorker queue.now.table worker }
+        { churn(alloc, queue, worker, batches) },
+    )?;
+    Ok(records)
+}
+
+/// Checks that what so many callers put comes out, each event once.
+fn nothing_is_lost<R: Threads + Abort + Sync>(
+    rt: &R,
+    alloc: Global,
+    callers: u32,
+) -> Result<(), Fail>
+    requires { (1 ≤ callers) × (callers ≤ 16) }
+{
+    let batches = 2500u32.div_ceil(callers);
+    let each = u64::from(batches) * u64::from(BATCH);
+    let mut all = Vec::new(alloc);
+    for record in churn_all(rt, alloc, callers, batches)? {
+        assert!(rt; record.whole, "{callers} callers: one gave up");
+        assert_eq!(rt; record.puts, each, "{callers} callers");
+        assert_eq!(rt; record.taken.len() as u64, each, "{callers} callers");
+        for event in record.taken.as_slice() {
+            all.push(*event)?;
+        }
+    }
+    all.as_mut_slice().sort_unstable();
+    let mut planned = all_planned(alloc, callers, each)?;
+    planned.as_mut_slice().sort_unstable();
+    assert!(rt;
+        all.as_slice() == planned.as_slice(),
+        "{callers} callers: other events came out"
+    );
+    Ok(())
+}
+
+#[test]
+fn nothing_is_lost_or_invented(rt: HostRuntime) -> Result<(), Fail> {
+    nothing_is_lost(&rt, rt.alloc(), 2)?;
+    nothing_is_lost(&rt, rt.alloc(), 4)?;
+    nothing_is_lost(&rt, rt.alloc(), 16)?;
+    Ok(())
+}

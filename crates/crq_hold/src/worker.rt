@@ -1,0 +1,56 @@
+//! A worker of the hold model.
+ghost use Rattle.std.specs.Prelude.{◌≤◌};
+ghost use Rattle.crq_queue.specs.Wholes.{IsResting};
+ghost use Rattle.crq_hold.specs.Workers.{IsWorker, WorksOn};
+
+use crq_base::Event;
+use crq_queue::{Calendar, Pass, PutEnd, Refusal, TakeEnd};
+
+/// A caller that puts events of its own source, whose number is that of its pass.
+#[derive(Drop)]
+pub struct Worker {
+    /// Its pass.
+    pub pass: Pass,
+    /// The number of its next event.
+    pub next: u64,
+}
+
+impl Worker {
+    /// Puts an event with the next number of the worker's source, within a budget of exchanges. Where it is refused the number
+    /// stays; Epochs comes where the numbers are used up.
+    pub fn put(
+        &mut self,
+        queue: &Calendar,
+        time: u32,
+        load: u64,
+        budget: u32,
+    ) -> Result<PutEnd, Refusal>
+        requires worker { IsWorker queue.now.table self.old }
+        requires budget { 1 ≤ budget }
+        ensures { WorksOn queue.now.table self.old self.new }
+    {
+        if self.next == u64::MAX {
+            return Err(Refusal::Epochs);
+        }
+        let event = Event {
+            time,
+            src: self.pass.number,
+            seq: self.next,
+            dst: 1,
+            load,
+        };
+        let end = queue.try_put(&mut self.pass, &event, budget)?;
+        self.next += 1;
+        Ok(end)
+    }
+
+    /// Takes the least event below the limit, within a budget of exchanges.
+    pub fn take(&mut self, queue: &Calendar, limit: u64, budget: u32) -> Result<TakeEnd, Refusal>
+        requires rests { IsResting queue.now.table self.old.pass }
+        requires budget { 1 ≤ budget }
+        ensures rests { IsResting queue.now.table self.new.pass }
+        ensures worker { IsWorker queue.now.table self.old → WorksOn queue.now.table self.old self.new }
+    {
+        queue.try_take(&mut self.pass, limit, budget)
+    }
+}
