@@ -54,6 +54,7 @@ impl CutOp {
     }
 
     /// Makes one atomic step.
+    #[inline(always)]
     pub fn step(&mut self, table: &Table, pass: &mut Pass) -> Progress<CutEnd>
         requires of { IsPassOf table.now pass.old }
         requires op { (n : ℕ) × (x : Control) × IsCutting n table.now x self.old (caller table.now pass.old) }

@@ -65,6 +65,7 @@ fn word_at(event: &Event, place: u32) -> u64
 }
 
 /// Writes the word at a place of the row: no twin, or a word of the event.
+#[inline(always)]
 fn write_word(
     table: &Table,
     pass: &mut Pass,
@@ -88,6 +89,7 @@ fn write_word(
 }
 
 /// Makes one step of the walk to the row's place.
+#[inline(always)]
 fn seek_place(
     table: &Table,
     pass: &mut Pass,
@@ -107,6 +109,7 @@ fn seek_place(
 }
 
 /// Writes the row's own link: the row that is next behind the spot is to follow it.
+#[inline(always)]
 fn place_row(
     table: &Table,
     pass: &mut Pass,
@@ -123,6 +126,7 @@ fn place_row(
 }
 
 /// Links the row behind the spot, or walks the list anew where the spot's link has changed.
+#[inline(always)]
 fn link_row(
     table: &Table,
     pass: &mut Pass,
@@ -172,6 +176,7 @@ impl InsertOp {
     }
 
     /// Makes one atomic step.
+    #[inline(always)]
     pub fn step(&mut self, table: &Table, pass: &mut Pass) -> Progress<InsertEnd>
         requires of { IsPassOf table.now pass.old }
         requires op { (n : ℕ) × (x : Control) × IsInserting n table.now x self.old (caller table.now pass.old) }

@@ -44,6 +44,7 @@ pub enum Sought {
 
 /// What is to be done after a spot was passed: to read of the next row, to load its link where all of the list is walked,
 /// or nothing more where there is none.
+#[inline(always)]
 fn next_of(before: Before, target: &Target) -> (Seek, Sought)
     ensures { result ≡ next_seek before target.now }
 {
@@ -57,6 +58,7 @@ fn next_of(before: Before, target: &Target) -> (Seek, Sought)
 }
 
 /// Loads the link of a spot.
+#[inline(always)]
 fn load(
     table: &Table,
     pass: &mut Pass,
@@ -77,6 +79,7 @@ fn load(
 }
 
 /// The part of an event's key that stands at this place of its row: 2 for its time, 3 for its source and 4 for its number.
+#[inline(always)]
 fn key_part(event: &Event, place: u32) -> u64
     ensures { result ≡ key_part event.now place }
 {
@@ -88,6 +91,7 @@ fn key_part(event: &Event, place: u32) -> u64
 }
 
 /// That part of the word at the place.
+#[inline(always)]
 fn part_of(word: u64, place: u32) -> u64
     ensures { result ≡ part_of word place }
 {
@@ -95,6 +99,7 @@ fn part_of(word: u64, place: u32) -> u64
 }
 
 /// Reads a word of the next row's event, and compares it with the target's.
+#[inline(always)]
 fn read(
     table: &Table,
     pass: &mut Pass,
@@ -128,6 +133,7 @@ fn read(
 }
 
 /// Loads the link of the next row, which is passed where it is present.
+#[inline(always)]
 fn pass_row(
     table: &Table,
     pass: &mut Pass,
@@ -149,6 +155,7 @@ fn pass_row(
 }
 
 /// Cuts the next row, which is dead.
+#[inline(always)]
 fn cut_row(
     table: &Table,
     pass: &mut Pass,
@@ -169,6 +176,7 @@ fn cut_row(
 }
 
 /// Loads the epoch, with which the row that was cut is to be retired.
+#[inline(always)]
 fn tag(
     table: &Table,
     pass: &mut Pass,
@@ -186,6 +194,7 @@ fn tag(
 }
 
 /// Retires the row that was cut, and goes on behind the spot.
+#[inline(always)]
 fn retire(
     table: &Table,
     pass: &mut Pass,
@@ -212,6 +221,7 @@ impl Seek {
     }
 
     /// Makes one atomic step.
+    #[inline(always)]
     pub(crate) fn step(
         &mut self,
         table: &Table,

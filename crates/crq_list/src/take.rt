@@ -70,6 +70,7 @@ const UNREAD: Event = Event {
 };
 
 /// What comes after a head or row that was passed: the row that its link names, or the end of the list.
+#[inline(always)]
 fn onward(link: Link) -> (Taking, Progress<MarkEnd>)
     ensures { ((link.row ≡ 0) × (result ≡ (Load, Done Nothing))) ⊎ ((0 < link.row) × (result ≡ (Walking link.row, More))) }
 {
@@ -81,6 +82,7 @@ fn onward(link: Link) -> (Taking, Progress<MarkEnd>)
 }
 
 /// The event with the word that was read at this place of its row.
+#[inline(always)]
 fn with_word(event: Event, place: u32, word: u64) -> Event
     requires place { (2 ≤ place) × (place < 6) }
     requires word { (e : Event) × IsEvent e × (word ≡ event_word e place) }
@@ -127,6 +129,7 @@ impl TakeOp {
     }
 
     /// Loads the head.
+    #[inline(always)]
     fn load(&self, table: &Table, pass: &mut Pass) -> (Taking, Progress<MarkEnd>)
         requires of { IsPassOf table.now pass.old }
         requires op { (n : ℕ) × (x : Control) × IsTaking n table.now x (record self.now { state = Load }) (caller table.now pass.old) }
@@ -140,6 +143,7 @@ impl TakeOp {
     }
 
     /// Loads the link of the row at which the walk is, and goes past it where it is dead.
+    #[inline(always)]
     fn walk(&self, table: &Table, pass: &mut Pass, row: u32) -> (Taking, Progress<MarkEnd>)
         requires of { IsPassOf table.now pass.old }
         requires op { (n : ℕ) × (x : Control) × IsTaking n table.now x (record self.now { state = Walking row }) (caller table.now pass.old) }
@@ -154,6 +158,7 @@ impl TakeOp {
     }
 
     /// Reads one word of the present row's event.
+    #[inline(always)]
     fn read(
         &self,
         table: &Table,
@@ -179,6 +184,7 @@ impl TakeOp {
     }
 
     /// Marks the present row.
+    #[inline(always)]
     fn mark(
         &self,
         table: &Table,
@@ -201,6 +207,7 @@ impl TakeOp {
     }
 
     /// Makes one atomic step.
+    #[inline(always)]
     pub fn step(&mut self, table: &Table, pass: &mut Pass) -> Progress<MarkEnd>
         requires of { IsPassOf table.now pass.old }
         requires free { pass.old.debts.cut ≡ None }

@@ -27,6 +27,7 @@ use crq_rows::{Pass, Recover};
 const LAST_BUCKET: u32 = u32::MAX;
 
 /// The list of an event in the table with this control word.
+#[inline(always)]
 fn list_of(control: &Control, event: &Event) -> ListAt
     requires { IsControl control.now }
     ensures { (result.generation ≡ control.now.generation) × (result.head ≡ head_of control.now event.now) }
@@ -39,6 +40,7 @@ fn list_of(control: &Control, event: &Event) -> ListAt
 
 impl Calendar {
     /// Cuts the dead row that the pass owes, if it owes one, while its guard is on.
+    #[inline(always)]
     fn finish_cut(&self, pass: &mut Pass, control: &Control, budget: u32) -> Result<(), Spent>
         requires of { IsPassOf self.now.table pass.old }
         requires inside { IsInside self.now.table control.now pass.old }
@@ -96,6 +98,7 @@ impl Calendar {
     }
 
     /// Links an event into the list, and rests.
+    #[inline(always)]
     fn insert(
         &self,
         pass: &mut Pass,
@@ -144,6 +147,7 @@ impl Calendar {
 
     /// Marks the least event below the limit, while the guard is on: `Some` is the event, and its row is owed to be cut. None
     /// where there is no such event.
+    #[inline(always)]
     fn mark(
         &self,
         pass: &mut Pass,

@@ -19,6 +19,7 @@ use crq_rows::{
 pub(crate) struct Spent;
 
 /// Turns the guard on.
+#[inline(always)]
 pub(crate) fn enter(table: &Table, pass: &mut Pass)
     requires of { IsPassOf table.now pass.old }
     requires off { (caller table.now pass.old).guard ≡ Off }
@@ -30,6 +31,7 @@ pub(crate) fn enter(table: &Table, pass: &mut Pass)
 }
 
 /// Turns the guard off.
+#[inline(always)]
 pub(crate) fn leave(table: &Table, pass: &mut Pass)
     requires of { IsPassOf table.now pass.old }
     requires cut { (caller table.now pass.old).cut ≡ None }
@@ -40,6 +42,7 @@ pub(crate) fn leave(table: &Table, pass: &mut Pass)
 }
 
 /// Makes a cut, unless the budget ends before it.
+#[inline(always)]
 pub(crate) fn cut_within(
     table: &Table,
     pass: &mut Pass,
@@ -63,6 +66,7 @@ pub(crate) fn cut_within(
 }
 
 /// Makes an insertion, unless the budget ends before it.
+#[inline(always)]
 pub(crate) fn insert_within(
     table: &Table,
     pass: &mut Pass,
@@ -86,6 +90,7 @@ pub(crate) fn insert_within(
 }
 
 /// Makes a take from the list, unless the budget ends before it.
+#[inline(always)]
 pub(crate) fn take_within(
     table: &Table,
     pass: &mut Pass,
@@ -109,6 +114,7 @@ pub(crate) fn take_within(
 }
 
 /// The first free row of the pass, or a ripe one. None is Empty.
+#[inline(always)]
 pub(crate) fn own_row(table: &Table, pass: &mut Pass) -> Option<u32>
     requires of { IsPassOf table.now pass.old }
     ensures { (n budget : ℕ) → MayRun table.now n budget pass.old → OwnRan table.now n budget pass.old pass.new result }
