@@ -261,7 +261,7 @@ mod tests {
     use super::*;
 
     #[test]
-    fn packs_and_unpacks(rt: HostRuntime) {
+    fn packs_and_unpacks_links(rt: HostRuntime) {
         for (mark, word) in [
             (Mark::Val, 0x0400_0014),
             (Mark::Inv, 0x0400_0015),
@@ -276,9 +276,18 @@ mod tests {
             assert_eq!(rt; link.pack(), word);
             assert_eq!(rt; Link::unpack(word), Some(link));
         }
-        let current = Current { epoch: 1, tick: 8 };
-        assert_eq!(rt; current.pack(), 0x0000_0001_0000_0008);
-        assert_eq!(rt; Current::unpack(0x0000_0001_0000_0008), Some(current));
+    }
+
+    #[test]
+    fn packs_and_unpacks_currents(rt: HostRuntime) {
+        for (current, word) in [(Current { epoch: 1, tick: 8 }, 0x0000_0001_0000_0008)] {
+            assert_eq!(rt; current.pack(), word);
+            assert_eq!(rt; Current::unpack(word), Some(current));
+        }
+    }
+
+    #[test]
+    fn packs_and_unpacks_controls(rt: HostRuntime) {
         let steady = Control {
             generation: 1,
             moving: false,
@@ -299,12 +308,22 @@ mod tests {
             assert_eq!(rt; control.pack(), word);
             assert_eq!(rt; Control::unpack(word), Some(control));
         }
+    }
+
+    #[test]
+    fn packs_and_unpacks_pins(rt: HostRuntime) {
         let pin = Pin {
             generation: 2,
             epoch: 7,
         };
-        assert_eq!(rt; pin.pack(), 0x0000_0002_0000_0007);
-        assert_eq!(rt; Pin::unpack(0x0000_0002_0000_0007), Some(pin));
+        for (pin, word) in [(pin, 0x0000_0002_0000_0007)] {
+            assert_eq!(rt; pin.pack(), word);
+            assert_eq!(rt; Pin::unpack(word), Some(pin));
+        }
+    }
+
+    #[test]
+    fn packs_and_unpacks_stamps(rt: HostRuntime) {
         for (stamp, word) in [
             (Stamp::Kept, 0),
             (Stamp::Retired(0), 1),
