@@ -1,3 +1,4 @@
 pub mod Language
 pub mod Canonical
 pub mod Drafts
+pub mod Wording

@@ -45,6 +45,11 @@ impl Fault {
 }
 
 impl fmt::Display for Fault {
+    ghost use Rattle.std.specs.Prelude.{Some};
+    ghost use Rattle.crq_reader.specs.Wording.{fault_words};
+
+    ghost output = { λ fault. Some (fault_words fault) };
+
     fn fmt<W: fmt::Write>(&self, f: &mut fmt::Formatter<W>) -> fmt::Result {
         f.write_str(match self {
             Fault::NotJson => "the text isn't JSON in UTF-8",
@@ -73,6 +78,11 @@ pub enum Place {
 }
 
 impl fmt::Display for Place {
+    ghost use Rattle.std.specs.Prelude.{Some};
+    ghost use Rattle.crq_reader.specs.Wording.{place_words};
+
+    ghost output = { λ place. Some (place_words place) };
+
     fn fmt<W: fmt::Write>(&self, f: &mut fmt::Formatter<W>) -> fmt::Result {
         match self {
             Place::File => f.write_str("the model"),
@@ -94,6 +104,11 @@ pub struct ModelFault {
 }
 
 impl fmt::Display for ModelFault {
+    ghost use Rattle.std.specs.Prelude.{Some};
+    ghost use Rattle.crq_reader.specs.Wording.{model_fault_words};
+
+    ghost output = { λ fault. Some (model_fault_words fault) };
+
     fn fmt<W: fmt::Write>(&self, f: &mut fmt::Formatter<W>) -> fmt::Result {
         write!(f, "{}: {}", self.place, self.number)
     }

@@ -1,5 +1,8 @@
 //! An ending in words, for a person.
 
+ghost use Rattle.std.specs.Prelude.{◌≡◌};
+ghost use Rattle.crq_top.specs.Explained.{model_name};
+
 use crate::ending::Ending;
 use std::fmt::{self, Display, Formatter};
 
@@ -13,7 +16,9 @@ pub struct Explanation<'a> {
 
 impl Explanation<'_> {
     /// The name of the model.
-    fn model(&self) -> &str {
+    fn model(&self) -> &str
+        ensures { result.now ≡ model_name self.now }
+    {
         match self.words.get(1) {
             Some(model) => model.as_str(),
             None => "",
@@ -22,6 +27,11 @@ impl Explanation<'_> {
 }
 
 impl Display for Explanation<'_> {
+    ghost use Rattle.std.specs.Prelude.{Some};
+    ghost use Rattle.crq_top.specs.Explained.{explained};
+
+    ghost output = { λ e. Some (explained e) };
+
     fn fmt<W: fmt::Write>(&self, f: &mut Formatter<W>) -> fmt::Result {
         let model = self.model();
         match &self.ending {
