@@ -55,15 +55,16 @@ impl Mark {
     }
 }
 
-/// Where a list goes on: the word of a bucket's head, or of a row's link.
+/// Where a list goes on: the word of a bucket's head, or of a row's link. The fields stand in the order of their bits; in
+/// another order a walk took up to half as long again.
 #[derive(Clone, Copy, Debug, PartialEq, Eq)]
 pub struct Link {
-    /// The table's generation, below 2^30.
-    pub generation: u32,
-    /// The next row, numbered from 1 and below 2^24. There is none where it is 0.
-    pub row: u32,
     /// The mark of the head or row that holds this link.
     pub mark: Mark,
+    /// The next row, numbered from 1 and below 2^24. There is none where it is 0.
+    pub row: u32,
+    /// The table's generation, below 2^30.
+    pub generation: u32,
 }
 
 impl Link {
@@ -83,11 +84,19 @@ impl Link {
         if word >> 56 != 0 {
             return None;
         }
-        Some(Link {
+        Some(Link::from_word(word))
+    }
+
+    /// The link that packs into this word.
+    pub fn from_word(word: u64) -> Link
+        requires { IsLinkWord word }
+        ensures { IsLink result × (link_word result ≡ word) }
+    {
+        Link {
             generation: (word >> 26) as u32,
             row: ((word >> 2) % (1 << 24)) as u32,
             mark: Mark::from_number(word % 4),
-        })
+        }
     }
 }
 
@@ -159,14 +168,22 @@ impl Control {
         if word >> 49 != 0 || !moving && word % (1 << 9) != 0 {
             return None;
         }
-        Some(Control {
+        Some(Control::from_word(word))
+    }
+
+    /// The control value that packs into this word.
+    pub fn from_word(word: u64) -> Control
+        requires { IsControlWord word }
+        ensures { IsControl result × (control_word result ≡ word) }
+    {
+        Control {
             generation: (word >> 19) as u32,
-            moving,
+            moving: (word >> 18) % 2 == 1,
             log: ((word >> 14) % 16) as u32,
             shift: ((word >> 9) % 32) as u32,
             new_log: ((word >> 5) % 16) as u32,
             new_shift: (word % 32) as u32,
-        })
+        }
     }
 }
 

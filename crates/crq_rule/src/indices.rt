@@ -88,13 +88,11 @@ impl Layout {
         ensures { result ≡ index self.now (row_place row place) }
     {
         let first = ROWS + self.workers as usize + 7 * row as usize;
-        match place {
-            0 => first,
-            1 => first + 2,
-            2 => first + 3,
-            3 => first + 4,
-            4 => first + 5,
-            _ => first + 6,
+        // The stamp stands between the link and the other words.
+        if place == 0 {
+            first
+        } else {
+            first + 1 + place as usize
         }
     }
 
