@@ -3,3 +3,4 @@ pub mod InsertLaws
 pub mod TakeLaws
 pub mod SeekLaws
 pub mod SeekSteps
+pub mod Stretching

@@ -356,6 +356,12 @@ module _ (n : ℕ) (table : Table) (x : Control) (op : TakeOp) (r : ℕ) (l : Li
       refl,
       ap (λ (q : Caller). q.cut) (mark_part is) ∙ t.uncut,
       ap (λ (q : Caller). q.debts.cut) (mark_part is) ∙ t.free,
+      (
+        step_made MarkKind (index table.start.layout (cell_place (at_row r))) (link_word l) (link_word (record l { mark = Del })) s.swapped.found,
+        ap (λ (q : Caller). q.made) (mark_part is),
+        refl,
+        λ found. absurd (false≢true (sym is ∙ (sym s.swapped.won_is ∙ eq-eqb s.swapped.found (link_word l) found))),
+      ),
     )
 
 -- the step of the state at which the take is

@@ -1,5 +1,5 @@
 -- Cutting dead rows out of a list: what is known between two steps, and what each step tells.
-use Rattle.std.specs.Prelude.{◌≡◌, ◌⊎◌, ℕ, ◌<◌, true, Some, None}
+use Rattle.std.specs.Prelude.{◌≡◌, ◌⊎◌, ℕ, ◌<◌, Bool, true, Some, None}
 use Rattle.crq_base.specs.declared.words.Control.{Control}
 use Rattle.crq_rule.specs.declared.pass.Pass.{Pass}
 use Rattle.crq_rule.specs.declared.pass.Table.{Table}
@@ -11,12 +11,21 @@ use Rattle.crq_list.specs.declared.parts.Progress.TheVariants.{More, Done}
 use Rattle.crq_list.specs.declared.cut.CutEnd.{CutEnd}
 use Rattle.crq_list.specs.declared.cut.CutEnd.TheVariants.{Clean, Frozen}
 use Rattle.crq_list.specs.declared.cut.CutOp.{CutOp}
+use Rattle.crq_list.specs.declared.seek.Sought.{Sought}
+use Rattle.crq_list.specs.declared.seek.Sought.TheVariants.{More as Further, There, Frozen as FoundFrozen}
 use Rattle.crq_list.specs.Known.{Works, turns_after}
+use Rattle.crq_list.specs.Stretches.{Stretch}
 use Rattle.crq_list.specs.Seeking.{IsSeeking, seek_exchanges, seek_left}
 
 -- a caller that cuts the dead rows of a list of the table that it found
 abbrev pub IsCutting : ℕ → Table → Control → CutOp → Caller → Type 0
 IsCutting n table x op p = IsSeeking n table x op.list op.upto op.seek p
+
+-- what a step of the walk says of the cut
+abbrev pub progress_of : Sought → Progress CutEnd
+progress_of Further = More
+progress_of (There b) = Done Clean
+progress_of FoundFrozen = Done Frozen
 
 -- a dead row that was the target isn't owed any more
 abbrev pub CutAnswers : ℕ → Table → Control → CutOp → CutOp → Caller → Caller → Progress CutEnd → Type 0
@@ -35,3 +44,10 @@ pub record CutStepped (n : ℕ) (table : Table) (x : Control) (op op' : CutOp) (
   pub own : (caller table new).own ≡ (caller table old).own
   pub owed : ((caller table new).debts.cut ≡ None) ⊎ ((caller table new).debts.cut ≡ (caller table old).debts.cut)
   pub answers : CutAnswers n table x op op' (caller table old) (caller table new) answer
+
+abbrev pub cut_exchanges : CutOp → Bool
+cut_exchanges op = seek_exchanges op.seek
+
+-- one step of it was made, and then maybe others that are no exchanges
+abbrev pub CutStretch : ℕ → Table → Control → CutOp → CutOp → Pass → Pass → Progress CutEnd → Type 0
+CutStretch n table x = Stretch CutOp (Progress CutEnd) (CutStepped n table x) cut_exchanges More

@@ -18,7 +18,11 @@ use Rattle.crq_list.specs.declared.insert.InsertEnd.TheVariants.{Linked, Frozen}
 use Rattle.crq_list.specs.declared.insert.InsertOp.{InsertOp}
 use Rattle.crq_list.specs.declared.insert.Inserting.{Inserting}
 use Rattle.crq_list.specs.declared.insert.Inserting.TheVariants.{Writing, Seeking, Placing, Linking}
+use Rattle.crq_list.specs.declared.seek.Seek.{Seek}
+use Rattle.crq_list.specs.declared.seek.Sought.{Sought}
+use Rattle.crq_list.specs.declared.seek.Sought.TheVariants.{More as Further, There, Frozen as FoundFrozen}
 use Rattle.crq_list.specs.Known.{Works, turns_after}
+use Rattle.crq_list.specs.Stretches.{Stretch}
 use Rattle.crq_list.specs.Spots.{Target, IsListOf}
 use Rattle.crq_list.specs.Seeking.{IsSeeking, IsThere, seek_exchanges, seek_left}
 
@@ -61,6 +65,12 @@ state_left (Seeking seek) p = seek_left seek p + 8
 state_left (Placing b) p = 2
 state_left (Linking b) p = 1
 
+-- what follows on steps of the walk, which is there
+abbrev pub after_seek : Seek → Sought → Inserting × Progress InsertEnd
+after_seek seek Further = (Seeking seek, More)
+after_seek seek (There b) = (Placing b, More)
+after_seek seek FoundFrozen = (Seeking seek, Done Frozen)
+
 abbrev pub InsertAnswers : ℕ → Table → Control → InsertOp → InsertOp → Pass → Pass → Progress InsertEnd → Type 0
 InsertAnswers n table x op op' old new More =
     IsInserting n table x op' (caller table new) × (op' ≡ record op { state = op'.state }) × ((caller table new).own ≡ (caller table old).own) × (new.free.items ≡ old.free.items)
@@ -78,3 +88,7 @@ pub record InsertStepped (n : ℕ) (table : Table) (x : Control) (op op' : Inser
   pub debts : new.debts ≡ old.debts
   pub owed : ((caller table new).debts.cut ≡ None) ⊎ ((caller table new).debts.cut ≡ (caller table old).debts.cut)
   pub answers : InsertAnswers n table x op op' old new answer
+
+-- one step of it was made, and then maybe others that are no exchanges
+abbrev pub InsertStretch : ℕ → Table → Control → InsertOp → InsertOp → Pass → Pass → Progress InsertEnd → Type 0
+InsertStretch n table x = Stretch InsertOp (Progress InsertEnd) (InsertStepped n table x) insert_exchanges More

@@ -21,6 +21,7 @@ use Rattle.crq_list.specs.declared.seek.Seek.TheVariants.{Load, Reading, Passing
 use Rattle.crq_list.specs.declared.seek.Sought.{Sought}
 use Rattle.crq_list.specs.declared.seek.Sought.TheVariants.{More, There, Frozen}
 use Rattle.crq_list.specs.Known.{Works, turns_after}
+use Rattle.crq_list.specs.Stretches.{Stretch}
 use Rattle.crq_list.specs.Spots.{Target, IsUpTo, IsAfter, IsReached, IsPassed, IsListOf, IsTarget, left_of}
 
 -- the words of the next row's event that were read are those of the target: the time and source, before the place that is read next
@@ -100,3 +101,7 @@ pub record SeekStepped (n : ℕ) (table : Table) (x : Control) (list : ListAt) (
   pub written : (caller table new).written ≡ (caller table old).written
   pub owed : ((caller table new).debts.cut ≡ None) ⊎ ((caller table new).debts.cut ≡ (caller table old).debts.cut)
   pub answers : SeekAnswers n table x list target seek seek' (caller table old) (caller table new) answer
+
+-- one step of it was made, and then maybe others that are no exchanges
+abbrev pub SeekStretch : ℕ → Table → Control → ListAt → Target → Seek → Seek → Pass → Pass → Sought → Type 0
+SeekStretch n table x list target = Stretch Seek Sought (SeekStepped n table x list target) seek_exchanges More

@@ -1,5 +1,5 @@
 -- Taking the first present event of a list: what is known between two steps, and what each step tells.
-use Rattle.std.specs.Prelude.{◌≡◌, ◌⊎◌, ℕ, ◌+◌, ◌-◌, ◌*◌, ◌^◌, ◌<◌, ◌≤◌, Bool, true, false, [], ◌∷◌, ◌++◌, length, drop, Some, None}
+use Rattle.std.specs.Prelude.{◌≡◌, ◌≢◌, ◌⊎◌, ℕ, ◌+◌, ◌-◌, ◌*◌, ◌^◌, ◌<◌, ◌≤◌, Bool, true, false, [], ◌∷◌, ◌++◌, length, drop, Some, None}
 use Rattle.crq_base.specs.declared.event.Event.{Event}
 use Rattle.crq_base.specs.declared.entry.Entry.TheVariants.{Take}
 use Rattle.crq_base.specs.declared.words.Link.{Link}
@@ -8,6 +8,7 @@ use Rattle.crq_base.specs.declared.words.Control.{Control}
 use Rattle.crq_base.specs.Words.{IsLink, link_word}
 use Rattle.crq_rule.specs.declared.pass.Pass.{Pass}
 use Rattle.crq_rule.specs.declared.pass.Table.{Table}
+use Rattle.crq_rule.specs.declared.view.Made.{Made}
 use Rattle.crq_rule.specs.declared.view.Walk.{Walk}
 use Rattle.crq_rule.specs.declared.view.Caller.{Caller}
 use Rattle.crq_rule.specs.Places.{index, link as link_place, IsHead}
@@ -23,7 +24,8 @@ use Rattle.crq_list.specs.declared.take.MarkEnd.TheVariants.{Marked, Beyond, Not
 use Rattle.crq_list.specs.declared.take.TakeOp.{TakeOp}
 use Rattle.crq_list.specs.declared.take.Taking.{Taking}
 use Rattle.crq_list.specs.declared.take.Taking.TheVariants.{Load, Walking, Reading, Marking}
-use Rattle.crq_list.specs.Known.{Works, turns_after, last_known}
+use Rattle.crq_list.specs.Known.{is_exchange, Works, turns_after, last_known}
+use Rattle.crq_list.specs.Stretches.{Stretch}
 use Rattle.crq_list.specs.Spots.{rank_at}
 
 -- the caller's walk stands at the row
@@ -72,6 +74,10 @@ taking_left (Walking r) p = (2 ^ 160 - rank_at p.position.rows r) * 16 + 12
 taking_left (Reading r l place read) p = (2 ^ 160 - rank_at p.position.rows r) * 16 + (11 - place)
 taking_left (Marking r l e) p = 0
 
+-- the one step made was an exchange, which found another word than it expected
+abbrev pub FoundAnother : Caller → Caller → Type 0
+FoundAnother p q = (m : Made) × (q.made ≡ p.made ++ m ∷ []) × (is_exchange m.kind ≡ true) × (m.found ≢ m.first)
+
 abbrev pub TakeAnswers : ℕ → Table → Control → TakeOp → TakeOp → Pass → Pass → Progress MarkEnd → Type 0
 TakeAnswers n table x op op' old new More = let p = caller table old in let q = caller table new in
     IsTaking n table x op' q × (op' ≡ record op { state = op'.state }) × (q.own ≡ p.own) × (new.debts ≡ old.debts) × ((taking_exchanges op.state ≡ true) ⊎ (taking_left op'.state q < taking_left op.state p))
@@ -82,7 +88,7 @@ TakeAnswers n table x op op' old new (Done (Beyond e)) = let p = caller table ol
 TakeAnswers n table x op op' old new (Done Nothing) = let p = caller table old in let q = caller table new in
     (q.own ≡ p.own) × (new.debts ≡ old.debts) × ((limit : ℕ) → MayMiss x limit q) × (q.cut ≡ None) × (q.debts.cut ≡ None)
 TakeAnswers n table x op op' old new (Done Lost) = let p = caller table old in let q = caller table new in
-    (q.own ≡ p.own) × (new.debts ≡ old.debts) × (taking_exchanges op.state ≡ true) × (q.cut ≡ None) × (q.debts.cut ≡ None)
+    (q.own ≡ p.own) × (new.debts ≡ old.debts) × (taking_exchanges op.state ≡ true) × (q.cut ≡ None) × (q.debts.cut ≡ None) × FoundAnother p q
 TakeAnswers n table x op op' old new (Done Frozen) = ⊥
 
 -- one step of it was made
@@ -93,3 +99,10 @@ pub record TakeStepped (n : ℕ) (table : Table) (x : Control) (op op' : TakeOp)
   pub number : new.number ≡ old.number
   pub free : new.free.items ≡ old.free.items
   pub answers : TakeAnswers n table x op op' old new answer
+
+abbrev pub take_exchanges : TakeOp → Bool
+take_exchanges op = taking_exchanges op.state
+
+-- one step of it was made, and then maybe others that are no exchanges
+abbrev pub TakeStretch : ℕ → Table → Control → TakeOp → TakeOp → Pass → Pass → Progress MarkEnd → Type 0
+TakeStretch n table x = Stretch TakeOp (Progress MarkEnd) (TakeStepped n table x) take_exchanges More

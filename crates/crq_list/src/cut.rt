@@ -5,10 +5,11 @@ ghost use Rattle.crq_rows.specs.Passes.{caller, IsPassOf};
 ghost use Rattle.crq_list.specs.declared.seek.Seek.TheVariants.{Load};
 ghost use Rattle.crq_list.specs.declared.parts.Spot.TheVariants.{Head};
 ghost use Rattle.crq_list.specs.Seeking.{seek_exchanges};
-ghost use Rattle.crq_list.specs.Cutting.{IsCutting, CutStepped};
+ghost use Rattle.crq_list.specs.Cutting.{IsCutting, progress_of, CutStepped, CutStretch};
 
 use crate::parts::{ListAt, Progress, Spot};
 use crate::seek::{Seek, Sought};
+use crate::stretch::run_seek;
 use crq_base::Event;
 use crq_rows::{Pass, Table};
 
@@ -32,6 +33,18 @@ pub struct CutOp {
     pub upto: Option<(Event, u32)>,
     /// How far it is.
     pub seek: Seek,
+}
+
+/// What a step of the walk says of the cut.
+#[inline(always)]
+fn progress_of(sought: Sought) -> Progress<CutEnd>
+    ensures { result ≡ progress_of sought }
+{
+    match sought {
+        Sought::More => Progress::More,
+        Sought::There(_) => Progress::Done(CutEnd::Clean),
+        Sought::Frozen => Progress::Done(CutEnd::Frozen),
+    }
 }
 
 impl CutOp {
@@ -60,10 +73,19 @@ impl CutOp {
         requires op { (n : ℕ) × (x : Control) × IsCutting n table.now x self.old (caller table.now pass.old) }
         ensures { (n : ℕ) (x : Control) → IsCutting n table.now x self.old (caller table.now pass.old) → CutStepped n table.now x self.old self.new pass.old pass.new result }
     {
-        match self.seek.step(table, pass, &self.list, &self.upto) {
-            Sought::More => Progress::More,
-            Sought::There(_) => Progress::Done(CutEnd::Clean),
-            Sought::Frozen => Progress::Done(CutEnd::Frozen),
+        progress_of(self.seek.step(table, pass, &self.list, &self.upto))
+    }
+
+    /// Makes one atomic step or more, of which only the first may be an exchange: those that mostly follow on one another.
+    #[inline(always)]
+    pub fn run(&mut self, table: &Table, pass: &mut Pass) -> Progress<CutEnd>
+        requires of { IsPassOf table.now pass.old }
+        requires op { (n : ℕ) × (x : Control) × IsCutting n table.now x self.old (caller table.now pass.old) }
+        ensures { (n : ℕ) (x : Control) → IsCutting n table.now x self.old (caller table.now pass.old) → CutStretch n table.now x self.old self.new pass.old pass.new result }
+    {
+        if self.exchanges() {
+            return self.step(table, pass);
         }
+        progress_of(run_seek(table, pass, &self.list, &self.upto, &mut self.seek))
     }
 }

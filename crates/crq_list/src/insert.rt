@@ -3,13 +3,16 @@ ghost use Rattle.std.specs.Prelude.{◌≡◌, ◌<◌, ◌≤◌, ℕ};
 ghost use Rattle.crq_base.specs.declared.words.Control.{Control};
 ghost use Rattle.crq_rule.specs.ListKinds.{event_word};
 ghost use Rattle.crq_rows.specs.Passes.{caller, IsPassOf};
+ghost use Rattle.crq_rule.specs.declared.pass.Pass.{Pass};
+ghost use Rattle.crq_list.specs.declared.parts.Progress.TheVariants.{More};
 ghost use Rattle.crq_list.specs.declared.insert.InsertOp.{InsertOp};
 ghost use Rattle.crq_list.specs.declared.insert.Inserting.TheVariants.{Writing, Seeking, Placing, Linking};
-ghost use Rattle.crq_list.specs.Inserting.{IsInserting, InsertStepped, insert_exchanges};
+ghost use Rattle.crq_list.specs.Inserting.{IsInserting, InsertStepped, InsertStretch, insert_exchanges, after_seek};
 
 use crate::parts::{Before, ListAt, Progress, Spot};
 use crate::seek::{Seek, Sought};
 use crate::steps::link_step;
+use crate::stretch::run_seek;
 use crq_base::Event;
 use crq_rows::{Pass, Table, write_step};
 
@@ -88,6 +91,40 @@ fn write_word(
     }
 }
 
+/// Writes the words of the row from this place on.
+#[inline(always)]
+fn write_words(
+    table: &Table,
+    pass: &mut Pass,
+    op: &InsertOp,
+    first: u32,
+) -> (Inserting, Progress<InsertEnd>)
+    requires of { IsPassOf table.now pass.old }
+    requires op { (n : ℕ) × (x : Control) × IsInserting n table.now x (record op.now { state = Writing first }) (caller table.now pass.old) }
+    ensures { (n : ℕ) (x : Control) → IsInserting n table.now x (record op.now { state = Writing first }) (caller table.now pass.old) → InsertStretch n table.now x (record op.now { state = Writing first }) (record op.now { state = result.0 }) pass.old pass.new result.1 }
+{
+    let mut place = first;
+    loop {
+        let told = write_word(table, pass, op, place);
+        let (Inserting::Writing(next), Progress::More) = told else {
+            return told;
+        };
+        place = next;
+    }
+}
+
+/// What follows on steps of the walk, which is there.
+#[inline(always)]
+fn after_seek(seek: Seek, sought: Sought) -> (Inserting, Progress<InsertEnd>)
+    ensures { result ≡ after_seek seek sought }
+{
+    match sought {
+        Sought::More => (Inserting::Seeking(seek), Progress::More),
+        Sought::There(before) => (Inserting::Placing(before), Progress::More),
+        Sought::Frozen => (Inserting::Seeking(seek), Progress::Done(InsertEnd::Frozen)),
+    }
+}
+
 /// Makes one step of the walk to the row's place.
 #[inline(always)]
 fn seek_place(
@@ -101,11 +138,25 @@ fn seek_place(
     ensures { (n : ℕ) (x : Control) → IsInserting n table.now x (record op.now { state = Seeking seek }) (caller table.now pass.old) → InsertStepped n table.now x (record op.now { state = Seeking seek }) (record op.now { state = result.0 }) pass.old pass.new result.1 }
 {
     let mut seek = seek;
-    match seek.step(table, pass, &op.list, &Some((op.event, op.row))) {
-        Sought::More => (Inserting::Seeking(seek), Progress::More),
-        Sought::There(before) => (Inserting::Placing(before), Progress::More),
-        Sought::Frozen => (Inserting::Seeking(seek), Progress::Done(InsertEnd::Frozen)),
-    }
+    let sought = seek.step(table, pass, &op.list, &Some((op.event, op.row)));
+    after_seek(seek, sought)
+}
+
+/// Makes one step of that walk or more, of which only the first may be an exchange.
+#[inline(always)]
+fn run_to_place(
+    table: &Table,
+    pass: &mut Pass,
+    op: &InsertOp,
+    seek: Seek,
+) -> (Inserting, Progress<InsertEnd>)
+    requires of { IsPassOf table.now pass.old }
+    requires op { (n : ℕ) × (x : Control) × IsInserting n table.now x (record op.now { state = Seeking seek }) (caller table.now pass.old) }
+    ensures { (n : ℕ) (x : Control) → IsInserting n table.now x (record op.now { state = Seeking seek }) (caller table.now pass.old) → InsertStretch n table.now x (record op.now { state = Seeking seek }) (record op.now { state = result.0 }) pass.old pass.new result.1 }
+{
+    let mut seek = seek;
+    let sought = run_seek(table, pass, &op.list, &Some((op.event, op.row)), &mut seek);
+    after_seek(seek, sought)
 }
 
 /// Writes the row's own link: the row that is next behind the spot is to follow it.
@@ -150,6 +201,45 @@ fn link_row(
     }
 }
 
+/// Walks on, where the row's place is looked for and the next step is no exchange.
+#[inline(always)]
+fn then_seek(
+    table: &Table,
+    pass: &mut Pass,
+    op: &InsertOp,
+    told: (Inserting, Progress<InsertEnd>),
+) -> (Inserting, Progress<InsertEnd>)
+    requires of { IsPassOf table.now pass.old }
+    requires op { told.1 ≡ More → (n : ℕ) × (x : Control) × IsInserting n table.now x (record op.now { state = told.0 }) (caller table.now pass.old) }
+    ensures { (n : ℕ) (x : Control) (first : InsertOp) (old : Pass) → InsertStretch n table.now x first (record op.now { state = told.0 }) old pass.old told.1 → InsertStretch n table.now x first (record op.now { state = result.0 }) old pass.new result.1 }
+{
+    let (Inserting::Seeking(seek), Progress::More) = told else {
+        return told;
+    };
+    if seek.exchanges() {
+        return told;
+    }
+    run_to_place(table, pass, op, seek)
+}
+
+/// Writes the row's own link, where its place was found.
+#[inline(always)]
+fn then_place(
+    table: &Table,
+    pass: &mut Pass,
+    op: &InsertOp,
+    told: (Inserting, Progress<InsertEnd>),
+) -> (Inserting, Progress<InsertEnd>)
+    requires of { IsPassOf table.now pass.old }
+    requires op { told.1 ≡ More → (n : ℕ) × (x : Control) × IsInserting n table.now x (record op.now { state = told.0 }) (caller table.now pass.old) }
+    ensures { (n : ℕ) (x : Control) (first : InsertOp) (old : Pass) → InsertStretch n table.now x first (record op.now { state = told.0 }) old pass.old told.1 → InsertStretch n table.now x first (record op.now { state = result.0 }) old pass.new result.1 }
+{
+    let (Inserting::Placing(before), Progress::More) = told else {
+        return told;
+    };
+    place_row(table, pass, op, before)
+}
+
 impl InsertOp {
     /// An insertion that has made no step. `old` is the row of which this one is a copy: none for a put.
     pub fn new(list: ListAt, row: u32, event: Event, old: Option<u32>) -> InsertOp
@@ -188,6 +278,38 @@ impl InsertOp {
             Inserting::Placing(before) => place_row(table, pass, self, before),
             Inserting::Linking(before) => link_row(table, pass, self, before),
         };
+        self.state = state;
+        answer
+    }
+
+    /// Makes the next atomic step, or all that write words of the row where one of these is next.
+    #[inline(always)]
+    fn next(&self, table: &Table, pass: &mut Pass) -> (Inserting, Progress<InsertEnd>)
+        requires of { IsPassOf table.now pass.old }
+        requires op { (n : ℕ) × (x : Control) × IsInserting n table.now x self.now (caller table.now pass.old) }
+        ensures { (n : ℕ) (x : Control) → IsInserting n table.now x self.now (caller table.now pass.old) → InsertStretch n table.now x self.now (record self.now { state = result.0 }) pass.old pass.new result.1 }
+    {
+        match self.state {
+            Inserting::Writing(place) => write_words(table, pass, self, place),
+            Inserting::Seeking(seek) => seek_place(table, pass, self, seek),
+            Inserting::Placing(before) => place_row(table, pass, self, before),
+            Inserting::Linking(before) => link_row(table, pass, self, before),
+        }
+    }
+
+    /// Makes one atomic step or more, of which only the first may be an exchange: those that mostly follow on one another.
+    #[inline(always)]
+    pub fn run(&mut self, table: &Table, pass: &mut Pass) -> Progress<InsertEnd>
+        requires of { IsPassOf table.now pass.old }
+        requires op { (n : ℕ) × (x : Control) × IsInserting n table.now x self.old (caller table.now pass.old) }
+        ensures { (n : ℕ) (x : Control) → IsInserting n table.now x self.old (caller table.now pass.old) → InsertStretch n table.now x self.old self.new pass.old pass.new result }
+    {
+        if self.exchanges() {
+            return self.step(table, pass);
+        }
+        let told = self.next(table, pass);
+        let told = then_seek(table, pass, self, told);
+        let (state, answer) = then_place(table, pass, self, told);
         self.state = state;
         answer
     }

@@ -9,6 +9,7 @@ mod insert;
 mod parts;
 mod seek;
 mod steps;
+mod stretch;
 mod take;
 
 pub use cut::{CutEnd, CutOp};

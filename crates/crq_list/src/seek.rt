@@ -1,7 +1,8 @@
 //! Walking a list to a target, with dead rows cut on the way.
-ghost use Rattle.std.specs.Prelude.{◌≡◌, ◌<◌, ◌≤◌, ℕ, Bool, true, IsTrue, ◌↔◌};
+ghost use Rattle.std.specs.Prelude.{◌≡◌, ◌<◌, ℕ};
 ghost use Rattle.crq_base.specs.declared.words.Control.{Control};
 ghost use Rattle.crq_rows.specs.Passes.{caller, IsPassOf};
+ghost use Rattle.crq_list.specs.declared.parts.Before.{Before};
 ghost use Rattle.crq_list.specs.declared.seek.Seek.TheVariants.{Load, Reading, Passing, Cutting, Tagging, Retiring};
 ghost use Rattle.crq_list.specs.Seeking.{IsSeeking, SeekStepped, seek_exchanges, next_seek, key_part, part_of};
 
@@ -59,7 +60,7 @@ fn next_of(before: Before, target: &Target) -> (Seek, Sought)
 
 /// Loads the link of a spot.
 #[inline(always)]
-fn load(
+pub(crate) fn load(
     table: &Table,
     pass: &mut Pass,
     list: &ListAt,
@@ -100,7 +101,7 @@ fn part_of(word: u64, place: u32) -> u64
 
 /// Reads a word of the next row's event, and compares it with the target's.
 #[inline(always)]
-fn read(
+pub(crate) fn read(
     table: &Table,
     pass: &mut Pass,
     list: &ListAt,
@@ -110,7 +111,8 @@ fn read(
 ) -> (Seek, Sought)
     requires of { IsPassOf table.now pass.old }
     requires seek { (n : ℕ) × (x : Control) × IsSeeking n table.now x list.now target.now (Reading before place) (caller table.now pass.old) }
-    ensures { (n : ℕ) (x : Control) → IsSeeking n table.now x list.now target.now (Reading before place) (caller table.now pass.old) → SeekStepped n table.now x list.now target.now (Reading before place) result.0 pass.old pass.new result.1 }
+    ensures stepped { (n : ℕ) (x : Control) → IsSeeking n table.now x list.now target.now (Reading before place) (caller table.now pass.old) → SeekStepped n table.now x list.now target.now (Reading before place) result.0 pass.old pass.new result.1 }
+    ensures same { (other : Before) → ((next : ℕ) → result.0 ≡ Reading other next → other ≡ before) × (result.0 ≡ Passing other → other ≡ before) }
 {
     let Some((event, row)) = target else {
         unreachable!()
@@ -134,7 +136,7 @@ fn read(
 
 /// Loads the link of the next row, which is passed where it is present.
 #[inline(always)]
-fn pass_row(
+pub(crate) fn pass_row(
     table: &Table,
     pass: &mut Pass,
     list: &ListAt,
@@ -177,7 +179,7 @@ fn cut_row(
 
 /// Loads the epoch, with which the row that was cut is to be retired.
 #[inline(always)]
-fn tag(
+pub(crate) fn tag(
     table: &Table,
     pass: &mut Pass,
     list: &ListAt,
@@ -195,7 +197,7 @@ fn tag(
 
 /// Retires the row that was cut, and goes on behind the spot.
 #[inline(always)]
-fn retire(
+pub(crate) fn retire(
     table: &Table,
     pass: &mut Pass,
     list: &ListAt,

@@ -1,5 +1,5 @@
 //! One function for each kind of step on lists.
-ghost use Rattle.std.specs.Prelude.{◌≡◌, Some, Bool};
+ghost use Rattle.std.specs.Prelude.{◌≡◌, Some};
 ghost use Rattle.std.specs.VecDeque.{deque_capacity};
 ghost use Rattle.crq_base.specs.declared.kinds.StepKind.TheVariants.{Begin, ControlLoad, Miss};
 ghost use Rattle.crq_base.specs.declared.words.Control.{Control};
@@ -41,10 +41,7 @@ pub(crate) fn walk_step(table: &Table, pass: &mut Pass, spot: Spot, seeks: bool)
 {
     let word = word_of(table, spot);
     let found = load_turning::<Brand, (Spot, bool)>(table, pass, word, &(spot, seeks));
-    match Link::unpack(found) {
-        Some(link) => link,
-        None => unreachable!(),
-    }
+    Link::from_word(found)
 }
 
 /// Links a row in hand behind the spot, where its link is still this one, and answers whether it was.
@@ -78,11 +75,15 @@ pub(crate) fn link_step(
     won
 }
 
-/// Takes a row out of the free ones, where it stands first.
+/// Takes a row out of the free ones, of which it mostly is the first.
 fn forget(free: &mut VecDeque<u32>, row: u32)
     ensures items { free.new.items ≡ unhanded row free.old.items }
     ensures room { deque_capacity free.new ≡ deque_capacity free.old }
 {
+    if free.front() == Some(&row) {
+        free.pop_front();
+        return;
+    }
     for at in 0..free.len() {
         if free[at] == row {
             free.remove(at);
@@ -174,10 +175,7 @@ pub fn control_step(table: &Table, pass: &mut Pass) -> Control
 {
     let word = table.start.layout.control();
     let found = load_turning::<Brand, ()>(table, pass, word, &());
-    match Control::unpack(found) {
-        Some(control) => control,
-        None => unreachable!(),
-    }
+    Control::from_word(found)
 }
 
 /// Begins a call: it loads the control word, and adds a Begin to the history.
@@ -187,10 +185,7 @@ pub fn begin_step(table: &Table, pass: &mut Pass) -> Control
 {
     let word = table.start.layout.control();
     let found = load_turning::<Brand, ()>(table, pass, word, &());
-    match Control::unpack(found) {
-        Some(control) => control,
-        None => unreachable!(),
-    }
+    Control::from_word(found)
 }
 
 /// Ends a take that found no event below the limit: it loads the control word, and adds a Miss to the history.
@@ -201,8 +196,5 @@ pub fn miss_step(table: &Table, pass: &mut Pass, limit: u64) -> Control
 {
     let word = table.start.layout.control();
     let found = load_turning::<Brand, u64>(table, pass, word, &limit);
-    match Control::unpack(found) {
-        Some(control) => control,
-        None => unreachable!(),
-    }
+    Control::from_word(found)
 }

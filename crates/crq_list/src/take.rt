@@ -2,13 +2,14 @@
 ghost use Rattle.std.specs.Prelude.{◌≡◌, ◌⊎◌, ◌<◌, ◌≤◌, ◌+◌, ◌*◌, ◌%◌, ℕ, None};
 ghost use Rattle.crq_base.specs.declared.event.Event.{Event};
 ghost use Rattle.crq_base.specs.declared.words.Control.{Control};
+ghost use Rattle.crq_base.specs.declared.words.Link.{Link};
 ghost use Rattle.crq_rows.specs.Passes.{caller, IsPassOf};
 ghost use Rattle.crq_rule.specs.ListKinds.{event_word};
 ghost use Rattle.crq_rule.specs.Parts.{IsEvent};
 ghost use Rattle.crq_list.specs.declared.parts.Progress.TheVariants.{More, Done};
 ghost use Rattle.crq_list.specs.declared.take.MarkEnd.TheVariants.{Nothing};
 ghost use Rattle.crq_list.specs.declared.take.Taking.TheVariants.{Load, Walking, Reading, Marking};
-ghost use Rattle.crq_list.specs.Taking.{IsRead, IsTaking, TakeStepped, taking_exchanges};
+ghost use Rattle.crq_list.specs.Taking.{IsRead, IsTaking, TakeStepped, TakeStretch, taking_exchanges};
 
 use crate::parts::{Place, Progress, Spot};
 use crate::steps::{mark_step, walk_step};
@@ -170,7 +171,8 @@ impl TakeOp {
     ) -> (Taking, Progress<MarkEnd>)
         requires of { IsPassOf table.now pass.old }
         requires op { (n : ℕ) × (x : Control) × IsTaking n table.now x (record self.now { state = Reading row link place event }) (caller table.now pass.old) }
-        ensures { (n : ℕ) (x : Control) → IsTaking n table.now x (record self.now { state = Reading row link place event }) (caller table.now pass.old) → TakeStepped n table.now x (record self.now { state = Reading row link place event }) (record self.now { state = result.0 }) pass.old pass.new result.1 }
+        ensures stepped { (n : ℕ) (x : Control) → IsTaking n table.now x (record self.now { state = Reading row link place event }) (caller table.now pass.old) → TakeStepped n table.now x (record self.now { state = Reading row link place event }) (record self.now { state = result.0 }) pass.old pass.new result.1 }
+        ensures same { (other : ℕ) (found : Link) (next : ℕ) (read : Event) → result.0 ≡ Reading other found next read → (other ≡ row) × (found ≡ link) }
     {
         let word = read_step(table, pass, row, place);
         let event = with_word(event, place, word);
@@ -181,6 +183,77 @@ impl TakeOp {
             return (Taking::Load, Progress::Done(MarkEnd::Beyond(event)));
         }
         (Taking::Marking(row, link, event), Progress::More)
+    }
+
+    /// Reads the words of the present row's event from this one on.
+    #[inline(always)]
+    fn read_event(
+        &self,
+        table: &Table,
+        pass: &mut Pass,
+        row: u32,
+        link: Link,
+        first: u32,
+        unread: Event,
+    ) -> (Taking, Progress<MarkEnd>)
+        requires of { IsPassOf table.now pass.old }
+        requires op { (n : ℕ) × (x : Control) × IsTaking n table.now x (record self.now { state = Reading row link first unread }) (caller table.now pass.old) }
+        ensures { (n : ℕ) (x : Control) → IsTaking n table.now x (record self.now { state = Reading row link first unread }) (caller table.now pass.old) → TakeStretch n table.now x (record self.now { state = Reading row link first unread }) (record self.now { state = result.0 }) pass.old pass.new result.1 }
+    {
+        let (mut place, mut event) = (first, unread);
+        loop {
+            let told = self.read(table, pass, row, link, place, event);
+            let (Taking::Reading(_, _, next, read), Progress::More) = told else {
+                return told;
+            };
+            place = next;
+            event = read;
+        }
+    }
+
+    /// Walks past dead rows to a present one, or to the end.
+    #[inline(always)]
+    fn walk_rows(&self, table: &Table, pass: &mut Pass, first: u32) -> (Taking, Progress<MarkEnd>)
+        requires of { IsPassOf table.now pass.old }
+        requires op { (n : ℕ) × (x : Control) × IsTaking n table.now x (record self.now { state = Walking first }) (caller table.now pass.old) }
+        ensures { (n : ℕ) (x : Control) → IsTaking n table.now x (record self.now { state = Walking first }) (caller table.now pass.old) → TakeStretch n table.now x (record self.now { state = Walking first }) (record self.now { state = result.0 }) pass.old pass.new result.1 }
+    {
+        let mut row = first;
+        loop {
+            let told = self.walk(table, pass, row);
+            let (Taking::Walking(next), Progress::More) = told else {
+                return told;
+            };
+            row = next;
+        }
+    }
+
+    /// Walks from this row on to a present one, and reads its event.
+    #[inline(always)]
+    fn from_walking(&self, table: &Table, pass: &mut Pass, row: u32) -> (Taking, Progress<MarkEnd>)
+        requires of { IsPassOf table.now pass.old }
+        requires op { (n : ℕ) × (x : Control) × IsTaking n table.now x (record self.now { state = Walking row }) (caller table.now pass.old) }
+        ensures { (n : ℕ) (x : Control) → IsTaking n table.now x (record self.now { state = Walking row }) (caller table.now pass.old) → TakeStretch n table.now x (record self.now { state = Walking row }) (record self.now { state = result.0 }) pass.old pass.new result.1 }
+    {
+        let told = self.walk_rows(table, pass, row);
+        let (Taking::Reading(row, link, place, event), Progress::More) = told else {
+            return told;
+        };
+        self.read_event(table, pass, row, link, place, event)
+    }
+
+    /// Loads the head, and walks from there on.
+    #[inline(always)]
+    fn from_load(&self, table: &Table, pass: &mut Pass) -> (Taking, Progress<MarkEnd>)
+        requires of { IsPassOf table.now pass.old }
+        requires op { (n : ℕ) × (x : Control) × IsTaking n table.now x (record self.now { state = Load }) (caller table.now pass.old) }
+        ensures { (n : ℕ) (x : Control) → IsTaking n table.now x (record self.now { state = Load }) (caller table.now pass.old) → TakeStretch n table.now x (record self.now { state = Load }) (record self.now { state = result.0 }) pass.old pass.new result.1 }
+    {
+        let told = self.load(table, pass);
+        let (Taking::Walking(row), Progress::More) = told else {
+            return told;
+        };
+        self.from_walking(table, pass, row)
     }
 
     /// Marks the present row.
@@ -221,6 +294,26 @@ impl TakeOp {
                 table, pass, row, link, place, event,
             ),
             Taking::Marking(row, link, event) => self.mark(table, pass, row, link, event),
+        };
+        self.state = state;
+        answer
+    }
+
+    /// Makes one atomic step or more, of which only the first may be an exchange: those that mostly follow on one another.
+    #[inline(always)]
+    pub fn run(&mut self, table: &Table, pass: &mut Pass) -> Progress<MarkEnd>
+        requires of { IsPassOf table.now pass.old }
+        requires free { pass.old.debts.cut ≡ None }
+        requires op { (n : ℕ) × (x : Control) × IsTaking n table.now x self.old (caller table.now pass.old) }
+        ensures { (n : ℕ) (x : Control) → IsTaking n table.now x self.old (caller table.now pass.old) → TakeStretch n table.now x self.old self.new pass.old pass.new result }
+    {
+        let (state, answer) = match self.state {
+            Taking::Load => self.from_load(table, pass),
+            Taking::Walking(row) => self.from_walking(table, pass, row),
+            Taking::Reading(row, link, place, event) => self.read_event(
+                table, pass, row, link, place, event,
+            ),
+            Taking::Marking(_, _, _) => return self.step(table, pass),
         };
         self.state = state;
         answer

@@ -1,8 +1,12 @@
-use Rattle.crq_list.proofs.InsertLaws.{seeks_on, seeks_there}
+use Rattle.std.proofs.Common.{sym, subst}
+use Rattle.crq_list.specs.declared.parts.Progress.{Progress}
+use Rattle.crq_list.specs.declared.insert.InsertEnd.{InsertEnd}
+use Rattle.crq_list.specs.declared.insert.Inserting.{Inserting}
+use Rattle.crq_list.specs.declared.insert.Inserting.TheVariants.{Seeking}
+use Rattle.crq_list.specs.Inserting.{InsertStepped}
+use Rattle.crq_list.proofs.Stretching.{seek_told}
 use Rattle.crq_list.proofs.insert.seek_place.Goals as goal
 
-pub returns-in-More : goal.returns-in-More
-returns-in-More c n x i = seeks_on n c.args.table.now x c.args.op.now c.args.pass.now c.step.new.pass c.args.seek c.step.new.self c.requires.of i (c.in-More.ensures n x i.at.0)
-
-pub returns-in-There : goal.returns-in-There
-returns-in-There c n x i = seeks_there n c.args.table.now x c.args.op.now c.args.pass.now c.step.new.pass c.args.seek c.step.new.self c.in-There.before c.requires.of i (c.in-There.ensures n x i.at.0)
+pub returns : goal.returns
+returns c n x i = let op = c.args.op.now in let told = seek_told n c.args.table.now x op c.args.seek c.step-sought.new.self c.args.pass.now c.step-sought.new.pass c.step-sought.result c.requires.of i (c.step-sought.ensures n x i.at.0) in
+    subst (λ (z : Inserting × Progress InsertEnd). InsertStepped n c.args.table.now x (record op { state = Seeking c.args.seek }) (record op { state = z.0 }) c.args.pass.now c.step-sought.new.pass z.1) (sym c.after_seek.ensures) told

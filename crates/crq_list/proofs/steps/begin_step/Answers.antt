@@ -16,9 +16,9 @@ pub load_turning-found-requires-clause-moves : goal.load_turning-found-requires-
 load_turning-found-requires-clause-moves c = let table = c.args.table.now in let p = caller table c.args.pass.now in
     subst (λ w. MovesBy Begin table.start p w (λ n. n) (FoundControl begins)) (sym c.control-word.ensures) (begin_moves table.start p)
 
-pub unreachable-requires : goal.unreachable-requires
-unreachable-requires c = let w = c.load_turning-found.ensures.after.1 in c.in-None.ensures.found (subst IsControlWord w.word (control_below w.control w.is_control))
+pub from_word-requires : goal.from_word-requires
+from_word-requires c = let w = c.load_turning-found.ensures.after.1 in subst IsControlWord w.word (control_below w.control w.is_control)
 
 pub returns : goal.returns
-returns c = let control = c.in-Some.ensures.found in
-    controlled Begin c.args.table.now c.args.pass.now c.load_turning-found.new.pass begins c.control-word.result c.load_turning-found.result c.in-Some.control c.control-word.ensures control.0 control.1 c.load_turning-found.ensures
+returns c = let control = c.from_word.ensures in
+    controlled Begin c.args.table.now c.args.pass.now c.load_turning-found.new.pass begins c.control-word.result c.load_turning-found.result c.from_word.result c.control-word.ensures control.0 control.1 c.load_turning-found.ensures

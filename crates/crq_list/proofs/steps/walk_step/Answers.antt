@@ -23,9 +23,9 @@ pub load_turning-found-requires-clause-moves : goal.load_turning-found-requires-
 load_turning-found-requires-clause-moves c = let table = c.args.table.now in let p = caller table c.args.pass.now in let at = cell c.args.spot in
     subst (λ w. MovesBy Walk table.start p w (λ n. n) (Walked at c.args.seeks)) (sym c.word_of-word.ensures) (walk_moves table.start p at c.args.seeks c.requires.on c.requires.may c.requires.seek)
 
-pub unreachable-requires : goal.unreachable-requires
-unreachable-requires c = let w = c.load_turning-found.ensures.after.1 in c.in-None.ensures.found (subst IsLinkWord w.word (link_below w.link w.is_link))
+pub from_word-requires : goal.from_word-requires
+from_word-requires c = let w = c.load_turning-found.ensures.after.1 in subst IsLinkWord w.word (link_below w.link w.is_link)
 
 pub returns : goal.returns
-returns c = let link = c.in-Some.ensures.found in
-    saw c.args.table.now c.args.pass.now c.load_turning-found.new.pass (cell c.args.spot) c.args.seeks c.word_of-word.result c.load_turning-found.result c.in-Some.link c.requires.of c.word_of-word.ensures link.0 link.1 c.load_turning-found.ensures
+returns c = let link = c.from_word.ensures in
+    saw c.args.table.now c.args.pass.now c.load_turning-found.new.pass (cell c.args.spot) c.args.seeks c.word_of-word.result c.load_turning-found.result c.from_word.result c.requires.of c.word_of-word.ensures link.0 link.1 c.load_turning-found.ensures

@@ -6,7 +6,7 @@ pub returns-in-Load : goal.returns-in-Load
 returns-in-Load c = step_as c.args.table.now c.args.list.now c.args.target.now c.args.pass.now c.load.new.pass c.args.self.now (Load c.in-Load.spot) c.load.result.0 c.load.result.1 c.in-Load.is c.load.ensures
 
 pub returns-in-Reading : goal.returns-in-Reading
-returns-in-Reading c = step_as c.args.table.now c.args.list.now c.args.target.now c.args.pass.now c.read.new.pass c.args.self.now (Reading c.in-Reading.before c.in-Reading.place) c.read.result.0 c.read.result.1 c.in-Reading.is c.read.ensures
+returns-in-Reading c = step_as c.args.table.now c.args.list.now c.args.target.now c.args.pass.now c.read.new.pass c.args.self.now (Reading c.in-Reading.before c.in-Reading.place) c.read.result.0 c.read.result.1 c.in-Reading.is c.read.ensures.stepped
 
 pub returns-in-Passing : goal.returns-in-Passing
 returns-in-Passing c = step_as c.args.table.now c.args.list.now c.args.target.now c.args.pass.now c.pass_row.new.pass c.args.self.now (Passing c.in-Passing.before) c.pass_row.result.0 c.pass_row.result.1 c.in-Passing.is c.pass_row.ensures

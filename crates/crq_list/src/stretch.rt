@@ -1,0 +1,184 @@
+//! Several steps of a walk made in one go, as they mostly follow on one another: so the walk needn't be stored and taken up
+//! again after each of them.
+ghost use Rattle.std.specs.Prelude.{◌≡◌, ℕ};
+ghost use Rattle.crq_base.specs.declared.words.Control.{Control};
+ghost use Rattle.crq_rule.specs.declared.pass.Pass.{Pass};
+ghost use Rattle.crq_rows.specs.Passes.{caller, IsPassOf};
+ghost use Rattle.crq_list.specs.declared.seek.Seek.{Seek};
+ghost use Rattle.crq_list.specs.declared.seek.Seek.TheVariants.{Reading, Passing};
+ghost use Rattle.crq_list.specs.declared.seek.Sought.TheVariants.{More};
+ghost use Rattle.crq_list.specs.Seeking.{IsSeeking, SeekStretch};
+
+use crate::parts::{Before, ListAt};
+use crate::seek::{Seek, Sought, Target, load, pass_row, read, retire, tag};
+use crq_rows::{Pass, Table};
+
+/// Reads words of the next row's event, from this one on, until it is known on which side of the target the row comes.
+#[inline(always)]
+fn compare(
+    table: &Table,
+    pass: &mut Pass,
+    list: &ListAt,
+    target: &Target,
+    before: Before,
+    first: u32,
+) -> (Seek, Sought)
+    requires of { IsPassOf table.now pass.old }
+    requires seek { (n : ℕ) × (x : Control) × IsSeeking n table.now x list.now target.now (Reading before first) (caller table.now pass.old) }
+    ensures { (n : ℕ) (x : Control) → IsSeeking n table.now x list.now target.now (Reading before first) (caller table.now pass.old) → SeekStretch n table.now x list.now target.now (Reading before first) result.0 pass.old pass.new result.1 }
+{
+    let mut place = first;
+    loop {
+        let told = read(table, pass, list, target, before, place);
+        let (Seek::Reading(_, next), Sought::More) = told else {
+            return told;
+        };
+        place = next;
+    }
+}
+
+/// Passes rows for as long as each is present and its time is before the target's. These are most of a walk's steps, two
+/// for each row.
+#[inline(always)]
+fn pass_rows(
+    table: &Table,
+    pass: &mut Pass,
+    list: &ListAt,
+    target: &Target,
+    before: Before,
+) -> (Seek, Sought)
+    requires of { IsPassOf table.now pass.old }
+    requires seek { (n : ℕ) × (x : Control) × IsSeeking n table.now x list.now target.now (Passing before) (caller table.now pass.old) }
+    ensures { (n : ℕ) (x : Control) → IsSeeking n table.now x list.now target.now (Passing before) (caller table.now pass.old) → SeekStretch n table.now x list.now target.now (Passing before) result.0 pass.old pass.new result.1 }
+{
+    let mut before = before;
+    loop {
+        let told = pass_row(table, pass, list, target, before);
+        let (Seek::Reading(next, place), Sought::More) = told else {
+            return told;
+        };
+        let told = read(table, pass, list, target, next, place);
+        let (Seek::Passing(_), Sought::More) = told else {
+            return told;
+        };
+        before = next;
+    }
+}
+
+/// Loads the epoch, where a row was just cut.
+#[inline(always)]
+fn then_tag(
+    table: &Table,
+    pass: &mut Pass,
+    list: &ListAt,
+    target: &Target,
+    told: (Seek, Sought),
+) -> (Seek, Sought)
+    requires of { IsPassOf table.now pass.old }
+    requires seek { told.1 ≡ More → (n : ℕ) × (x : Control) × IsSeeking n table.now x list.now target.now told.0 (caller table.now pass.old) }
+    ensures { (n : ℕ) (x : Control) (first : Seek) (old : Pass) → SeekStretch n table.now x list.now target.now first told.0 old pass.old told.1 → SeekStretch n table.now x list.now target.now first result.0 old pass.new result.1 }
+{
+    let (Seek::Tagging(spot, row), Sought::More) = told else {
+        return told;
+    };
+    tag(table, pass, list, target, spot, row)
+}
+
+/// Retires a row that was cut, where its tag is loaded.
+#[inline(always)]
+fn then_retire(
+    table: &Table,
+    pass: &mut Pass,
+    list: &ListAt,
+    target: &Target,
+    told: (Seek, Sought),
+) -> (Seek, Sought)
+    requires of { IsPassOf table.now pass.old }
+    requires seek { told.1 ≡ More → (n : ℕ) × (x : Control) × IsSeeking n table.now x list.now target.now told.0 (caller table.now pass.old) }
+    ensures { (n : ℕ) (x : Control) (first : Seek) (old : Pass) → SeekStretch n table.now x list.now target.now first told.0 old pass.old told.1 → SeekStretch n table.now x list.now target.now first result.0 old pass.new result.1 }
+{
+    let (Seek::Retiring(spot, row, epoch), Sought::More) = told else {
+        return told;
+    };
+    retire(table, pass, list, target, spot, row, epoch)
+}
+
+/// Loads the link of a spot, where that is next.
+#[inline(always)]
+fn then_load(
+    table: &Table,
+    pass: &mut Pass,
+    list: &ListAt,
+    target: &Target,
+    told: (Seek, Sought),
+) -> (Seek, Sought)
+    requires of { IsPassOf table.now pass.old }
+    requires seek { told.1 ≡ More → (n : ℕ) × (x : Control) × IsSeeking n table.now x list.now target.now told.0 (caller table.now pass.old) }
+    ensures { (n : ℕ) (x : Control) (first : Seek) (old : Pass) → SeekStretch n table.now x list.now target.now first told.0 old pass.old told.1 → SeekStretch n table.now x list.now target.now first result.0 old pass.new result.1 }
+{
+    let (Seek::Load(spot), Sought::More) = told else {
+        return told;
+    };
+    load(table, pass, list, target, spot)
+}
+
+/// Compares the next row with the target, where that is next.
+#[inline(always)]
+fn then_compare(
+    table: &Table,
+    pass: &mut Pass,
+    list: &ListAt,
+    target: &Target,
+    told: (Seek, Sought),
+) -> (Seek, Sought)
+    requires of { IsPassOf table.now pass.old }
+    requires seek { told.1 ≡ More → (n : ℕ) × (x : Control) × IsSeeking n table.now x list.now target.now told.0 (caller table.now pass.old) }
+    ensures { (n : ℕ) (x : Control) (first : Seek) (old : Pass) → SeekStretch n table.now x list.now target.now first told.0 old pass.old told.1 → SeekStretch n table.now x list.now target.now first result.0 old pass.new result.1 }
+{
+    let (Seek::Reading(before, place), Sought::More) = told else {
+        return told;
+    };
+    compare(table, pass, list, target, before, place)
+}
+
+/// Passes rows, where that is next.
+#[inline(always)]
+fn then_pass(
+    table: &Table,
+    pass: &mut Pass,
+    list: &ListAt,
+    target: &Target,
+    told: (Seek, Sought),
+) -> (Seek, Sought)
+    requires of { IsPassOf table.now pass.old }
+    requires seek { told.1 ≡ More → (n : ℕ) × (x : Control) × IsSeeking n table.now x list.now target.now told.0 (caller table.now pass.old) }
+    ensures { (n : ℕ) (x : Control) (first : Seek) (old : Pass) → SeekStretch n table.now x list.now target.now first told.0 old pass.old told.1 → SeekStretch n table.now x list.now target.now first result.0 old pass.new result.1 }
+{
+    let (Seek::Passing(before), Sought::More) = told else {
+        return told;
+    };
+    pass_rows(table, pass, list, target, before)
+}
+
+/// Makes one atomic step of the walk or more, of which only the first may be an exchange.
+#[inline(always)]
+pub(crate) fn run_seek(
+    table: &Table,
+    pass: &mut Pass,
+    list: &ListAt,
+    target: &Target,
+    seek: &mut Seek,
+) -> Sought
+    requires of { IsPassOf table.now pass.old }
+    requires seek { (n : ℕ) × (x : Control) × IsSeeking n table.now x list.now target.now seek.old (caller table.now pass.old) }
+    ensures { (n : ℕ) (x : Control) → IsSeeking n table.now x list.now target.now seek.old (caller table.now pass.old) → SeekStretch n table.now x list.now target.now seek.old seek.new pass.old pass.new result }
+{
+    let answer = seek.step(table, pass, list, target);
+    let told = then_tag(table, pass, list, target, (*seek, answer));
+    let told = then_retire(table, pass, list, target, told);
+    let told = then_load(table, pass, list, target, told);
+    let told = then_compare(table, pass, list, target, told);
+    let (after, answer) = then_pass(table, pass, list, target, told);
+    *seek = after;
+    answer
+}
