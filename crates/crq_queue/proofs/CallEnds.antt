@@ -25,20 +25,27 @@ use Rattle.crq_list.specs.Swaps.{Controlled}
 use Rattle.crq_queue.specs.declared.runs.Spent.{Spent}
 use Rattle.crq_queue.specs.Wholes.{IsResting}
 use Rattle.crq_queue.specs.Runs.{Ran, RanTicks, MayRun}
-use Rattle.crq_queue.specs.Parts.{Entered, Left, IsUsedUp}
+use Rattle.crq_queue.specs.Parts.{Entered, Left, CutNeeds, IsUsedUp}
 use Rattle.crq_queue.specs.Stages.{CutFinished, DebtSettled, EventInserted, EventTaken, IsFinished, RowFound}
-use Rattle.crq_queue.specs.Calls.{Called, IsSpent, PutAnswers, TakeAnswers}
-use Rattle.crq_queue.proofs.RunLaws.{ran_trans, ran_both, used_on}
+use Rattle.crq_queue.specs.Calls.{Called, IsSpent, RefusedFor, TryPutNeeds, TryTakeNeeds, PutAnswers, TakeAnswers}
+use Rattle.crq_queue.proofs.RunLaws.{ran_trans, ran_both, used_for, used_on}
 use Rattle.crq_queue.proofs.CallSteps.{IsAtWork, may_go, may_anew, called, called_ticks, goes_inside, works_on, comes_to_rest, begin_rests, begin_found, begin_ran}
 use Rattle.crq_queue.proofs.CallStages.{fresh_on}
 
-finished_ok : (table : Table) (n budget : ℕ) (pass : Pass) (result : Result (Unit {0}) Spent) → is_err result ≡ false → IsFinished table n budget pass result → pass.debts.cut ≡ None
-finished_ok table n budget pass (Ok u) e f = f
-finished_ok table n budget pass (Err s) e f = absurd (false≢true (sym e))
+finished_ok : (table : Table) (n budget : ℕ) (old pass : Pass) (result : Result (Unit {0}) Spent) → is_err result ≡ false → IsFinished table n budget old pass result → pass.debts.cut ≡ None
+finished_ok table n budget old pass (Ok u) e f = f
+finished_ok table n budget old pass (Err s) e f = absurd (false≢true (sym e))
 
-finished_err : (table : Table) (n budget : ℕ) (pass : Pass) (result : Result (Unit {0}) Spent) → is_err result ≡ true → IsFinished table n budget pass result → IsUsedUp table n budget pass
-finished_err table n budget pass (Ok u) e f = absurd (false≢true e)
-finished_err table n budget pass (Err s) e f = f
+finished_err : (table : Table) (n budget : ℕ) (old pass : Pass) (result : Result (Unit {0}) Spent) → is_err result ≡ true → IsFinished table n budget old pass result → IsUsedUp table n budget (CutNeeds n table old.debts.cut) pass
+finished_err table n budget old pass (Ok u) e f = absurd (false≢true e)
+finished_err table n budget old pass (Err s) e f = f
+
+-- a refusal of a part is one of the call, which may need what the part needs
+refused_for : {Needs Others : Caller → Type 0} (table : Table) (n budget : ℕ) (pass : Pass) (refusal : Refusal) → ((p : Caller) → Needs p → Others p) → RefusedFor table n budget Needs pass refusal → RefusedFor table n budget Others pass refusal
+refused_for table n budget pass (Again turns) follows r = (r.0, used_for follows r.1)
+refused_for table n budget pass (Held holder) follows r = r
+refused_for table n budget pass Rows follows r = r
+refused_for table n budget pass Epochs follows r = r
 
 -- a Begin doesn't make an event less fresh
 fresh_begun : (w span j k : ℕ) (history own : List Entry) (e : Event) → IsFresh w history own span j e → IsFresh w history (own ++ Begin k ∷ []) span j e
@@ -59,7 +66,7 @@ MakesTicks table budget old pass es = RanTicks table (length (caller table old).
 abbrev pub Ends : Table → ℕ → Pass → ℕ → Pass → Result TakeEnd Refusal → Type 0
 Ends table budget old limit pass (Ok (Taken e route)) = Makes table budget old pass (Begin old.number ∷ Take old.number e ∷ []) × ((x : Control) × IsAtWork table x pass) × (e.time < limit) × (route ≡ Bucket 0)
 Ends table budget old limit pass (Ok Missed) = Makes table budget old pass (Begin old.number ∷ Miss old.number limit ∷ []) × ((x : Control) × IsAtWork table x pass) × (pass.debts.cut ≡ None)
-Ends table budget old limit pass (Err (Again turns)) = Makes table budget old pass (Begin old.number ∷ []) × ((x : Control) × IsAtWork table x pass) × IsSpent table (length (caller table old).made) budget turns pass
+Ends table budget old limit pass (Err (Again turns)) = Makes table budget old pass (Begin old.number ∷ []) × ((x : Control) × IsAtWork table x pass) × (let n : ℕ = length (caller table old).made in IsSpent table n budget (TryTakeNeeds n table old limit) turns pass)
 Ends table budget old limit pass (Err (Held holder)) = ⊥
 Ends table budget old limit pass (Err Rows) = ⊥
 Ends table budget old limit pass (Err Epochs) = ⊥
@@ -72,8 +79,8 @@ module _ {table : Table} {budget : ℕ} {a : Pass} {result : Result (Unit {0}) S
   pub first_called : Called table budget old a []
   first_called = called first_settled.ran first_settled.rests
 
-  pub first_spent : is_err result ≡ true → Called table budget old a [] × IsUsedUp table (length (caller table old).made) budget a
-  first_spent e = (first_called, finished_err table (length (caller table old).made) budget a result e first_settled.finished)
+  pub first_spent : is_err result ≡ true → Called table budget old a [] × (let n : ℕ = length (caller table old).made in IsUsedUp table n budget (CutNeeds n table old.debts.cut) a)
+  first_spent e = (first_called, finished_err table (length (caller table old).made) budget old a result e first_settled.finished)
 
   module _ {b : Pass} {x : Control} (begin : Controlled BeginKind table a b begins x) where
     pub begun : Makes table budget old b (Begin old.number ∷ [])
@@ -89,7 +96,7 @@ module _ {table : Table} {budget : ℕ} {a : Pass} {result : Result (Unit {0}) S
 
     module _ {c : Pass} where
       pub put_refused : (e : Event) (refusal : Refusal) → ((n : ℕ) → MayRun table n budget b → RowFound table n budget b c (Err refusal)) → PutAnswers table budget old c e (Err refusal)
-      put_refused e refusal find = let f = find (length (caller table old).made) may_begun in (inr (called_ticks (ran_both begun f.ran) f.rests), f.answers)
+      put_refused e refusal find = let f = find (length (caller table old).made) may_begun in (inr (called_ticks (ran_both begun f.ran) f.rests), refused_for table (length (caller table old).made) budget c refusal (λ p needs. inr (inl needs)) f.answers)
 
       module _ {row : ℕ} (find : (n : ℕ) → MayRun table n budget b → RowFound table n budget b c (Ok row)) where
         pub row_found : RowFound table (length (caller table old).made) budget b c (Ok row)
@@ -110,8 +117,8 @@ module _ {table : Table} {budget : ℕ} {a : Pass} {result : Result (Unit {0}) S
         put_done e d insert = let r = row_made in let i = insert (length (caller table old).made) (may_go (may_anew table old low) r) in
             called_ticks (subst (λ j. MakesTicks table budget old d (Begin old.number ∷ put_entries j e)) r.number (ran_both r i.0)) i.1
 
-        pub put_late : {s : Spent} (e : Event) (d : Pass) → ((n : ℕ) → MayRun table n budget c → EventInserted table n budget e c d (Err s)) → Called table budget old d (Begin old.number ∷ []) × IsUsedUp table (length (caller table old).made) budget d
-        put_late e d insert = let r = row_made in let i = insert (length (caller table old).made) (may_go (may_anew table old low) r) in (called_ticks (ran_both r i.0) i.1, i.2)
+        pub put_late : {s : Spent} (e : Event) (d : Pass) → ((n : ℕ) → MayRun table n budget c → EventInserted table n budget e c d (Err s)) → Called table budget old d (Begin old.number ∷ []) × (let n : ℕ = length (caller table old).made in IsUsedUp table n budget (TryPutNeeds n table old e) d)
+        put_late e d insert = let r = row_made in let i = insert (length (caller table old).made) (may_go (may_anew table old low) r) in (called_ticks (ran_both r i.0) i.1, used_for (λ p needs. inr (inr needs)) i.2)
 
     -- A take
 
@@ -129,7 +136,7 @@ module _ {table : Table} {budget : ℕ} {a : Pass} {result : Result (Unit {0}) S
       take_began = ((caller table old).own, old.number, take_begun.own)
 
       pub take_free : is_err result ≡ false → c.debts.cut ≡ None
-      take_free e = ap (λ (d : Debts). d.cut) entered.keeps.debts ∙ (ap (λ (p : Pass). p.debts.cut) begin.same ∙ finished_ok table (length (caller table old).made) budget a result e first_settled.finished)
+      take_free e = ap (λ (d : Debts). d.cut) entered.keeps.debts ∙ (ap (λ (p : Pass). p.debts.cut) begin.same ∙ finished_ok table (length (caller table old).made) budget old a result e first_settled.finished)
 
       module _ (limit : ℕ) (d : Pass) (answer : Option Event) (mark : (n : ℕ) → MayRun table n budget c → EventTaken table n budget x limit c d (Ok answer)) where
         marked_so : {end : Option Event} → answer ≡ end → EventTaken table (length (caller table old).made) budget x limit c d (Ok end)
@@ -147,7 +154,7 @@ module _ {table : Table} {budget : ℕ} {a : Pass} {result : Result (Unit {0}) S
             (subst (λ j. Makes table budget old d (Begin old.number ∷ Miss j limit ∷ [])) take_begun.number (ran_trans take_begun t.0), (t.1.0, works_on take_inside t.0 t.1.1), t.2)
 
       pub take_late : (limit : ℕ) (d : Pass) {s : Spent} → ((n : ℕ) → MayRun table n budget c → EventTaken table n budget x limit c d (Err s)) → Ends table budget old limit d (Err (Again budget))
-      take_late limit d mark = let t = mark (length (caller table old).made) (may_go (may_anew table old low) take_begun) in (ran_trans take_begun t.0, (x, works_on take_inside t.0 t.1), (refl, t.2))
+      take_late limit d mark = let t = mark (length (caller table old).made) (may_go (may_anew table old low) take_begun) in (ran_trans take_begun t.0, (x, works_on take_inside t.0 t.1), (refl, used_for (λ p needs. inr needs) t.2))
 
 module _ (table : Table) (budget : ℕ) (old : Pass) (limit : ℕ) (pass : Pass) where
   pub ends_at_work : (end : Result TakeEnd Refusal) → Ends table budget old limit pass end → (x : Control) × IsAtWork table x pass

@@ -28,8 +28,9 @@ use Rattle.crq_list.specs.Inserting.{IsInserting}
 use Rattle.crq_list.specs.Taking.{IsTaking}
 use Rattle.crq_queue.specs.declared.runs.Spent.{Spent}
 use Rattle.crq_queue.specs.Runs.{IsInside}
-use Rattle.crq_queue.specs.Parts.{CutRan}
+use Rattle.crq_queue.specs.Parts.{CutRan, UptoNeeds}
 use Rattle.crq_queue.specs.Stages.{CutFinished}
+use Rattle.crq_queue.proofs.RunLaws.{used_for}
 use Rattle.crq_queue.proofs.CallSteps.{head_open, first_open, is_uncut, uncut_ran}
 
 module _ {table : Table} {x : Control} {pass : Pass} (of : IsPassOf table pass) (inside : IsInside table x pass) where
@@ -105,5 +106,5 @@ module _ {table : Table} {n budget : ℕ} {x : Control} {op : CutOp} {old mid : 
     finished = refl;
   }
 
-pub cut_unfinished : {table : Table} {n budget : ℕ} {x : Control} {op : CutOp} {old new : Pass} {s t : Spent} → CutRan table n budget x op old new (Err s) → CutFinished table n budget x old new (Err t)
-cut_unfinished c = record { ran = c.ran; inside = c.inside; free = c.free; finished = c.ended }
+pub cut_unfinished : {table : Table} {n budget : ℕ} {x : Control} {op : CutOp} {old new : Pass} {s t : Spent} (d : CutDebt) → CutRan table n budget x op old new (Err s) → old.debts.cut ≡ Some d → op.upto ≡ Some (d.event, d.row) → CutFinished table n budget x old new (Err t)
+cut_unfinished {table} {n} d c owes upto = record { ran = c.ran; inside = c.inside; free = c.free; finished = used_for (λ p needs. record { debt = d; owes = owes; cuts = subst (λ u. UptoNeeds n table u p) upto needs }) c.ended }

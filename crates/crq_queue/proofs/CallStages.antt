@@ -37,7 +37,7 @@ use Rattle.crq_list.specs.Swaps.{Controlled}
 use Rattle.crq_queue.specs.declared.runs.Spent.{Spent}
 use Rattle.crq_queue.specs.Wholes.{IsResting}
 use Rattle.crq_queue.specs.Runs.{Ran, RanTicks, MayRun, IsInside}
-use Rattle.crq_queue.specs.Parts.{Entered, Left, InsertRan, OwnRan, RecoverRan, TakeRan}
+use Rattle.crq_queue.specs.Parts.{Entered, Left, InsertNeeds, TakeNeeds, CutNeeds, IsUsedUp, InsertRan, OwnRan, RecoverRan, TakeRan}
 use Rattle.crq_queue.specs.Stages.{CutFinished, DebtSettled, EventInserted, EventTaken, IsFinished, RowAnswers, RowFound}
 use Rattle.crq_queue.proofs.RunLaws.{ran_none, ran_trans, ran_both, ran_ticks, used_on}
 use Rattle.crq_queue.proofs.CallSteps.{IsAtWork, may_go, goes_inside, works_on, comes_to_rest, load_rests, load_found, load_ran, miss_inside, miss_ran}
@@ -53,9 +53,10 @@ owes_some : (o : Option CutDebt) → is_some o ≡ true → o ≡ None → ⊥
 owes_some (Some d) e is = cc
 owes_some None e is = false≢true e
 
-still_finished : {table : Table} {n : ℕ} (budget : ℕ) (old new : Pass) (result : Result (Unit {0}) Spent) → Left table n budget old new → IsFinished table n budget old result → IsFinished table n budget new result
-still_finished budget old new (Ok u) l f = ap (λ (d : Debts). d.cut) l.keeps.debts ∙ f
-still_finished budget old new (Err s) l f = used_on f l.ran l.turns
+-- what a cut leaves may also be said from an earlier pass on, which owed the same, and of a later one, whose guard is off
+still_finished : (table : Table) (n budget : ℕ) (old start end new : Pass) (result : Result (Unit {0}) Spent) → start.debts.cut ≡ old.debts.cut → Left table n budget end new → IsFinished table n budget start end result → IsFinished table n budget old new result
+still_finished table n budget old start end new (Ok u) same l f = ap (λ (d : Debts). d.cut) l.keeps.debts ∙ f
+still_finished table n budget old start end new (Err s) same l f = used_on (subst (λ owed. IsUsedUp table n budget (CutNeeds n table owed) end) same f) l.ran l.turns
 
 module _ {table : Table} {budget : ℕ} {a b c : Pass} {x : Control} (r : IsResting table a) (load : Controlled ControlLoad table a b loads_control x) (enter : (n budget : ℕ) → MayRun table n budget b → Entered table n budget b c) where
   -- inside, after a load of the control word
@@ -63,15 +64,19 @@ module _ {table : Table} {budget : ℕ} {a b c : Pass} {x : Control} (r : IsRest
   load_enter {n} may = let one = load_ran load may in let e = enter n budget (may_go may one) in (ran_trans one e.ran, goes_inside (load_rests load r) (load_found load) e)
 
   module _ {d : Pass} {result : Result (Unit {0}) Spent} (cut : (n : ℕ) → MayRun table n budget c → CutFinished table n budget x c d result) where
-    pub load_cut : {n : ℕ} → MayRun table n budget a → Ran table n budget a d [] × IsAtWork table x d × IsFinished table n budget d result
+    pub load_cut : {n : ℕ} → MayRun table n budget a → Ran table n budget a d [] × IsAtWork table x d × IsFinished table n budget c d result
     load_cut {n} may = let one = load_enter may in let f = cut n (may_go may one.0) in (ran_trans one.0 f.ran, works_on one.1 f.ran f.inside, f.finished)
+
+    -- what is owed stays until the cut
+    still_owed : {n : ℕ} → MayRun table n budget a → c.debts.cut ≡ a.debts.cut
+    still_owed {n} may = ap (λ (d : Debts). d.cut) (enter n budget (may_go may (load_ran load may))).keeps.debts ∙ ap (λ (p : Pass). p.debts.cut) load.same
 
     pub debt_settled : {e : Pass} → is_some a.debts.cut ≡ true → ((n budget : ℕ) → MayRun table n budget d → Left table n budget d e) → {n : ℕ} → MayRun table n budget a → DebtSettled table n budget a e result
     debt_settled {e} some leave {n} may = let one = load_cut may in let l = leave n budget (may_go may one.0) in record {
       ran = ran_trans one.0 l.ran;
       rests = comes_to_rest one.1 l;
       idle = λ none. absurd (owes_some a.debts.cut some none);
-      finished = still_finished budget d e result l one.2;
+      finished = still_finished table n budget a c d e result (still_owed may) l one.2;
     }
 
 pub nothing_settled : {table : Table} {n budget : ℕ} {pass : Pass} → IsResting table pass → pass.debts.cut ≡ None → MayRun table n budget pass → DebtSettled table n budget pass pass (Ok tt)
@@ -105,7 +110,7 @@ module _ {table : Table} {budget : ℕ} {a b : Pass} {x : Control} (r : IsRestin
     inserted : (n : ℕ) (c d : Pass) (answer : Result (Unit {0}) Spent) → Ran table n budget a b [] × IsAtWork table x b → InsertRan table n budget x op b c answer → (MayRun table n budget c → Left table n budget c d) → MayRun table n budget a → EventInserted table n budget event a d answer
     inserted n c d (Ok u) one i leave may = let ran = one.0 in let l = leave (may_go (may_go may ran) i.0) in
         (subst (λ (p : ℕ × Event). Ran table n budget a d (put_entries p.0 p.1)) (λ k. (ran.number k, ap (λ (o : InsertOp). o.event) is k)) (ran_trans ran (ran_trans i.0 l.ran)), comes_to_rest (works_on one.1 i.0 i.1) l)
-    inserted n c d (Err s) one i leave may = let ran = one.0 in let l = leave (may_go (may_go may ran) i.0) in (ran_trans ran (ran_trans i.0 l.ran), comes_to_rest (works_on one.1 i.0 i.1) l, used_on i.3 l.ran l.turns)
+    inserted n c d (Err s) one i leave may = let ran = one.0 in let l = leave (may_go (may_go may ran) i.0) in (ran_trans ran (ran_trans i.0 l.ran), comes_to_rest (works_on one.1 i.0 i.1) l, subst (λ (o : InsertOp). IsUsedUp table n budget (InsertNeeds n table o.event) d) is (used_on i.3 l.ran l.turns))
 
     pub event_inserted : (c d : Pass) (result : Result (Unit {0}) Spent) → ((n : ℕ) (y : Control) → IsInserting n table y op (caller table b) → InsertRan table n budget y op b c result) → ((n budget : ℕ) → MayRun table n budget c → Left table n budget c d)
         → {n : ℕ} → MayRun table n budget a → EventInserted table n budget event a d result
@@ -202,4 +207,4 @@ module _ {table : Table} {budget : ℕ} {x : Control} {start a : Pass} {op : Tak
           (subst (λ j. Ran table n budget start d (Miss j limit ∷ [])) both.number (ran_trans both miss), (y, miss_inside c t.1), ap (λ (p : Pass). p.debts.cut) c.same ∙ (ap (λ (d : Debts). d.cut) t.2 ∙ m.free))
 
   pub take_late : (b : Pass) (s s' : Spent) → ((n : ℕ) (y : Control) → IsTaking n table y op (caller table a) → TakeRan table n budget y op a b (Err s)) → {n : ℕ} → MayRun table n budget start → EventTaken table n budget x limit start b (Err s')
-  take_late b s s' take {n} may = let t = taken b (Err s) take may in (ran_trans (m.ran n may) t.0, t.1, t.3)
+  take_late b s s' take {n} may = let t = taken b (Err s) take may in (ran_trans (m.ran n may) t.0, t.1, subst (λ (o : TakeOp). IsUsedUp table n budget (TakeNeeds n table o.limit) b) is t.3)

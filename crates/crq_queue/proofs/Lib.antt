@@ -3,6 +3,7 @@ pub mod Gathers
 pub mod Dealings
 pub mod RunLaws
 pub mod RunLoops
+pub mod RunStretches
 pub mod RecoverRuns
 pub mod CallSteps
 pub mod CallOps

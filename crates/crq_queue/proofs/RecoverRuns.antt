@@ -29,7 +29,7 @@ use Rattle.crq_rows.specs.Recovering.{IsRecovering, RecoverMakes, RecoverNext, R
 use Rattle.crq_rows.proofs.Working.{plain_no_tick, own_works, recover_works}
 use Rattle.crq_queue.specs.declared.runs.Spent.{Spent}
 use Rattle.crq_queue.specs.Runs.{RanTicks, MayRun, Recovered, ends, goes_on, ticks_of}
-use Rattle.crq_queue.specs.Parts.{OwnEnded, OwnRan, RecoverEnded, RecoverRan, recovers}
+use Rattle.crq_queue.specs.Parts.{OwnEnded, OwnRan, RecoverEnded, RecoverRan}
 use Rattle.crq_queue.proofs.RunLaws.{ran_none, ran_both, ran_ticks, ran_step, none_ticks, may_run_on, used_up, ticks_append}
 
 -- what a search leaves, whatever it found
@@ -249,5 +249,5 @@ recover_spent table n budget old op new s g exchanges used = let k = g.kept in r
   owed = k.owed;
   uncut = k.uncut;
   debts = k.debts;
-  ended = used_up k.ran.is k.ran.within used (recovers op g.at g.knows exchanges);
+  ended = used_up k.ran.is k.ran.within used (record { op = op; at = g.at; knows = g.knows; exchanges = exchanges });
 }

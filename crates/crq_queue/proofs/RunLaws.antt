@@ -12,7 +12,7 @@ use Rattle.crq_rows.specs.Passes.{caller, IsPassOf}
 use Rattle.crq_rows.specs.Known.{is_exchange, is_tick, Stays, Works, turns_after}
 use Rattle.crq_rows.proofs.Working.{plain_no_tick}
 use Rattle.crq_queue.specs.Runs.{exchanges_of, ticks_of, claims_of, IsFair, Ran, RanTicks, MayRun}
-use Rattle.crq_queue.specs.Parts.{IsUsedUp, NeedsExchange}
+use Rattle.crq_queue.specs.Parts.{IsUsedUp}
 
 -- steps, and steps after them
 
@@ -149,8 +149,8 @@ ran_inside on exchanges entries may room is number settle copy second_cut works 
 
 -- The budget is used up
 
-pub used_up : {table : Table} {n budget : ℕ} {pass : Pass} → IsPassOf table pass → pass.turns ≤ budget → budget ≤ pass.turns → NeedsExchange n table (caller table pass) → IsUsedUp table n budget pass
-used_up {table} {n} {budget} {pass} of within used needs = record {
+pub used_up : {table : Table} {n budget : ℕ} {Needs : Caller → Type 0} {pass : Pass} → IsPassOf table pass → pass.turns ≤ budget → budget ≤ pass.turns → Needs (caller table pass) → IsUsedUp table n budget Needs pass
+used_up {table} {n} {budget} {Needs} {pass} of within used needs = record {
   turns = omega arith;
   before = pass;
   is = of;
@@ -162,9 +162,13 @@ used_up {table} {n} {budget} {pass} of within used needs = record {
   quiet = refl;
 }
 
+-- also for a need that follows from this one
+pub used_for : {table : Table} {n budget : ℕ} {Needs Others : Caller → Type 0} {pass : Pass} → ((p : Caller) → Needs p → Others p) → IsUsedUp table n budget Needs pass → IsUsedUp table n budget Others pass
+used_for {table} follows u = record { turns = u.turns; before = u.before; is = u.is; number = u.number; spent = u.spent; needs = follows (caller table u.before) u.needs; rest = u.rest; made = u.made; quiet = u.quiet }
+
 -- and after a part without an exchange it still is
-pub used_on : {table : Table} {n k budget most : ℕ} {old new : Pass} {entries : List Entry} → IsUsedUp table n budget old → Ran table k most old new entries → new.turns ≡ old.turns → IsUsedUp table n budget new
-used_on {table} {n} {k} {budget} {most} {old} {new} u ran turns = record {
+pub used_on : {table : Table} {n k budget most : ℕ} {Needs : Caller → Type 0} {old new : Pass} {entries : List Entry} → IsUsedUp table n budget Needs old → Ran table k most old new entries → new.turns ≡ old.turns → IsUsedUp table n budget Needs new
+used_on {table} {n} {k} {budget} {most} {Needs} {old} {new} u ran turns = record {
   turns = turns ∙ u.turns;
   before = u.before;
   is = u.is;

@@ -39,7 +39,7 @@ use Rattle.crq_list.specs.Inserting.{target_of, IsInsertingAt, IsInserting, stat
 use Rattle.crq_list.specs.Taking.{IsTaking, taking_exchanges, taking_left, TakeStepped}
 use Rattle.crq_queue.specs.declared.runs.Spent.{Spent}
 use Rattle.crq_queue.specs.Runs.{Ran, IsInside}
-use Rattle.crq_queue.specs.Parts.{CutRan, InsertRan, TakeRan, inserts, takes, cuts}
+use Rattle.crq_queue.specs.Parts.{CutRan, InsertRan, TakeRan}
 use Rattle.crq_queue.proofs.RunLaws.{ran_none, ran_trans, ran_inside, may_run_on, used_up, stays_none, stays_trans, counts}
 
 -- What is left, of exchanges and then of other steps, where `big` is above what is left of these
@@ -163,7 +163,7 @@ module _ (table : Table) (n budget : ℕ) (x : Control) (op : CutOp) (old : Pass
     free = g.free;
     debts = g.debts;
     owed = g.owed;
-    ended = used_up g.ran.is g.ran.within used (cuts x now g.at exchanges);
+    ended = used_up g.ran.is g.ran.within used (record { control = x; op = now; at = g.at; upto_is = ap (λ (o : CutOp). o.upto) g.op_is; exchanges = exchanges });
   }
 
 -- An insertion
@@ -207,7 +207,7 @@ module _ (table : Table) (n budget : ℕ) (x : Control) (op : InsertOp) (old : P
     g.ran,
     record { on = g.at.on; uncut = state_uncut n table x now now.state (caller table new) g.at.at exchanges; control = g.at.list_is.control },
     g.debts,
-    used_up g.ran.is g.ran.within used (inserts x now g.at exchanges),
+    used_up g.ran.is g.ran.within used (record { control = x; op = now; at = g.at; event = ap (λ (o : InsertOp). o.event) g.op_is; exchanges = exchanges }),
   )
 
 -- A take
@@ -266,4 +266,4 @@ module _ (table : Table) (n budget : ℕ) (x : Control) (op : TakeOp) (old : Pas
     take_ends after new Frozen s = absurd s.answers
 
   pub take_spent : (now : TakeOp) (new : Pass) (s : Spent) → TakeGoes table n budget x op now old new → taking_exchanges now.state ≡ true → budget ≤ new.turns → TakeRan table n budget x op old new (Err s)
-  take_spent now new s g exchanges used = (g.ran, record { on = g.at.on; uncut = g.at.uncut; control = g.at.control }, g.debts, used_up g.ran.is g.ran.within used (takes x now g.at exchanges))
+  take_spent now new s g exchanges used = (g.ran, record { on = g.at.on; uncut = g.at.uncut; control = g.at.control }, g.debts, used_up g.ran.is g.ran.within used (record { control = x; op = now; at = g.at; limit_is = ap (λ (o : TakeOp). o.limit) g.op_is; exchanges = exchanges }))

@@ -1,5 +1,6 @@
 -- What each part of a call leaves.
 use Rattle.std.specs.Prelude.{◌≡◌, ◌⊎◌, ℕ, ◌<◌, true, List, [], ◌∷◌, ◌++◌, Option, Some, None, Result, Ok, Err}
+use Rattle.crq_base.specs.declared.event.Event.{Event}
 use Rattle.crq_base.specs.declared.entry.Entry.TheVariants.{Take}
 use Rattle.crq_base.specs.declared.words.Control.{Control}
 use Rattle.crq_rule.specs.declared.pass.Pass.{Pass}
@@ -24,6 +25,7 @@ use Rattle.crq_list.specs.declared.insert.InsertOp.{InsertOp}
 use Rattle.crq_list.specs.declared.take.TakeOp.{TakeOp}
 use Rattle.crq_list.specs.declared.take.MarkEnd.{MarkEnd}
 use Rattle.crq_list.specs.declared.take.MarkEnd.TheVariants.{Marked, Beyond, Nothing, Lost, Frozen}
+use Rattle.crq_list.specs.Spots.{Target}
 use Rattle.crq_list.specs.Seeking.{seek_exchanges}
 use Rattle.crq_list.specs.Cutting.{IsCutting}
 use Rattle.crq_list.specs.Inserting.{IsInserting, insert_exchanges}
@@ -51,28 +53,60 @@ pub record Left (table : Table) (n budget : ℕ) (old new : Pass) : Type 0 where
   pub off : (caller table new).guard ≡ Off
   pub turns : new.turns ≡ old.turns
 
--- The next step of what the caller does is an exchange: that of an insertion, a take, a cut or a recovery, which stands there
-pub data NeedsExchange (n : ℕ) (table : Table) (p : Caller) : Type 0 where
-  inserts : (x : Control) (op : InsertOp) → IsInserting n table x op p → insert_exchanges op ≡ true → NeedsExchange n table p
-  takes : (x : Control) (op : TakeOp) → IsTaking n table x op p → taking_exchanges op.state ≡ true → NeedsExchange n table p
-  cuts : (x : Control) (op : CutOp) → IsCutting n table x op p → seek_exchanges op.seek ≡ true → NeedsExchange n table p
-  recovers : (op : RecoverOp) → IsRecovering table.start.layout op p → RecoverKnows n table.start.layout op p → recover_exchanges table.start.layout op ≡ true → NeedsExchange n table p
+-- What a caller needs one more exchange for. It is within an operation of its call, which began when n steps had been made, and the next step of that is an exchange
 
--- The budget is used up, and it ended before an exchange: with the pass `before` the next step was to be one. The steps made since are no exchanges
-pub record IsUsedUp (table : Table) (n budget : ℕ) (new : Pass) : Type 0 where
+-- for the insertion of this event
+pub record InsertNeeds (n : ℕ) (table : Table) (e : Event) (p : Caller) : Type 0 where
+  pub control : Control
+  pub op : InsertOp
+  pub at : IsInserting n table control op p
+  pub event : op.event ≡ e
+  pub exchanges : insert_exchanges op ≡ true
+
+-- for a take below this limit
+pub record TakeNeeds (n : ℕ) (table : Table) (limit : ℕ) (p : Caller) : Type 0 where
+  pub control : Control
+  pub op : TakeOp
+  pub at : IsTaking n table control op p
+  pub limit_is : op.limit ≡ limit
+  pub exchanges : taking_exchanges op.state ≡ true
+
+-- for a cut of the dead rows up to this one
+pub record UptoNeeds (n : ℕ) (table : Table) (upto : Target) (p : Caller) : Type 0 where
+  pub control : Control
+  pub op : CutOp
+  pub at : IsCutting n table control op p
+  pub upto_is : op.upto ≡ upto
+  pub exchanges : seek_exchanges op.seek ≡ true
+
+-- for the cut of the dead row that was owed; where none was, there is no such need
+pub record CutNeeds (n : ℕ) (table : Table) (owed : Option CutDebt) (p : Caller) : Type 0 where
+  pub debt : CutDebt
+  pub owes : owed ≡ Some debt
+  pub cuts : UptoNeeds n table (Some (debt.event, debt.row)) p
+
+-- for a recovery of rows
+pub record RecoverNeeds (n : ℕ) (table : Table) (p : Caller) : Type 0 where
+  pub op : RecoverOp
+  pub at : IsRecovering table.start.layout op p
+  pub knows : RecoverKnows n table.start.layout op p
+  pub exchanges : recover_exchanges table.start.layout op ≡ true
+
+-- The budget is used up, and it ended before an exchange: the caller needed one with the pass `before`. The steps made since are no exchanges
+pub record IsUsedUp (table : Table) (n budget : ℕ) (Needs : Caller → Type 0) (new : Pass) : Type 0 where
   pub turns : new.turns ≡ budget
   pub before : Pass
   pub is : IsPassOf table before
   pub number : new.number ≡ before.number
   pub spent : before.turns ≡ budget
-  pub needs : NeedsExchange n table (caller table before)
+  pub needs : Needs (caller table before)
   pub rest : List Made
   pub made : (caller table new).made ≡ (caller table before).made ++ rest
   pub quiet : exchanges_of rest ≡ 0
 
 abbrev pub CutEnded : ℕ → ℕ → Table → CutOp → Pass → Result (Unit {0}) Spent → Type 0
 CutEnded n budget table op new (Ok u) = (d : CutDebt) → op.upto ≡ Some (d.event, d.row) → d.head ≡ op.list.head → (caller table new).debts.cut ≡ Some d → ⊥
-CutEnded n budget table op new (Err s) = IsUsedUp table n budget new
+CutEnded n budget table op new (Err s) = IsUsedUp table n budget (UptoNeeds n table op.upto) new
 
 pub record CutRan (table : Table) (n budget : ℕ) (x : Control) (op : CutOp) (old new : Pass) (result : Result (Unit {0}) Spent) : Type 0 where
   pub ran : Ran table n budget old new []
@@ -84,7 +118,7 @@ pub record CutRan (table : Table) (n budget : ℕ) (x : Control) (op : CutOp) (o
 
 abbrev pub InsertRan : Table → ℕ → ℕ → Control → InsertOp → Pass → Pass → Result (Unit {0}) Spent → Type 0
 InsertRan table n budget x op old new (Ok u) = Ran table n budget old new (put_entries old.number op.event) × IsInside table x new × (new.debts ≡ old.debts)
-InsertRan table n budget x op old new (Err s) = Ran table n budget old new [] × IsInside table x new × (new.debts ≡ old.debts) × IsUsedUp table n budget new
+InsertRan table n budget x op old new (Err s) = Ran table n budget old new [] × IsInside table x new × (new.debts ≡ old.debts) × IsUsedUp table n budget (InsertNeeds n table op.event) new
 
 abbrev pub TakeRan : Table → ℕ → ℕ → Control → TakeOp → Pass → Pass → Result MarkEnd Spent → Type 0
 TakeRan table n budget x op old new (Ok (Marked r e)) = Ran table n budget old new (Take old.number e ∷ []) × IsInside table x new × (e.time < op.limit) × (new.debts.cut ≡ Some (cut_debt x r e))
@@ -92,7 +126,7 @@ TakeRan table n budget x op old new (Ok (Beyond e)) = Ran table n budget old new
 TakeRan table n budget x op old new (Ok Nothing) = Ran table n budget old new [] × IsInside table x new × (new.debts ≡ old.debts) × MayMiss x op.limit (caller table new)
 TakeRan table n budget x op old new (Ok Lost) = Ran table n budget old new [] × IsInside table x new × (new.debts ≡ old.debts) × ((caller table new).debts.cut ≡ None) × (old.turns < new.turns)
 TakeRan table n budget x op old new (Ok Frozen) = ⊥
-TakeRan table n budget x op old new (Err s) = Ran table n budget old new [] × IsInside table x new × (new.debts ≡ old.debts) × IsUsedUp table n budget new
+TakeRan table n budget x op old new (Err s) = Ran table n budget old new [] × IsInside table x new × (new.debts ≡ old.debts) × IsUsedUp table n budget (TakeNeeds n table op.limit) new
 
 abbrev pub OwnEnded : Table → Pass → Option ℕ → Type 0
 OwnEnded table new (Some r) = In r (caller table new).hand
@@ -113,7 +147,7 @@ RecoverEnded table n budget old new (Ok More) = ⊥
 RecoverEnded table n budget old new (Ok Ready) = (r : ℕ) × (rest : List ℕ) × ((caller table new).hand ≡ r ∷ rest)
 RecoverEnded table n budget old new (Ok (Held h)) = Recovered table (Ticking 0 Load) old new (Held h)
 RecoverEnded table n budget old new (Ok Rows) = Recovered table (Ticking 0 Load) old new Rows
-RecoverEnded table n budget old new (Err s) = IsUsedUp table n budget new
+RecoverEnded table n budget old new (Err s) = IsUsedUp table n budget (RecoverNeeds n table) new
 
 pub record RecoverRan (table : Table) (n budget : ℕ) (old new : Pass) (result : Result Recover Spent) : Type 0 where
   pub ran : RanTicks table n budget 3 old new []

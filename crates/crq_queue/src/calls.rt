@@ -1,5 +1,5 @@
 //! The calls that put, take and settle, each within a budget of exchanges.
-ghost use Rattle.std.specs.Prelude.{◌≡◌, ◌≤◌, ◌<◌, ◌++◌, [], ◌∷◌, ℕ, Some, None, Ok, Err, length};
+ghost use Rattle.std.specs.Prelude.{◌≡◌, ◌≤◌, ◌<◌, ◌++◌, [], ◌∷◌, ℕ, Some, None, Ok, Err, length, is_some, true};
 ghost use Rattle.crq_base.specs.declared.words.Control.{Control};
 ghost use Rattle.crq_base.specs.Words.{IsControl};
 ghost use Rattle.crq_rule.specs.declared.view.Guard.TheVariants.{Off};
@@ -62,6 +62,7 @@ impl Calendar {
     }
 
     /// Finishes what a resting pass owes.
+    #[inline(always)]
     fn settle(&self, pass: &mut Pass, budget: u32) -> Result<(), Spent>
         requires rests { IsResting self.now.table pass.old }
         requires within { pass.old.turns ≤ budget }
@@ -70,6 +71,17 @@ impl Calendar {
         if pass.debts.cut.is_none() {
             return Ok(());
         }
+        self.settle_cut(pass, budget)
+    }
+
+    /// Cuts the dead row that a resting pass owes. Since it is seldom called, it isn't inlined.
+    #[inline(never)]
+    fn settle_cut(&self, pass: &mut Pass, budget: u32) -> Result<(), Spent>
+        requires rests { IsResting self.now.table pass.old }
+        requires within { pass.old.turns ≤ budget }
+        requires owes { is_some pass.old.debts.cut ≡ true }
+        ensures { (n : ℕ) → MayRun self.now.table n budget pass.old → DebtSettled self.now.table n budget pass.old pass.new result }
+    {
         let control = control_step(&self.table, pass);
         enter(&self.table, pass);
         let end = self.finish_cut(pass, &control, budget);
@@ -214,9 +226,10 @@ impl Calendar {
         ensures idle { pass.old.debts.cut ≡ None → caller self.now.table pass.new ≡ caller self.now.table pass.old }
     {
         pass.turns = 0;
+        let again = Refusal::Again { turns: budget };
         match self.settle(pass, budget) {
             Ok(()) => Ok(()),
-            Err(Spent) => Err(Refusal::Again { turns: budget }),
+            Err(Spent) => Err(again),
         }
     }
 }

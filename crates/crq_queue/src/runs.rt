@@ -56,7 +56,7 @@ pub(crate) fn cut_within(
 {
     let mut op = op;
     while !op.exchanges() || pass.turns < budget {
-        match op.step(table, pass) {
+        match op.run(table, pass) {
             Progress::More => {}
             Progress::Done(CutEnd::Clean) => return Ok(()),
             Progress::Done(CutEnd::Frozen) => unreachable!(),
@@ -80,7 +80,7 @@ pub(crate) fn insert_within(
 {
     let mut op = op;
     while !op.exchanges() || pass.turns < budget {
-        match op.step(table, pass) {
+        match op.run(table, pass) {
             Progress::More => {}
             Progress::Done(InsertEnd::Linked) => return Ok(()),
             Progress::Done(InsertEnd::Frozen) => unreachable!(),
@@ -105,7 +105,7 @@ pub(crate) fn take_within(
 {
     let mut op = op;
     while !op.exchanges() || pass.turns < budget {
-        match op.step(table, pass) {
+        match op.run(table, pass) {
             Progress::More => {}
             Progress::Done(end) => return Ok(end),
         }

@@ -1,10 +1,11 @@
 use Rattle.std.proofs.Common.{inl, inr, refl, sym}
 use Rattle.std.proofs.lemmas.Result.{err_from_is_err_and}
+use Rattle.crq_queue.proofs.RunLaws.{used_for}
 use Rattle.crq_queue.proofs.CallEnds.{first_settled, first_spent, begun, begun_rests, put_refused, row_found, still_found, still_fresh, put_done, put_late}
 use Rattle.crq_queue.proofs.calendar.Calendar.try_put.Goals as goal
 
 pub returns-then-is_err : goal.returns-then-is_err
-returns-then-is_err c = let f = first_spent c.args.pass.now c.ranges.budget.fits c.settle.ensures (sym c.if-is_err.ensures.value) in (inl f.0, (refl, f.1))
+returns-then-is_err c = let f = first_spent c.args.pass.now c.ranges.budget.fits c.settle.ensures (sym c.if-is_err.ensures.value) in (inl f.0, (refl, used_for (λ p needs. inl needs) f.1))
 
 pub begin_step-control-requires : goal.begin_step-control-requires
 begin_step-control-requires c = record { of = (first_settled c.args.pass.now c.ranges.budget.fits c.settle.ensures).ran.is }

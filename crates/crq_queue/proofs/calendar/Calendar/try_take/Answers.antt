@@ -3,12 +3,13 @@ use Rattle.crq_base.specs.declared.event.Event.{Event}
 use Rattle.crq_base.specs.declared.answers.Refusal.TheVariants.{Again}
 use Rattle.crq_base.specs.declared.answers.Route.TheVariants.{Bucket}
 use Rattle.crq_base.specs.declared.answers.TakeEnd.TheVariants.{Taken, Missed}
+use Rattle.crq_queue.proofs.RunLaws.{used_for}
 use Rattle.crq_queue.proofs.CallEnds.{Ends, first_settled, first_spent, begun_rests, take_begun, take_inside, take_began, take_free, take_owes, take_done, take_missed, take_late, ends_at_work, take_answered, ends_so}
 use Rattle.crq_queue.proofs.calendar.Calendar.try_take.Goals.{in-Ok-Some, in-Ok-None, in-Err}
 use Rattle.crq_queue.proofs.calendar.Calendar.try_take.Goals as goal
 
 pub returns-then-is_err : goal.returns-then-is_err
-returns-then-is_err c = let f = first_spent c.args.pass.now c.ranges.budget.fits c.settle.ensures (sym c.if-is_err.ensures.value) in (inl f.0, (refl, f.1))
+returns-then-is_err c = let f = first_spent c.args.pass.now c.ranges.budget.fits c.settle.ensures (sym c.if-is_err.ensures.value) in (inl f.0, (refl, used_for (λ p needs. inl needs) f.1))
 
 pub begin_step-control-requires : goal.begin_step-control-requires
 begin_step-control-requires c = record { of = (first_settled c.args.pass.now c.ranges.budget.fits c.settle.ensures).ran.is }
