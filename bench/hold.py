@@ -1,5 +1,5 @@
 #!/usr/bin/env python3
-"""hold.py PROGRAM PEER: times two programs of the hold model in turn; hold.sh builds the peer and calls it.
+"""hold.py PROGRAM PEER STEPS: times programs of the hold model in turn; hold.sh builds the last two and calls it.
 
 From the environment: REPEATS (5) runs of each program per row, HOLDS (as many as take the peer about a second) holds
 per run, LIMIT (120) seconds per run.
@@ -55,12 +55,12 @@ def timed(program, words):
     return seconds, done.stdout
 
 
-def timed_peer(peer, words):
-    """The same for the peer, which must not fail."""
+def timed_plain(plain, words):
+    """The same for a plain program, which must not fail."""
     try:
-        return timed(peer, words)
+        return timed(plain, words)
     except Failure as failure:
-        stop(f"the peer with {' '.join(map(str, words))}: {failure}")
+        stop(f"{os.path.basename(plain)} with {' '.join(map(str, words))}: {failure}")
 
 
 def fitting(peer, threads, pending):
@@ -68,42 +68,43 @@ def fitting(peer, threads, pending):
     holds, seconds = 25_000, 0
     while seconds < 0.3:
         holds *= 4
-        seconds, _ = timed_peer(peer, (threads, pending, holds, SEED))
+        seconds, _ = timed_plain(peer, (threads, pending, holds, SEED))
     rate = int(holds / seconds)
     return round(rate, 2 - len(str(rate)))
 
 
-def measured(program, peer, words):
-    """The median seconds of the program and of the peer, and the holds made.
+def measured(program, plain, words):
+    """The median seconds of the program and of each plain one, and the holds made.
 
-    The two run in turn, and each repeat begins with the other one. Every run has to print what the peer printed
-    before the repeats.
+    They run in turn, and each repeat begins with another one. Every run has to print what the first plain program
+    printed before the repeats.
     """
-    _, due = timed_peer(peer, words)
+    _, due = timed_plain(plain[0], words)
     form = LINES.fullmatch(due)
     if not form:
-        stop(f"the peer printed {due[:80]!r}")
-    own, others = [], []
+        stop(f"{os.path.basename(plain[0])} printed {due[:80]!r}")
+    turns = [(timed, program, [])] + [(timed_plain, path, []) for path in plain]
     for repeat in range(REPEATS):
-        turns = [(timed, program, own), (timed_peer, peer, others)]
-        for run, what, times in turns if repeat % 2 == 0 else reversed(turns):
-            seconds, lines = run(what, words)
+        first = repeat % len(turns)
+        for run, path, times in turns[first:] + turns[:first]:
+            seconds, lines = run(path, words)
             if lines != due:
-                raise Failure("other lines than the peer")
+                raise Failure(f"{os.path.basename(path)} printed other lines than {os.path.basename(plain[0])}")
             times.append(seconds)
-    return statistics.median(own), statistics.median(others), int(form[1])
+    return [statistics.median(times) for _, _, times in turns], int(form[1])
 
 
-def row(program, peer, threads, pending):
-    """Prints one row of the table; whether it has figures."""
+def row(program, peer, steps, threads, pending):
+    """Prints one row of the table; whether it has figures. The bare steps are for one thread alone."""
     holds = HOLDS or fitting(peer, threads, pending)
     print(f"| {threads} | {pending} | {holds:,} |", end=" ", flush=True)
     try:
-        own, other, made = measured(program, peer, (threads, pending, holds, SEED))
+        (own, other, *bare), made = measured(program, [peer] + [steps] * (threads == 1), (threads, pending, holds, SEED))
     except Failure as failure:
-        print(f"{failure} | | |", flush=True)
+        print(f"{failure} | | | |", flush=True)
         return False
-    print(f"{made / own:,.0f} | {made / other:,.0f} | {own / other:.2f} |", flush=True)
+    alone = f"{bare[0] / other:.2f}" if bare else ""
+    print(f"{made / own:,.0f} | {made / other:,.0f} | {own / other:.2f} | {alone} |", flush=True)
     return True
 
 
@@ -113,13 +114,13 @@ def load():
 
 
 def main():
-    if len(sys.argv) != 3:
+    if len(sys.argv) != 4:
         stop(__doc__)
-    program, peer = sys.argv[1:]
+    program, peer, steps = sys.argv[1:]
     print(f"Medians of {REPEATS} runs of each, in turn, on {os.cpu_count()} processors; load {load()} at the start.\n")
-    print("| threads | pending | holds | program, holds per second | peer, holds per second | time of program / peer |")
-    print("|---:|---:|---:|---:|---:|---:|", flush=True)
-    whole = [row(program, peer, threads, pending) for threads, pending in CASES]
+    print("| threads | pending | holds | program, holds per second | peer, holds per second | time of program / peer | bare steps / peer |")
+    print("|---:|---:|---:|---:|---:|---:|---:|", flush=True)
+    whole = [row(program, peer, steps, threads, pending) for threads, pending in CASES]
     print(f"\nLoad {load()} at the end.")
     sys.exit(0 if all(whole) else 1)
 
