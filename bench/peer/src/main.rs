@@ -4,6 +4,9 @@
 //! with a later time and the same load. Which thread gets which event depends on the schedule, but the loads that
 //! are pending in the end do not, nor does the number of holds.
 
+mod draws;
+
+use draws::Draws;
 use std::process::ExitCode;
 use std::sync::{Mutex, MutexGuard};
 use std::thread;
@@ -12,8 +15,6 @@ use std::thread;
 const THREADS: u64 = 16;
 /// The most events that may be pending.
 const PENDING: u64 = 256;
-/// How many times a new event can fall on, and how many steps later an event can be put back.
-const SPREAD: u64 = 64;
 
 /// One pending event. Events are compared field by field, from the first to the last.
 #[derive(Clone, Copy, PartialEq, Eq, PartialOrd, Ord)]
@@ -62,25 +63,6 @@ impl Queue {
             }
             thread::yield_now();
         }
-    }
-}
-
-/// The random numbers of `SplitMix64`.
-struct Draws(u64);
-
-impl Draws {
-    /// The next 64 random bits.
-    fn draw(&mut self) -> u64 {
-        self.0 = self.0.wrapping_add(0x9E37_79B9_7F4A_7C15);
-        let mut z = self.0;
-        z = (z ^ (z >> 30)).wrapping_mul(0xBF58_476D_1CE4_E5B9);
-        z = (z ^ (z >> 27)).wrapping_mul(0x94D0_49BB_1331_11EB);
-        z ^ (z >> 31)
-    }
-
-    /// A random number below `SPREAD`.
-    fn time(&mut self) -> u32 {
-        (self.draw() % SPREAD) as u32
     }
 }
 

@@ -4,6 +4,10 @@
 //! while nobody else uses it, all sequentially consistent. It tells how much of the queue's time these steps take by
 //! themselves. It is no queue: it relies on there being one thread.
 
+#[path = "../../peer/src/draws.rs"]
+mod draws;
+
+use draws::Draws;
 use std::collections::VecDeque;
 use std::hint::black_box;
 use std::process::ExitCode;
@@ -11,8 +15,6 @@ use std::sync::atomic::{AtomicU64, Ordering::SeqCst};
 
 /// The most events that may be pending.
 const PENDING: u64 = 256;
-/// How many times a new event can fall on, and how many steps later an event can be put back.
-const SPREAD: u64 = 64;
 /// How many home rows the one caller has.
 const ROWS: u64 = 1026;
 
@@ -189,25 +191,6 @@ impl Table {
         if next != 0 {
             black_box(self.load(row(next) + 3));
         }
-    }
-}
-
-/// The random numbers of `SplitMix64`.
-struct Draws(u64);
-
-impl Draws {
-    /// The next 64 random bits.
-    fn draw(&mut self) -> u64 {
-        self.0 = self.0.wrapping_add(0x9E37_79B9_7F4A_7C15);
-        let mut z = self.0;
-        z = (z ^ (z >> 30)).wrapping_mul(0xBF58_476D_1CE4_E5B9);
-        z = (z ^ (z >> 27)).wrapping_mul(0x94D0_49BB_1331_11EB);
-        z ^ (z >> 31)
-    }
-
-    /// A random number below `SPREAD`.
-    fn time(&mut self) -> u32 {
-        (self.draw() % SPREAD) as u32
     }
 }
 
