@@ -56,7 +56,7 @@ impl Mark {
 }
 
 /// Where a list goes on: the word of a bucket's head, or of a row's link. The fields stand in the order of their bits; in
-/// another order a walk took up to half as long again.
+/// two of the other orders the queue took half as long again.
 #[derive(Clone, Copy, Debug, PartialEq, Eq)]
 pub struct Link {
     /// The mark of the head or row that holds this link.
