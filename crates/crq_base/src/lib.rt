@@ -9,6 +9,7 @@ mod first;
 mod holder;
 mod kinds;
 mod legality;
+mod memory;
 mod words;
 
 pub use answers::{Announce, PutEnd, Refusal, Route, Short, TakeEnd};
@@ -18,4 +19,5 @@ pub use first::First;
 pub use holder::Holder;
 pub use kinds::StepKind;
 pub use legality::{Fault, judge};
+pub use memory::Memory;
 pub use words::{Control, Current, Link, Mark, Pin, Stamp, spelling_law, word_law};

@@ -1,19 +1,10 @@
-//! What all devices share: the count of faults, calls that fail by their number, and want of memory.
+//! What all devices share: the count of faults, and calls that fail by their number.
 
 ghost use Rattle.std.specs.Prelude.{◌≡◌, ◌↔◌, IsTrue, IfOk};
 ghost use Rattle.crq_io.specs.Faults.{one_more, IsListed};
 
-use std::alloc::{AllocError, Global};
-
-/// There was no memory for what was asked.
-#[derive(Clone, Copy, Debug, PartialEq, Eq)]
-pub struct Memory;
-
-impl From<AllocError> for Memory {
-    fn from(_error: AllocError) -> Memory {
-        Memory
-    }
-}
+use crq_base::Memory;
+use std::alloc::Global;
 
 /// The next value of a count, which stands still at 2^64 - 1.
 pub(crate) fn one_more(count: u64) -> u64

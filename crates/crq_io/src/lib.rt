@@ -9,7 +9,7 @@ mod mem_files;
 mod mem_sink;
 mod sink;
 
-pub use faults::Memory;
+pub use crq_base::Memory;
 pub use files::{Fetch, Files};
 pub use host::{HostFiles, HostSink};
 pub use mem_files::MemFiles;

@@ -5,8 +5,9 @@ ghost use Rattle.crq_io.specs.Faults.{Rose, NoFault, one_more};
 ghost use Rattle.crq_io.specs.Told.{IsTold};
 ghost use Rattle.crq_io.specs.MemFiles.{bytes_at, file_in, told_of, fails_of, calls_of, faults_of, FailsNext, SameCounts, IsNextCall};
 
-use crate::faults::{Memory, is_listed, list_of, one_more};
+use crate::faults::{is_listed, list_of, one_more};
 use crate::files::{Fetch, Files};
+use crq_base::Memory;
 use std::alloc::{AllocError, Global};
 use std::collections::BTreeMap;
 

@@ -4,8 +4,9 @@ ghost use Rattle.std.specs.Prelude.{◌≡◌, ℕ, ◌<◌, ◌≤◌, ◌↔�
 ghost use Rattle.crq_io.specs.Faults.{Rose, one_more};
 ghost use Rattle.crq_io.specs.Told.{Appends, IsPart};
 
-use crate::faults::{Memory, is_listed, list_of, one_more};
+use crate::faults::{is_listed, list_of, one_more};
 use crate::sink::{Failed, Sink};
+use crq_base::Memory;
 use std::alloc::Global;
 
 /// A vector whose room is made with it. The calls of `write` are numbered from 1, and those whose

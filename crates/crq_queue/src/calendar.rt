@@ -4,8 +4,8 @@ ghost use Rattle.crq_base.specs.Starts.{IsFirst};
 ghost use Rattle.crq_rule.specs.Opening.{AreFresh};
 ghost use Rattle.crq_queue.specs.Wholes.{IsWhole, history_of, last_history};
 
-use crate::memory::Memory;
 use atomic_table::Seat;
+use crq_base::Memory;
 use crq_rule::{First, Layout, Opened, Seating, Table, View, open_table};
 use std::alloc::Global;
 

@@ -5,13 +5,11 @@ mod calendar;
 mod calls;
 mod dealing;
 mod gathering;
-mod memory;
 mod runs;
 #[cfg(test)]
 mod tests;
 
 pub use calendar::{Calendar, Closed, Whole};
-pub use crq_base::{Holder, PutEnd, Refusal, Route, TakeEnd};
+pub use crq_base::{Holder, Memory, PutEnd, Refusal, Route, TakeEnd};
 pub use crq_rows::{Pass, Passes};
 pub use crq_rule::First;
-pub use memory::Memory;

@@ -8,10 +8,10 @@ ghost use Rattle.crq_sim.specs.Draws.{drawn, next_state};
 ghost use Rattle.crq_sim.specs.Generated.{state_after_draws, generated_object, generated_start, generated};
 
 use crate::draws::draw;
-use crate::memory::Memory;
 use crate::model::{Behaviour, Model, Object, Objects, Start, Starts};
 use crate::name::Name;
 use crate::sequence::Sequence;
+use crq_base::Memory;
 use std::alloc::Global;
 
 /// The lookahead of a generated model, in ticks.

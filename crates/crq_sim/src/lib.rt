@@ -4,7 +4,6 @@
 mod draws;
 mod generated;
 mod laws;
-mod memory;
 mod model;
 mod name;
 mod outcome;
@@ -17,10 +16,10 @@ mod serial_run;
 mod targets;
 mod traces;
 
+pub use crq_base::Memory;
 pub use draws::draw;
 pub use generated::generate;
 pub use laws::{end_law, next_window_law, one_window_law, order_law, window_law};
-pub use memory::Memory;
 pub use model::{Behaviour, BehaviourName, Model, Object, Objects, Start, Starts};
 pub use name::Name;
 pub use outcome::{Outcome, Size, Sizes};

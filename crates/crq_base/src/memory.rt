@@ -1,4 +1,4 @@
-//! Want of memory.
+//! Want of memory, the one answer that no clause ties to a cause.
 
 use std::alloc::AllocError;
 
