@@ -1,5 +1,6 @@
 pub mod Names
 pub mod Models
+pub mod Kinds
 pub mod Draws
 pub mod EventLists
 pub mod Reactions

@@ -1,16 +1,13 @@
 -- The serial run of a model: one event list, from which the least event is taken again and again.
 use Rattle.std.specs.Prelude.{◌≡◌, ℕ, zero, suc, ◌+◌, ◌-◌, List, [], ◌∷◌, ◌++◌, map, filter, slice_index_or, slice_set, if◌then◌else◌, nat_le, ◌==◌}
 use Rattle.crq_base.specs.declared.event.Event.{Event}
-use Rattle.crq_sim.specs.declared.model.Behaviour.{Behaviour}
-use Rattle.crq_sim.specs.declared.model.Behaviour.TheVariants.{Relay, Phold, Station, Fan, Sink}
-use Rattle.crq_sim.specs.declared.model.BehaviourName.{BehaviourName}
-use Rattle.crq_sim.specs.declared.model.BehaviourName.TheVariants as names
 use Rattle.crq_sim.specs.declared.model.Object.{Object}
 use Rattle.crq_sim.specs.declared.model.Start.{Start}
 use Rattle.crq_sim.specs.declared.reaction.ObjectState.{ObjectState}
 use Rattle.crq_sim.specs.declared.traces.ObjectTrace.{ObjectTrace}
 use Rattle.crq_sim.specs.declared.traces.Step.{Step}
 use Rattle.crq_sim.specs.EventLists.{with_events}
+use Rattle.crq_sim.specs.Kinds.{kind_of}
 use Rattle.crq_sim.specs.Models.{ModelData}
 use Rattle.crq_sim.specs.Reactions.{first_state, sends_of, state_after}
 
@@ -55,14 +52,6 @@ beginning m = record { states = first_states m.objects; pending = with_events (s
 unfoldable pub after_events : ModelData → ℕ → Simulation
 after_events m zero = beginning m
 after_events m (suc n) = run_first m (after_events m n).states (after_events m n).pending (after_events m n).log
-
--- a behaviour without its numbers
-abbrev pub kind_of : Behaviour → BehaviourName
-kind_of (Relay delay next) = names.Relay
-kind_of (Phold seed spread) = names.Phold
-kind_of (Station service next) = names.Station
-kind_of (Fan delay targets) = names.Fan
-kind_of Sink = names.Sink
 
 -- the steps of one object
 abbrev pub steps_of : ℕ → List Step → List Step

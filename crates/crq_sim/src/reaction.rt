@@ -7,7 +7,7 @@ ghost use Rattle.crq_sim.specs.Reactions.{behaviour_at, object_at, first_word, f
 ghost use Rattle.crq_sim.specs.declared.reaction.ObjectState.{ObjectState};
 
 use crate::draws::draw;
-use crate::model::{Behaviour, Model, Object};
+use crate::model::{Behaviour, MOST_OBJECTS, Model, Object};
 use crate::sends::{Post, Sends, Source};
 use crq_base::Event;
 
@@ -62,7 +62,7 @@ fn served(service: u32, word: u64, time: u32) -> u64
 /// What a PHOLD object sends an event on as, and its generator's state after both draws.
 fn hold(model: &Model, spread: u32, word: u64, event: &Event) -> (u64, Post)
     requires some { 0 < length model.now.objects }
-    requires few { length model.now.objects < 65536 }
+    requires few { length model.now.objects ≤ MOST_OBJECTS }
     ensures { result ≡ (next_state (next_state word), record { time = event.now.time + model.now.lookahead + drawn_delay spread word; dst = drawn_object (length model.now.objects) word; load = event.now.load }) }
 {
     let (first, after_first) = draw(word);
@@ -86,7 +86,7 @@ fn act(
     event: &Event,
 ) -> (u64, Sends)
     requires some { 0 < length model.now.objects }
-    requires few { length model.now.objects < 65536 }
+    requires few { length model.now.objects ≤ MOST_OBJECTS }
     requires sent { source.now.sent < 2 ^ 62 }
     requires word { IsWordOf behaviour.now word }
     ensures word { result.0 ≡ word_after behaviour.now word event.now }
