@@ -7,17 +7,20 @@ use Rattle.crq_base.specs.Keys.{event_cmp, IsBefore}
 use Rattle.crq_base.proofs.KeyOrder.{before_trans, before_not_itself}
 use Rattle.crq_sim.specs.declared.reaction.ObjectState.{ObjectState}
 use Rattle.crq_sim.specs.declared.traces.Step.{Step}
-use Rattle.crq_sim.specs.EventLists.{with_event, with_events, AreInOrder, IsIn, IsFirst}
+use Rattle.crq_sim.specs.EventLists.{with_event, with_events, without_events, AreInOrder, IsIn, IsFirst}
 use Rattle.crq_sim.specs.Models.{ModelData, IsModel}
-use Rattle.crq_sim.specs.Runs.{run_first, after_events}
-use Rattle.crq_sim.proofs.EventListLemmas.{in_order-with_events}
+use Rattle.crq_sim.specs.Reactions.{withdrawn_by}
+use Rattle.crq_sim.specs.Runs.{state_of, run_first, after_events}
+use Rattle.crq_sim.proofs.EventListLemmas.{All-without_events, in_order-with_events, in_order-without_events}
 use Rattle.crq_sim.proofs.Sound.{IsDue, sound, absent_sends}
 use Rattle.crq_sim.proofs.StartLemmas.{starts_in_order}
 
 step_in_order : (m : ModelData) (states : List ObjectState) (pending : List Event) (log : List Step) → AllByRecursion (IsDue m states) pending → AreInOrder pending → AreInOrder (run_first m states pending log).pending
 unfolding run_first
 step_in_order m states [] log all h = tt
-step_in_order m states (e ∷ es) log all h = in_order-with_events _ es (absent_sends m states e.dst e es all.0.there.0 all.1) h.1
+step_in_order m states (e ∷ es) log all h =
+    let gone : List Event = withdrawn_by m e.dst (state_of states e.dst) e in
+    in_order-with_events _ (without_events gone es) (absent_sends m states e.dst e (without_events gone es) all.0.there.0 (All-without_events (IsDue m states) gone es all.1)) (in_order-without_events gone es h.1)
 
 pub ordered : (m : ModelData) (n : ℕ) → IsModel m → AreInOrder (after_events m n).pending
 unfolding after_events

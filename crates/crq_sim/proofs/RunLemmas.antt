@@ -8,12 +8,12 @@ use Rattle.crq_sim.specs.declared.reaction.ObjectState.{ObjectState}
 use Rattle.crq_sim.specs.declared.run.Run.{Run}
 use Rattle.crq_sim.specs.declared.traces.ObjectTrace.{ObjectTrace}
 use Rattle.crq_sim.specs.declared.traces.Step.{Step}
-use Rattle.crq_sim.specs.EventLists.{with_events, IsFirst}
+use Rattle.crq_sim.specs.EventLists.{with_events, without_events, IsFirst}
 use Rattle.crq_sim.specs.Models.{ModelData, IsModel, IsObject}
 use Rattle.crq_sim.specs.Reactions.{behaviour_at, sends_of, state_after, IsWordOf}
 use Rattle.crq_sim.specs.Runs.{Simulation, state_of, step_of, run_first, after_events, traces_of, IsOverWithin, traces_within}
 use Rattle.crq_sim.specs.Shown.{Shows, IsNext}
-use Rattle.crq_sim.proofs.Sound.{IsDue, sound, no_state}
+use Rattle.crq_sim.proofs.Sound.{IsDue, sound, nothing_withdrawn, no_state}
 
 -- what is known of a run whose least pending event was taken
 pub record Known (m : ModelData) (r : Run) (e : Event) : Type 0 where
@@ -49,7 +49,13 @@ run_first_at : (m : ModelData) (states : List ObjectState) (pending rest : List 
       log = log ++ step_of m (state_of states e.dst) e ∷ [];
     })
 unfolding run_first
-run_first_at m states pending rest log e h = rw h refl
+run_first_at m states pending rest log e h =
+    let s : ObjectState = state_of states e.dst in
+    rw h (ap (λ (gone : List Event). record {
+      states = set states (e.dst - 1) (state_after m e.dst s e);
+      pending = with_events (sends_of m e.dst s e) (without_events gone rest);
+      log = log ++ step_of m s e ∷ [];
+    }) (nothing_withdrawn m e.dst s e))
 
 pub next_events : (m : ModelData) (n : ℕ) → after_events m (n + 1) ≡ run_first m (after_events m n).states (after_events m n).pending (after_events m n).log
 unfolding after_events

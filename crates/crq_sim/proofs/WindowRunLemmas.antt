@@ -11,15 +11,15 @@ use Rattle.crq_base.specs.declared.event.Event.{Event}
 use Rattle.crq_base.specs.Keys.{event_cmp}
 use Rattle.crq_sim.specs.declared.reaction.ObjectState.{ObjectState}
 use Rattle.crq_sim.specs.declared.traces.Step.{Step}
-use Rattle.crq_sim.specs.EventLists.{with_event, with_events, IsIn}
+use Rattle.crq_sim.specs.EventLists.{with_event, with_events, without_events, IsIn}
 use Rattle.crq_sim.specs.Models.{ModelData, IsModel, IsObject}
-use Rattle.crq_sim.specs.Reactions.{sends_of, state_after}
+use Rattle.crq_sim.specs.Reactions.{sends_of, state_after, withdrawn_by}
 use Rattle.crq_sim.specs.Runs.{Simulation, state_of, step_of, run_first, steps_of}
 use Rattle.crq_sim.specs.Windows.{IsNextBelow}
 use Rattle.crq_sim.specs.WindowRuns.{events_later, object_after, object_steps, object_sends, events_of, AreBelow, AreFrom, CanRun, IsSentAt, RunsWindow}
 use Rattle.crq_sim.proofs.EventListLemmas.{All-with_events, All-weaker}
 use Rattle.crq_sim.proofs.OrderLemmas.{in_withs, withs_in}
-use Rattle.crq_sim.proofs.Sound.{IsSend, sends_known, no_state}
+use Rattle.crq_sim.proofs.Sound.{IsSend, sends_known, nothing_withdrawn, no_state}
 use Rattle.crq_sim.proofs.TraceLemmas.{filter_push_in, filter_push_out}
 
 -- an event of a later time isn't before one
@@ -48,10 +48,10 @@ below_edge m edge es all = All-weaker (CanRun m edge) (λ (e : Event). e.time < 
 
 -- what is pending after the first of the events
 pub pending_after : (m : ModelData) (edge : ℕ) (s : ObjectState) (b : Event) (below rest : List Event) → IsModel m → CanRun m edge b → AllByRecursion (CanRun m edge) below → AreFrom edge rest
-    → (with_events (sends_of m b.dst s b) (below ++ rest) ≡ below ++ with_events (sends_of m b.dst s b) rest) × AreFrom edge (with_events (sends_of m b.dst s b) rest)
+    → (with_events (sends_of m b.dst s b) (without_events (withdrawn_by m b.dst s b) (below ++ rest)) ≡ below ++ with_events (sends_of m b.dst s b) rest) × AreFrom edge (with_events (sends_of m b.dst s b) rest)
 pending_after m edge s b below rest is can all from =
     let late = sends_late m edge s b is can in
-    (all_behind edge (sends_of m b.dst s b) below rest late (below_edge m edge below all), All-with_events (λ (f : Event). edge ≤ f.time) (sends_of m b.dst s b) rest late from)
+    (ap (λ gone. with_events (sends_of m b.dst s b) (without_events gone (below ++ rest))) (nothing_withdrawn m b.dst s b) ∙ all_behind edge (sends_of m b.dst s b) below rest late (below_edge m edge below all), All-with_events (λ (f : Event). edge ≤ f.time) (sends_of m b.dst s b) rest late from)
 
 mine : (o : ℕ) (b : Event) (es : List Event) → b.dst ≡ o → events_of o (b ∷ es) ≡ b ∷ events_of o es
 mine o b es h = (let t : nat_eq b.dst o ≡ true = grind (arith, nat_tests) in rw t refl)

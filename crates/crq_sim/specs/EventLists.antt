@@ -15,6 +15,16 @@ abbrev pub with_events : List Event → List Event → List Event
 with_events [] pending = pending
 with_events (e ∷ es) pending = with_events es (with_event e pending)
 
+-- without an event
+abbrev pub without_event : Event → List Event → List Event
+without_event e [] = []
+without_event e (f ∷ fs) = if is_eq (event_cmp e f) then without_event e fs else f ∷ without_event e fs
+
+-- without any of several events
+abbrev pub without_events : List Event → List Event → List Event
+without_events [] pending = pending
+without_events (e ∷ es) pending = without_events es (without_event e pending)
+
 -- each event is before all that follow
 abbrev pub AreInOrder : List Event → Type 0
 AreInOrder [] = Unit {0}

@@ -6,10 +6,10 @@ use Rattle.crq_sim.specs.declared.model.Start.{Start}
 use Rattle.crq_sim.specs.declared.reaction.ObjectState.{ObjectState}
 use Rattle.crq_sim.specs.declared.traces.ObjectTrace.{ObjectTrace}
 use Rattle.crq_sim.specs.declared.traces.Step.{Step}
-use Rattle.crq_sim.specs.EventLists.{with_events}
+use Rattle.crq_sim.specs.EventLists.{with_events, without_events}
 use Rattle.crq_sim.specs.Kinds.{kind_of}
 use Rattle.crq_sim.specs.Models.{ModelData}
-use Rattle.crq_sim.specs.Reactions.{first_state, sends_of, state_after}
+use Rattle.crq_sim.specs.Reactions.{first_state, state_after, sends_of, withdrawn_by}
 
 -- the objects' states, the pending events in order, and the steps that were made
 pub record Simulation : Type 0 where
@@ -25,12 +25,12 @@ state_of states o = slice_index_or states (o - 1) (record { count = 0; word = 0;
 abbrev pub step_of : ModelData → ObjectState → Event → Step
 step_of m s e = record { event = e; count = (state_after m e.dst s e).count; word = (state_after m e.dst s e).word }
 
--- the least pending event is run at its object, and what that sends becomes pending
+-- the least pending event is run at its object; what that withdraws is removed from the pending events, and what it sends is added
 unfoldable pub run_first : ModelData → List ObjectState → List Event → List Step → Simulation
 run_first m states [] log = record { states = states; pending = []; log = log }
 run_first m states (e ∷ es) log = record {
   states = slice_set states (e.dst - 1) (state_after m e.dst (state_of states e.dst) e);
-  pending = with_events (sends_of m e.dst (state_of states e.dst) e) es;
+  pending = with_events (sends_of m e.dst (state_of states e.dst) e) (without_events (withdrawn_by m e.dst (state_of states e.dst) e) es);
   log = log ++ step_of m (state_of states e.dst) e ∷ [];
 }
 
