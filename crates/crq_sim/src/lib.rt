@@ -20,7 +20,7 @@ mod traces;
 pub use crq_base::Memory;
 pub use draws::draw;
 pub use generated::generate;
-pub use laws::{end_law, next_window_law, one_window_law, order_law, window_law};
+pub use laws::{end_law, next_window_law, one_window_law, order_law, simulation_law, window_law};
 pub use model::{
     Behaviour, BehaviourName, MOST_OBJECTS, MOST_STARTS, Model, Object, Objects, Start, Starts,
 };

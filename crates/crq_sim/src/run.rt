@@ -5,7 +5,7 @@ ghost use Rattle.crq_base.specs.declared.event.Event.{Event};
 ghost use Rattle.crq_sim.specs.EventLists.{with_events, IsFirst};
 ghost use Rattle.crq_sim.specs.Models.{ModelData, IsModel, IsObject};
 ghost use Rattle.crq_sim.specs.Kinds.{kind_of};
-ghost use Rattle.crq_sim.specs.Runs.{after_events, first_states, scheduled_starts, traces_of};
+ghost use Rattle.crq_sim.specs.Runs.{simulation_at, first_states, scheduled_starts, traces_of};
 ghost use Rattle.crq_sim.specs.Shown.{Shows, IsNext, Advances, with_step};
 ghost use Rattle.crq_sim.specs.declared.model.Object.{Object};
 ghost use Rattle.crq_sim.specs.declared.run.Run.{Run};
@@ -149,7 +149,7 @@ impl Run {
     /// The traces of the steps that were made.
     pub fn into_traces(self, alloc: Global, model: &Model) -> Result<Traces, AllocError>
         requires { Shows model.now self }
-        ensures { IfOk result (λ t. t ≡ traces_of model.now.objects (after_events model.now self.made).log) }
+        ensures { IfOk result (λ t. t ≡ traces_of model.now.objects (simulation_at model.now self.made).log) }
     {
         model.is_model();
         gathered(alloc, model.objects(), self.log.as_slice())
