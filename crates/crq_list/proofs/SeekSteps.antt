@@ -16,7 +16,7 @@ use Rattle.crq_rule.specs.declared.view.Caller.{Caller}
 use Rattle.crq_rule.specs.Places.{index, IsHead, epoch, stamp}
 use Rattle.crq_rule.specs.Parts.{IsEvent, IsOn}
 use Rattle.crq_rule.specs.Kinds.{makes, loads_epoch, tagged, retires}
-use Rattle.crq_rule.specs.Ranks.{rank, head_of, IsOpen, at_head, at_row, cell_place}
+use Rattle.crq_rule.specs.Ranks.{rank, head_of, IsOpen, Cell, at_head, at_row, cell_place}
 use Rattle.crq_rule.specs.ListKinds.{StandsOn, MayWalk, MayCut, is_beyond, walks, cuts, event_word, row_place}
 use Rattle.crq_rule.specs.Rule.{Lawful, WalksOn, IsWalkable}
 use Rattle.crq_rows.specs.Passes.{caller, IsPassOf, Stepped, load_made, store_made, step_made}
@@ -31,12 +31,14 @@ use Rattle.crq_list.specs.declared.seek.Sought.{Sought}
 use Rattle.crq_list.specs.declared.seek.Sought.TheVariants.{More, There}
 use Rattle.crq_list.specs.Known.{Works, Stays, turns_after, last_known}
 use Rattle.crq_list.specs.Spots.{cell, Target, IsUpTo, IsAfter, IsReached, IsBeyondSpot, Next, IsPassed, IsListOf, far, left_of}
-use Rattle.crq_list.specs.Seeking.{HasRead, IsPassing, IsAt, IsSeeking, next_seek, key_part, part_of, seek_exchanges, seek_left, IsThere, SeekAnswers, SeekStepped}
+use Rattle.crq_list.specs.Seeking.{spot_of, HasRead, IsPassing, IsAt, IsSeeking, next_seek, key_part, part_of, seek_exchanges, seek_left, IsThere, SeekAnswers, SeekStepped}
 use Rattle.crq_list.specs.Swaps.{Saw, CutSwapped, where_won}
 use Rattle.crq_list.specs.declared.parts.Progress.TheVariants.{Done}
 use Rattle.crq_list.specs.declared.cut.CutEnd.TheVariants.{Clean}
 use Rattle.crq_list.specs.declared.cut.CutOp.{CutOp}
 use Rattle.crq_list.specs.Cutting.{CutStepped}
+use Rattle.crq_list.specs.Sweeps.{SweepsTo}
+use Rattle.crq_list.proofs.SweepLaws.{sweep_begins, sweep_stays, sweep_passes}
 use Rattle.crq_list.proofs.StepLaws.{rows_apart, relieved_is, unnamed_is}
 use Rattle.crq_rows.proofs.Knowing.{known_here, known_else}
 use Rattle.crq_list.proofs.SeekLaws.{rank_some, rank_limit, rank_at_is, walk_next, walk_here, dead_kept, dead_last, without_stands, still_ahead, was_owed, beyond_row, IsCell, link_apart, event_apart, part_is, part_less, key_same, read_more}
@@ -81,28 +83,40 @@ module _ (n : ℕ) (table : Table) (x : Control) (list : ListAt) (target : Targe
   spot_walks (Head h) is reached = subst IsHead (sym reached) is.is_head
   spot_walks (Row r) is reached = (reached.0, reached.1)
 
+  abbrev Sweeps : Caller → Cell → Type 0
+  Sweeps q cell = SweepsTo table.start.layout (at_head list.head) (drop n q.made) cell
+
+  -- the sweep stays where it is
+  swept_on : (seek : Seek) (q : Caller) (m : Made) → q.made ≡ p.made ++ m ∷ [] → IsSeeking n table x list target seek p → Sweeps q (cell (spot_of seek))
+  swept_on seek q m made is = sweep_stays n p.made q.made m made is.counted table.start.layout (at_head list.head) (cell (spot_of seek)) is.swept
+
+  -- or begins anew
+  swept_anew : (q : Caller) → Sweeps q (at_head list.head)
+  swept_anew q = sweep_begins table.start.layout (at_head list.head) (drop n q.made)
+
   -- the list goes on being walked
-  go_on : (seek seek' : Seek) (q : Caller) (m : Made) → q.made ≡ p.made ++ m ∷ [] → Stays p q → IsSeeking n table x list target seek p → IsAt n table x list.head target seek' q → IsSeeking n table x list target seek' q
-  go_on seek seek' q m made stays is at = record {
+  go_on : (seek seek' : Seek) (q : Caller) (m : Made) → q.made ≡ p.made ++ m ∷ [] → Stays p q → IsSeeking n table x list target seek p → Sweeps q (cell (spot_of seek')) → IsAt n table x list.head target seek' q → IsSeeking n table x list target seek' q
+  go_on seek seek' q m made stays is swept at = record {
     counted = let b = is.counted in omega (arith, ap length made, length-append p.made (m ∷ []));
     on = subst IsOn (sym stays.guard) is.on;
     list_is = record { control = ap (λ f. f.control) stays.found ∙ is.list_is.control; generation = is.list_is.generation; is_head = is.list_is.is_head; opened = is.list_is.opened };
     target_is = is.target_is;
+    swept = swept;
     at = at;
   }
 
   -- what is to be done after a spot was passed
   next_answers : (target' : Target) → target ≡ target' → (seek : Seek) (b : Before) (q : Caller) (m : Made) → q.made ≡ p.made ++ m ∷ [] → Stays p q → IsSeeking n table x list target seek p → q.cut ≡ None
-      → IsPassed n table.start.layout x list.head target b q → left_of b.spot q * 16 + 12 < seek_left seek p
+      → IsPassed n table.start.layout x list.head target b q → Sweeps q (cell b.spot) → left_of b.spot q * 16 + 12 < seek_left seek p
       → SeekAnswers n table x list target seek (next_seek b target').0 p q (next_seek b target').1
-  next_answers None is seek b q m made stays at none passed low = cond_both (eqb b.link.row 0) (Load b.spot, There b) (Passing b, More) (λ (z : Seek × Sought). SeekAnswers n table x list target seek z.0 p q z.1)
+  next_answers None is seek b q m made stays at none passed swept low = cond_both (eqb b.link.row 0) (Load b.spot, There b) (Passing b, More) (λ (z : Seek × Sought). SeekAnswers n table x list target seek z.0 p q z.1)
       (λ yes. record { none = none; passed = passed; after = inl (eqb-true b.link.row 0 yes) })
       (λ no. let ne = eqb-false b.link.row 0 no in
-      (go_on seek (Passing b) q m made stays at (none, record { passed = passed; some_row = omega arith; up_to = λ e on. subst (λ t. IsUpTo t e b.link.row) (sym is) tt }), inr (omega arith)))
-  next_answers (Some t) is seek b q m made stays at none passed low = cond_both (eqb b.link.row 0) (Load b.spot, There b) (Reading b 2, More) (λ (z : Seek × Sought). SeekAnswers n table x list target seek z.0 p q z.1)
+      (go_on seek (Passing b) q m made stays at swept (none, record { passed = passed; some_row = omega arith; up_to = λ e on. subst (λ t. IsUpTo t e b.link.row) (sym is) tt }), inr (omega arith)))
+  next_answers (Some t) is seek b q m made stays at none passed swept low = cond_both (eqb b.link.row 0) (Load b.spot, There b) (Reading b 2, More) (λ (z : Seek × Sought). SeekAnswers n table x list target seek z.0 p q z.1)
       (λ yes. record { none = none; passed = passed; after = inl (eqb-true b.link.row 0 yes) })
       (λ no. let ne = eqb-false b.link.row 0 no in
-      (go_on seek (Reading b 2) q m made stays at (none, passed, omega arith, omega arith, omega arith, (t, is, λ e on. (λ n. absurd (omega arith), λ n. absurd (omega arith)))), inr (omega arith)))
+      (go_on seek (Reading b 2) q m made stays at swept (none, passed, omega arith, omega arith, omega arith, (t, is, λ e on. (λ n. absurd (omega arith), λ n. absurd (omega arith)))), inr (omega arith)))
 
   -- Walks
 
@@ -123,13 +137,14 @@ module _ (n : ℕ) (table : Table) (x : Control) (list : ListAt) (target : Targe
   reached_walk (Row r) l e reached = (reached.0, walk_here r false l e p.position.rows reached.0 reached.1, reached.2, reached.3)
 
   -- a spot that was found present was passed
-  passed_walk : (spot : Spot) (l : Link) (e : Event) → n ≤ length p.made → IsListOf x list p → Lawful p → Lawful (seen spot l e) → IsReached x list.head target spot p → IsLink l → l.mark ≡ Val
+  passed_walk : (spot : Spot) (l : Link) (e : Event) → n ≤ length p.made → IsListOf x list p → Lawful p → Lawful (seen spot l e) → IsReached x list.head target spot p → IsLink l → l.mark ≡ Val → Sweeps p (cell spot)
       → WalksOn (cell spot) l e p → IsPassed n table.start.layout x list.head target (record { spot = spot; link = l }) (seen spot l e)
-  passed_walk spot l e begun is law law' reached bits present next = record {
+  passed_walk spot l e begun is law law' reached bits present swept next = record {
     bits = bits;
     present = present;
     known = known_here n p.made (load_made Walk (index table.start.layout (cell_place (cell spot))) (link_word l)) (index table.start.layout (cell_place (cell spot))) begun refl;
     reached = reached_walk spot l e reached;
+    swept = sweep_passes n p.made (seen spot l e).made (walk_made spot l) refl begun table.start.layout (at_head list.head) (cell spot) l (record { load = refl; bits = bits; present = present }) swept;
     next = λ some. record { event = e; on = walk_next (cell spot) false l e p.position.rows some; belongs = belongs spot reached next some; beyond = beyond spot law' reached next some };
     owed = record {
       ahead = λ d same at owed. let ahead = still_ahead p.found.control (cell spot) p.position.rows l e p.debts.cut d present (past spot reached d same at) owed in
@@ -169,7 +184,7 @@ module _ (n : ℕ) (table : Table) (x : Control) (list : ListAt) (target : Targe
     written = refl;
     owed = owed_walk spot l e;
     answers = next_answers target refl (Load spot) b (seen spot l e) (walk_made spot l) refl (walk_stays spot l e) at at.at.0
-        (passed_walk spot l e at.counted at.list_is law law' at.at.1 bits present next) (load_low spot (seen spot l e));
+        (passed_walk spot l e at.counted at.list_is law law' at.at.1 bits present at.swept next) (swept_on (Load spot) (seen spot l e) (walk_made spot l) refl at) (load_low spot (seen spot l e));
   }
 
   -- a dead row was found: back to the head
@@ -179,7 +194,7 @@ module _ (n : ℕ) (table : Table) (x : Control) (list : ListAt) (target : Targe
     own = refl;
     written = refl;
     owed = owed_walk (Row r) l e;
-    answers = (go_on (Load (Row r)) (Load (Head list.head)) (seen (Row r) l e) (walk_made (Row r) l) refl (walk_stays (Row r) l e) at (at.at.0, refl), inr (omega arith));
+    answers = (go_on (Load (Row r)) (Load (Head list.head)) (seen (Row r) l e) (walk_made (Row r) l) refl (walk_stays (Row r) l e) at (swept_anew (seen (Row r) l e)) (at.at.0, refl), inr (omega arith));
   }
 
   -- Steps that leave what was passed
@@ -196,13 +211,14 @@ module _ (n : ℕ) (table : Table) (x : Control) (list : ListAt) (target : Targe
     next_stays : (b : Before) → IsReached x list.head target b.spot p → Next x list.head b p → Next x list.head b q
     next_stays b reached next = record { event = next.event; on = keeps b.link.row next.event next.on; belongs = next.belongs; beyond = beyond_stays b.spot next.event b.link.row reached next.beyond }
 
-    passed_stays : (b : Before) → last_known (drop n q.made) (index table.start.layout (cell_place (cell b.spot))) ≡ last_known (drop n p.made) (index table.start.layout (cell_place (cell b.spot)))
+    passed_stays : (b : Before) → last_known (drop n q.made) (index table.start.layout (cell_place (cell b.spot))) ≡ last_known (drop n p.made) (index table.start.layout (cell_place (cell b.spot))) → (Sweeps p (at_row b.link.row) → Sweeps q (at_row b.link.row))
         → ((d : CutDebt) → q.debts.cut ≡ Some d → p.debts.cut ≡ Some d) → IsPassed n table.start.layout x list.head target b p → IsPassed n table.start.layout x list.head target b q
-    passed_stays b known owed passed = record {
+    passed_stays b known sweeps owed passed = record {
       bits = passed.bits;
       present = passed.present;
       known = known ∙ passed.known;
       reached = reached_stays b.spot passed.reached;
+      swept = sweeps passed.swept;
       next = λ some. next_stays b passed.reached (passed.next some);
       owed = record {
         ahead = λ d same at is. let ahead = passed.owed.ahead d same at (owed d is) in let next = passed.next ahead.0 in
@@ -210,10 +226,10 @@ module _ (n : ℕ) (table : Table) (x : Control) (list : ListAt) (target : Targe
       };
     }
 
-    passing_stays : (b : Before) → last_known (drop n q.made) (index table.start.layout (cell_place (cell b.spot))) ≡ last_known (drop n p.made) (index table.start.layout (cell_place (cell b.spot)))
+    passing_stays : (b : Before) → last_known (drop n q.made) (index table.start.layout (cell_place (cell b.spot))) ≡ last_known (drop n p.made) (index table.start.layout (cell_place (cell b.spot))) → (Sweeps p (at_row b.link.row) → Sweeps q (at_row b.link.row))
         → ((d : CutDebt) → q.debts.cut ≡ Some d → p.debts.cut ≡ Some d) → IsPassing n table x list.head target b p → IsPassing n table x list.head target b q
-    passing_stays b known owed at = let next = at.passed.next at.some_row in record {
-      passed = passed_stays b known owed at.passed;
+    passing_stays b known sweeps owed at = let next = at.passed.next at.some_row in record {
+      passed = passed_stays b known sweeps owed at.passed;
       some_row = at.some_row;
       up_to = λ f on. subst (λ z. IsUpTo target z b.link.row) (one_event q law' b.link.row next.event f (keeps b.link.row next.event next.on) on) (at.up_to next.event next.on);
     }
@@ -251,7 +267,8 @@ module _ (n : ℕ) (table : Table) (x : Control) (list : ListAt) (target : Targe
         own = refl;
         written = refl;
         owed = owed_walk spot l e;
-        answers = next_answers target refl (Passing b) a q (walk_made spot l) refl (walk_stays spot l e) at at.at.0 (passed_walk spot l e at.counted at.list_is law law' reached bits present on) (omega arith);
+        answers = next_answers target refl (Passing b) a q (walk_made spot l) refl (walk_stays spot l e) at at.at.0 (passed_walk spot l e at.counted at.list_is law law' reached bits present at.at.1.passed.swept on)
+            (sweep_stays n p.made q.made (walk_made spot l) refl at.counted table.start.layout (at_head list.head) (at_row b.link.row) at.at.1.passed.swept) (omega arith);
       }
 
   -- the link of a dead row doesn't name the row itself
@@ -274,8 +291,8 @@ module _ (n : ℕ) (table : Table) (x : Control) (list : ListAt) (target : Targe
         written = refl;
         owed = owed_walk spot l e;
         answers = (
-          go_on (Passing b) (Cutting b l) q (walk_made spot l) refl (walk_stays spot l e) at
-              (at.at.0, passing_stays q law' keeps b known (λ d. was_owed p.found.control (at_row b.link.row) p.position.rows l e p.debts.cut d) passing, bits, dead, link_onward b.link.row l e next.event law' passing.some_row dead next.on on, dead_last b.link.row l e p.position.rows next.event dead next.on),
+          go_on (Passing b) (Cutting b l) q (walk_made spot l) refl (walk_stays spot l e) at (swept_on (Passing b) q (walk_made spot l) refl at)
+              (at.at.0, passing_stays q law' keeps b known (sweep_stays n p.made q.made (walk_made spot l) refl at.counted table.start.layout (at_head list.head) (at_row b.link.row)) (λ d. was_owed p.found.control (at_row b.link.row) p.position.rows l e p.debts.cut d) passing, bits, dead, link_onward b.link.row l e next.event law' passing.some_row dead next.on on, dead_last b.link.row l e p.position.rows next.event dead next.on),
           inr (omega arith),
         );
       }
@@ -300,13 +317,15 @@ module _ (n : ℕ) (table : Table) (x : Control) (list : ListAt) (target : Targe
       timed = λ no. absurd (cc);
     }
 
-    read_goes : (seek' : Seek) → IsAt n table x list.head target seek' (read_of b.link.row place word) → IsSeeking n table x list target seek' (read_of b.link.row place word)
-    read_goes seek' there = go_on (Reading b place) seek' (read_of b.link.row place word) (read_made b.link.row place word) refl (record { number = refl; start = refl; deal = refl; found = refl; guard = refl }) at there
+    read_goes : (seek' : Seek) → spot_of seek' ≡ b.spot → IsAt n table x list.head target seek' (read_of b.link.row place word) → IsSeeking n table x list target seek' (read_of b.link.row place word)
+    read_goes seek' spot there = go_on (Reading b place) seek' (read_of b.link.row place word) (read_made b.link.row place word) refl (record { number = refl; start = refl; deal = refl; found = refl; guard = refl }) at
+        (subst (λ s. Sweeps (read_of b.link.row place word) (cell s)) (sym spot) (swept_on (Reading b place) (read_of b.link.row place word) (read_made b.link.row place word) refl at)) there
 
     read_passed : IsPassed n table.start.layout x list.head target b (read_of b.link.row place word)
     read_passed = passed_stays (read_of b.link.row place word) law' (λ s f on. on) b
         (known_else n p.made (read_made b.link.row place word) (index table.start.layout (cell_place (cell b.spot))) at.counted
-        (event_apart table.start.layout b.link.row place (cell b.spot) at.at.2 at.at.3 (spot_fits b.spot at.list_is at.at.1.reached))) (λ d o. o) at.at.1
+        (event_apart table.start.layout b.link.row place (cell b.spot) at.at.2 at.at.3 (spot_fits b.spot at.list_is at.at.1.reached)))
+        (sweep_stays n p.made (read_of b.link.row place word).made (read_made b.link.row place word) refl at.counted table.start.layout (at_head list.head) (at_row b.link.row)) (λ d o. o) at.at.1
 
     far_same : (spot : Spot) → far spot (read_of b.link.row place word) ≡ far spot p
     far_same (Head h) = refl
@@ -325,12 +344,12 @@ module _ (n : ℕ) (table : Table) (x : Control) (list : ListAt) (target : Targe
     -- the word is that of the target, and there is one more to read
     pub read_next : part_of word place ≡ key_part t.0 place → place < 4 → Told n table x list target (Reading b place) (Reading b (place + 1)) p (read_of b.link.row place word) More
     read_next same low = let still = far_same b.spot in read_told (Reading b (place + 1)) More
-        (read_goes (Reading b (place + 1)) (at.at.0, read_passed, at.at.2, (let two = at.at.3 in omega arith), omega arith, (t, is, λ e on. read_more e t.0 place at.at.3 low (has_read e on) (sym (found_key e on) ∙ same))), inr (omega arith))
+        (read_goes (Reading b (place + 1)) refl (at.at.0, read_passed, at.at.2, (let two = at.at.3 in omega arith), omega arith, (t, is, λ e on. read_more e t.0 place at.at.3 low (has_read e on) (sym (found_key e on) ∙ same))), inr (omega arith))
 
     -- the next row doesn't come after the target
     pub read_up : (part_of word place < key_part t.0 place) ⊎ ((part_of word place ≡ key_part t.0 place) × (4 ≤ place) × (b.link.row ≤ t.1)) → Told n table x list target (Reading b place) (Passing b) p (read_of b.link.row place word) More
     read_up h = let high = at.at.4 in let still = far_same b.spot in read_told (Passing b) More
-        (read_goes (Passing b) (at.at.0, record { passed = read_passed; some_row = at.at.2; up_to = λ e on. subst (λ z. IsUpTo z e b.link.row) (sym is) (low e on h) }), inr (omega arith))
+        (read_goes (Passing b) refl (at.at.0, record { passed = read_passed; some_row = at.at.2; up_to = λ e on. subst (λ z. IsUpTo z e b.link.row) (sym is) (low e on h) }), inr (omega arith))
       where
         low : (e : Event) → StandsOn p.position.rows b.link.row e → (part_of word place < key_part t.0 place) ⊎ ((part_of word place ≡ key_part t.0 place) × (4 ≤ place) × (b.link.row ≤ t.1)) → rank e b.link.row ≤ rank t.0 t.1
         low e on h = let fits = stand_fits p law b.link.row e on in let key = found_key e on in ⊎_elim
@@ -368,7 +387,7 @@ module _ (n : ℕ) (table : Table) (x : Control) (list : ListAt) (target : Targe
     written = refl;
     owed = ⊎_elim inr inl (unnamed_is b.link.row p.debts.cut);
     answers = (
-      go_on (Cutting b last) (Tagging b.spot b.link.row) (makes (cut_made b last found) (cuts b.link.row p)) (cut_made b last found) refl stays at
+      go_on (Cutting b last) (Tagging b.spot b.link.row) (makes (cut_made b last found) (cuts b.link.row p)) (cut_made b last found) refl stays at (swept_on (Cutting b last) (makes (cut_made b last found) (cuts b.link.row p)) (cut_made b last found) refl at)
           (reached_cut b.spot next.event b.link.row (cut_made b last found) next.on next.beyond passed.reached, (record { row = b.link.row; tags = [] }, refl, refl)),
       inl refl,
     );
@@ -380,7 +399,7 @@ module _ (n : ℕ) (table : Table) (x : Control) (list : ListAt) (target : Targe
     own = refl;
     written = refl;
     owed = inr refl;
-    answers = (go_on (Cutting b last) (Load (Head list.head)) (makes (cut_made b last found) p) (cut_made b last found) refl stays at (at.at.0, refl), inl refl);
+    answers = (go_on (Cutting b last) (Load (Head list.head)) (makes (cut_made b last found) p) (cut_made b last found) refl stays at (swept_anew (makes (cut_made b last found) p)) (at.at.0, refl), inl refl);
   }
 
   -- Tagging and retiring
@@ -397,7 +416,7 @@ module _ (n : ℕ) (table : Table) (x : Control) (list : ListAt) (target : Targe
         own = refl;
         written = refl;
         owed = inr refl;
-        answers = (go_on (Tagging spot row) (Retiring spot row e) q m refl stays at (reached_same spot q refl at.at.0, (record y.0 { tags = e ∷ y.0.tags }, ap (tagged e) y.1, y.2, inl refl)), inr (omega arith));
+        answers = (go_on (Tagging spot row) (Retiring spot row e) q m refl stays at (swept_on (Tagging spot row) q m refl at) (reached_same spot q refl at.at.0, (record y.0 { tags = e ∷ y.0.tags }, ap (tagged e) y.1, y.2, inl refl)), inr (omega arith));
       }
 
   pub retire_told : (spot : Spot) (row tag : ℕ) → IsSeeking n table x list target (Retiring spot row tag) p
@@ -408,7 +427,7 @@ module _ (n : ℕ) (table : Table) (x : Control) (list : ListAt) (target : Targe
         own = refl;
         written = refl;
         owed = inr refl;
-        answers = (go_on (Retiring spot row tag) (Load spot) q m refl stays at (refl, reached_same spot q refl at.at.0), inr (low spot));
+        answers = (go_on (Retiring spot row tag) (Load spot) q m refl stays at (swept_on (Retiring spot row tag) q m refl at) (refl, reached_same spot q refl at.at.0), inr (low spot));
       }
     where
       low : (spot : Spot) → seek_left (Load spot) (makes (store_made Retire (index table.start.layout (stamp row)) (tag + 1)) (retires p)) < seek_left (Retiring spot row tag) p
@@ -483,6 +502,16 @@ module _ (n : ℕ) (table : Table) (x : Control) (list : ListAt) (target : Targe
   cut_missed b last won is cut at = let p = caller table old in let m = cut_made n table x list target p b last cut.swapped.found in
       exchanged b last won (Load (Head list.head)) (makes m p) More cut (cut.swapped.part ∙ ap (λ w. makes m (where_won w (cuts b.link.row) p)) is) (cut_lost n table x list target p b last cut.swapped.found at)
 
+  pub tags_row : (spot : Spot) (row e : ℕ) → Stepped table old new (load_made EpochLoad (index table.start.layout epoch) e) (loads_epoch e)
+      → IsSeeking n table x list target (Tagging spot row) (caller table old) → SeekStepped n table x list target (Tagging spot row) (Retiring spot row e) old new More
+  tags_row spot row e s at = let p = caller table old in
+      stepped (Tagging spot row) (Retiring spot row e) (makes (load_made EpochLoad (index table.start.layout epoch) e) (loads_epoch e p)) More s.is s.same s.part refl (tag_told n table x list target p spot row e at)
+
+  pub retires_row : (spot : Spot) (row tag : ℕ) → Stepped table old new (store_made Retire (index table.start.layout (stamp row)) (tag + 1)) retires
+      → IsSeeking n table x list target (Retiring spot row tag) (caller table old) → SeekStepped n table x list target (Retiring spot row tag) (Load spot) old new More
+  retires_row spot row tag s at = let p = caller table old in
+      stepped (Retiring spot row tag) (Load spot) (makes (store_made Retire (index table.start.layout (stamp row)) (tag + 1)) (retires p)) More s.is s.same s.part refl (retire_told n table x list target p spot row tag at)
+
   module _ (b : Before) (place word : ℕ) (t : Event × ℕ) (is : target ≡ Some t) (of : IsPassOf table old)
       (read : Stepped table old new (load_made Read (index table.start.layout (row_place b.link.row place)) word) stays)
       (tells : (e : Event) → StandsOn (caller table old).position.rows b.link.row e → word ≡ event_word e place) (at : IsSeeking n table x list target (Reading b place) (caller table old)) where
@@ -524,5 +553,5 @@ cut_ends n table x op op' b old new at = record {
   debts = at.debts;
   own = at.own;
   owed = at.owed;
-  answers = (at.answers.none, there_clean n table x op.list.head op.upto b (caller table new) at.is.lawful at.answers);
+  answers = (at.answers.none, there_clean n table x op.list.head op.upto b (caller table new) at.is.lawful at.answers, record { row = b.link.row; sweeps = at.answers.passed.swept; ends = at.answers.after });
 }

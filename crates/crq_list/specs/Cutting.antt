@@ -1,10 +1,14 @@
 -- Cutting dead rows out of a list: what is known between two steps, and what each step tells.
-use Rattle.std.specs.Prelude.{◌≡◌, ◌⊎◌, ℕ, ◌<◌, Bool, true, Some, None}
+use Rattle.std.specs.Prelude.{◌≡◌, ◌⊎◌, ℕ, ◌<◌, Bool, true, drop, Some, None}
+use Rattle.crq_base.specs.declared.event.Event.{Event}
 use Rattle.crq_base.specs.declared.words.Control.{Control}
 use Rattle.crq_rule.specs.declared.pass.Pass.{Pass}
 use Rattle.crq_rule.specs.declared.pass.Table.{Table}
 use Rattle.crq_rule.specs.declared.debts.CutDebt.{CutDebt}
+use Rattle.crq_rule.specs.declared.layout.Layout.{Layout}
 use Rattle.crq_rule.specs.declared.view.Caller.{Caller}
+use Rattle.crq_rule.specs.Ranks.{at_head, at_row}
+use Rattle.crq_rule.specs.ListKinds.{StandsOn}
 use Rattle.crq_rows.specs.Passes.{caller, IsPassOf}
 use Rattle.crq_list.specs.declared.parts.Progress.{Progress}
 use Rattle.crq_list.specs.declared.parts.Progress.TheVariants.{More, Done}
@@ -15,6 +19,8 @@ use Rattle.crq_list.specs.declared.seek.Sought.{Sought}
 use Rattle.crq_list.specs.declared.seek.Sought.TheVariants.{More as Further, There, Frozen as FoundFrozen}
 use Rattle.crq_list.specs.Known.{Works, turns_after}
 use Rattle.crq_list.specs.Stretches.{Stretch}
+use Rattle.crq_list.specs.Sweeps.{SweepsTo}
+use Rattle.crq_list.specs.Spots.{Target, IsAfter}
 use Rattle.crq_list.specs.Seeking.{IsSeeking, seek_exchanges, seek_left}
 
 -- a caller that cuts the dead rows of a list of the table that it found
@@ -27,10 +33,17 @@ progress_of Further = More
 progress_of (There b) = Done Clean
 progress_of FoundFrozen = Done Frozen
 
--- a dead row that was the target isn't owed any more
+-- Since its first n steps the caller swept the list q: from its head on to its end, or to a row that comes after the target. Each row on the way was present when its link was loaded: so each dead one that was met was cut out
+-- of the way before
+pub record HasSwept (n : ℕ) (l : Layout) (q : ℕ) (target : Target) (p : Caller) : Type 0 where
+  pub row : ℕ
+  pub sweeps : SweepsTo l (at_head q) (drop n p.made) (at_row row)
+  pub ends : (row ≡ 0) ⊎ ((e : Event) × StandsOn p.position.rows row e × IsAfter target e row)
+
+-- The list was swept up to the row asked for, and without one to its end. A dead row that was the target isn't owed any more
 abbrev pub CutAnswers : ℕ → Table → Control → CutOp → CutOp → Caller → Caller → Progress CutEnd → Type 0
 CutAnswers n table x op op' p q More = IsCutting n table x op' q × (op' ≡ record op { seek = op'.seek }) × ((seek_exchanges op.seek ≡ true) ⊎ (seek_left op'.seek q < seek_left op.seek p))
-CutAnswers n table x op op' p q (Done Clean) = (q.cut ≡ None) × ((d : CutDebt) → op.upto ≡ Some (d.event, d.row) → d.head ≡ op.list.head → q.debts.cut ≡ Some d → ⊥)
+CutAnswers n table x op op' p q (Done Clean) = (q.cut ≡ None) × ((d : CutDebt) → op.upto ≡ Some (d.event, d.row) → d.head ≡ op.list.head → q.debts.cut ≡ Some d → ⊥) × HasSwept n table.start.layout op.list.head op.upto q
 CutAnswers n table x op op' p q (Done Frozen) = ⊥
 
 -- one step of it was made

@@ -1,4 +1,5 @@
 pub mod Known
+pub mod Sweeps
 pub mod Spots
 pub mod Swaps
 pub mod Stretches

@@ -1,5 +1,5 @@
 -- Walking a list to a target, with dead rows cut on the way: what is known between two steps, and what each step tells.
-use Rattle.std.specs.Prelude.{◌≡◌, ◌≢◌, ◌⊎◌, ℕ, ◌+◌, ◌-◌, ◌*◌, ◌^◌, ◌<◌, ◌≤◌, ◌==◌, ◌/◌, cond, Bool, true, false, length, Some, None}
+use Rattle.std.specs.Prelude.{◌≡◌, ◌≢◌, ◌⊎◌, ℕ, ◌+◌, ◌-◌, ◌*◌, ◌^◌, ◌<◌, ◌≤◌, ◌==◌, ◌/◌, cond, Bool, true, false, length, drop, Some, None}
 use Rattle.crq_base.specs.declared.event.Event.{Event}
 use Rattle.crq_base.specs.declared.words.Mark.TheVariants.{Del}
 use Rattle.crq_base.specs.declared.words.Control.{Control}
@@ -11,9 +11,11 @@ use Rattle.crq_rule.specs.declared.view.Stand.{Stand}
 use Rattle.crq_rule.specs.declared.view.Caller.{Caller}
 use Rattle.crq_rule.specs.Lists.{In}
 use Rattle.crq_rule.specs.Parts.{IsOn}
+use Rattle.crq_rule.specs.Ranks.{at_head}
 use Rattle.crq_rule.specs.ListKinds.{StandsOn}
 use Rattle.crq_rows.specs.Passes.{caller, IsPassOf}
 use Rattle.crq_list.specs.declared.parts.ListAt.{ListAt}
+use Rattle.crq_list.specs.declared.parts.Spot.{Spot}
 use Rattle.crq_list.specs.declared.parts.Spot.TheVariants.{Head, Row}
 use Rattle.crq_list.specs.declared.parts.Before.{Before}
 use Rattle.crq_list.specs.declared.seek.Seek.{Seek}
@@ -22,7 +24,8 @@ use Rattle.crq_list.specs.declared.seek.Sought.{Sought}
 use Rattle.crq_list.specs.declared.seek.Sought.TheVariants.{More, There, Frozen}
 use Rattle.crq_list.specs.Known.{Works, turns_after}
 use Rattle.crq_list.specs.Stretches.{Stretch}
-use Rattle.crq_list.specs.Spots.{Target, IsUpTo, IsAfter, IsReached, IsPassed, IsListOf, IsTarget, left_of}
+use Rattle.crq_list.specs.Sweeps.{SweepsTo}
+use Rattle.crq_list.specs.Spots.{cell, Target, IsUpTo, IsAfter, IsReached, IsPassed, IsListOf, IsTarget, left_of}
 
 -- the words of the next row's event that were read are those of the target: the time and source, before the place that is read next
 abbrev pub HasRead : ℕ → Event → Event → Type 0
@@ -43,12 +46,22 @@ IsAt n table x q target (Cutting b last) p = (p.cut ≡ None) × IsPassing n tab
 IsAt n table x q target (Tagging spot row) p = IsReached x q target spot p × ((y : CutRow) × (p.cut ≡ Some y) × (y.row ≡ row))
 IsAt n table x q target (Retiring spot row tag) p = IsReached x q target spot p × ((y : CutRow) × (p.cut ≡ Some y) × (y.row ≡ row) × In tag y.tags)
 
--- a caller that walks the list of the target, whose control word it found
+-- the spot at which the walk is
+abbrev pub spot_of : Seek → Spot
+spot_of (Load spot) = spot
+spot_of (Reading b place) = b.spot
+spot_of (Passing b) = b.spot
+spot_of (Cutting b last) = b.spot
+spot_of (Tagging spot row) = spot
+spot_of (Retiring spot row tag) = spot
+
+-- a caller that walks the list of the target, whose control word it found. Its steps since the first n are a sweep to the spot at which it is
 pub record IsSeeking (n : ℕ) (table : Table) (x : Control) (list : ListAt) (target : Target) (seek : Seek) (p : Caller) : Type 0 where
   pub counted : n ≤ length p.made
   pub on : IsOn p.guard
   pub list_is : IsListOf x list p
   pub target_is : IsTarget x list target
+  pub swept : SweepsTo table.start.layout (at_head list.head) (drop n p.made) (cell (spot_of seek))
   pub at : IsAt n table x list.head target seek p
 
 -- after a spot was passed: what is to be done next, and what is answered

@@ -78,13 +78,17 @@ taking_left (Marking r l e) p = 0
 abbrev pub FoundAnother : Caller → Caller → Type 0
 FoundAnother p q = (m : Made) × (q.made ≡ p.made ++ m ∷ []) × (is_exchange m.kind ≡ true) × (m.found ≢ m.first)
 
+-- the walk stopped at a row that was found present, and its event is e
+abbrev pub StopsAt : ℕ → Table → Event → Caller → Type 0
+StopsAt n table e p = (r : ℕ) × (l : Link) × IsPresent n table r l p × StandsOn p.position.rows r e
+
 abbrev pub TakeAnswers : ℕ → Table → Control → TakeOp → TakeOp → Pass → Pass → Progress MarkEnd → Type 0
 TakeAnswers n table x op op' old new More = let p = caller table old in let q = caller table new in
     IsTaking n table x op' q × (op' ≡ record op { state = op'.state }) × (q.own ≡ p.own) × (new.debts ≡ old.debts) × ((taking_exchanges op.state ≡ true) ⊎ (taking_left op'.state q < taking_left op.state p))
 TakeAnswers n table x op op' old new (Done (Marked r e)) = let p = caller table old in let q = caller table new in
     (q.own ≡ p.own ++ Take old.number e ∷ []) × (e.time < op.limit) × (new.debts ≡ record old.debts { cut = Some (cut_debt x r e) }) × (q.cut ≡ None)
 TakeAnswers n table x op op' old new (Done (Beyond e)) = let p = caller table old in let q = caller table new in
-    (q.own ≡ p.own) × (new.debts ≡ old.debts) × MayMiss x op.limit q × (op.limit ≤ e.time) × (q.cut ≡ None) × (q.debts.cut ≡ None)
+    (q.own ≡ p.own) × (new.debts ≡ old.debts) × MayMiss x op.limit q × (op.limit ≤ e.time) × (q.cut ≡ None) × (q.debts.cut ≡ None) × StopsAt n table e q
 TakeAnswers n table x op op' old new (Done Nothing) = let p = caller table old in let q = caller table new in
     (q.own ≡ p.own) × (new.debts ≡ old.debts) × ((limit : ℕ) → MayMiss x limit q) × (q.cut ≡ None) × (q.debts.cut ≡ None)
 TakeAnswers n table x op op' old new (Done Lost) = let p = caller table old in let q = caller table new in

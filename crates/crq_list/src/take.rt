@@ -5,6 +5,7 @@ ghost use Rattle.crq_base.specs.declared.words.Control.{Control};
 ghost use Rattle.crq_base.specs.declared.words.Link.{Link};
 ghost use Rattle.crq_rows.specs.Passes.{caller, IsPassOf};
 ghost use Rattle.crq_rule.specs.ListKinds.{event_word};
+ghost use Rattle.crq_rule.specs.Ranks.{first_head_of};
 ghost use Rattle.crq_rule.specs.Parts.{IsEvent};
 ghost use Rattle.crq_list.specs.declared.parts.Progress.TheVariants.{More, Done};
 ghost use Rattle.crq_list.specs.declared.take.MarkEnd.TheVariants.{Nothing};
@@ -15,13 +16,14 @@ use crate::parts::{Place, Progress, Spot};
 use crate::steps::{mark_step, walk_step};
 use crq_base::{Control, Event, Link, Mark};
 use crq_rows::{Pass, Table, read_step};
+use crq_rule::BANK;
 
 /// How a take from a list ends.
 #[derive(Clone, Copy, Debug, PartialEq, Eq)]
 pub enum MarkEnd {
     /// This row is marked dead: its event was taken.
     Marked(u32, Event),
-    /// The first present event isn't below the limit. It is this one.
+    /// The first present event isn't below the limit. It is this one, of the row at which the walk stopped.
     Beyond(Event),
     /// The list has no present event.
     Nothing,
@@ -57,9 +59,6 @@ pub struct TakeOp {
     /// How far it is.
     pub state: Taking,
 }
-
-/// How many heads a bank has.
-const BANK: u32 = 32768;
 
 /// An event of which no word was read.
 const UNREAD: Event = Event {
@@ -111,7 +110,7 @@ impl TakeOp {
     /// A take that has made no step, of the table that has this steady control word. Over one list, `place` names that
     /// list, whatever its number.
     pub fn new(found: Control, place: Place, limit: u64) -> TakeOp
-        ensures { result ≡ record { found = found; head = found.generation % 2 * 32768; limit = limit; state = Load } }
+        ensures { result ≡ record { found = found; head = first_head_of found.generation; limit = limit; state = Load } }
     {
         let _one_list = place;
         TakeOp {
