@@ -19,6 +19,7 @@ use Rattle.crq_list.specs.declared.seek.Sought.{Sought}
 use Rattle.crq_list.specs.declared.seek.Sought.TheVariants.{More as Further, There, Frozen as FoundFrozen}
 use Rattle.crq_list.specs.Known.{Works, turns_after}
 use Rattle.crq_list.specs.Stretches.{Stretch}
+use Rattle.crq_list.specs.Operations.{Operation}
 use Rattle.crq_list.specs.Sweeps.{SweepsTo}
 use Rattle.crq_list.specs.Spots.{Target, IsAfter}
 use Rattle.crq_list.specs.Seeking.{IsSeeking, seek_exchanges, seek_left}
@@ -64,3 +65,7 @@ cut_exchanges op = seek_exchanges op.seek
 -- one step of it was made, and then maybe others that are no exchanges
 abbrev pub CutStretch : ℕ → Table → Control → CutOp → CutOp → Pass → Pass → Progress CutEnd → Type 0
 CutStretch n table x = Stretch CutOp (Progress CutEnd) (CutStepped n table x) cut_exchanges More
+
+-- the cut, as an operation
+abbrev pub the_cut : Operation CutOp (Progress CutEnd)
+the_cut = record { at = IsCutting; stepped = CutStepped; exchanges = cut_exchanges; more = More }

@@ -23,6 +23,7 @@ use Rattle.crq_list.specs.declared.seek.Sought.{Sought}
 use Rattle.crq_list.specs.declared.seek.Sought.TheVariants.{More as Further, There, Frozen as FoundFrozen}
 use Rattle.crq_list.specs.Known.{Works, turns_after}
 use Rattle.crq_list.specs.Stretches.{Stretch}
+use Rattle.crq_list.specs.Operations.{Operation}
 use Rattle.crq_list.specs.Spots.{Target, IsListOf}
 use Rattle.crq_list.specs.Seeking.{IsSeeking, IsThere, seek_exchanges, seek_left}
 
@@ -92,3 +93,10 @@ pub record InsertStepped (n : ℕ) (table : Table) (x : Control) (op op' : Inser
 -- one step of it was made, and then maybe others that are no exchanges
 abbrev pub InsertStretch : ℕ → Table → Control → InsertOp → InsertOp → Pass → Pass → Progress InsertEnd → Type 0
 InsertStretch n table x = Stretch InsertOp (Progress InsertEnd) (InsertStepped n table x) insert_exchanges More
+
+-- the insertion, as an operation; and at this state
+abbrev pub the_insertion : Operation InsertOp (Progress InsertEnd)
+the_insertion = record { at = IsInserting; stepped = InsertStepped; exchanges = insert_exchanges; more = More }
+
+abbrev pub insertion_at : InsertOp → Inserting → InsertOp
+insertion_at op state = record op { state = state }

@@ -3,6 +3,7 @@ pub mod Sweeps
 pub mod Spots
 pub mod Swaps
 pub mod Stretches
+pub mod Operations
 pub mod Seeking
 pub mod Inserting
 pub mod Cutting

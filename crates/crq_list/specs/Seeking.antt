@@ -24,6 +24,7 @@ use Rattle.crq_list.specs.declared.seek.Sought.{Sought}
 use Rattle.crq_list.specs.declared.seek.Sought.TheVariants.{More, There, Frozen}
 use Rattle.crq_list.specs.Known.{Works, turns_after}
 use Rattle.crq_list.specs.Stretches.{Stretch}
+use Rattle.crq_list.specs.Operations.{Operation}
 use Rattle.crq_list.specs.Sweeps.{SweepsTo}
 use Rattle.crq_list.specs.Spots.{cell, Target, IsUpTo, IsAfter, IsReached, IsPassed, IsListOf, IsTarget, left_of}
 
@@ -118,3 +119,12 @@ pub record SeekStepped (n : ℕ) (table : Table) (x : Control) (list : ListAt) (
 -- one step of it was made, and then maybe others that are no exchanges
 abbrev pub SeekStretch : ℕ → Table → Control → ListAt → Target → Seek → Seek → Pass → Pass → Sought → Type 0
 SeekStretch n table x list target = Stretch Seek Sought (SeekStepped n table x list target) seek_exchanges More
+
+-- the walk, as an operation
+abbrev pub the_walk : ListAt → Target → Operation Seek Sought
+the_walk list target = record {
+  at = λ n table x. IsSeeking n table x list target;
+  stepped = λ n table x. SeekStepped n table x list target;
+  exchanges = seek_exchanges;
+  more = More;
+}

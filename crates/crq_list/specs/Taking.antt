@@ -26,6 +26,7 @@ use Rattle.crq_list.specs.declared.take.Taking.{Taking}
 use Rattle.crq_list.specs.declared.take.Taking.TheVariants.{Load, Walking, Reading, Marking}
 use Rattle.crq_list.specs.Known.{is_exchange, Works, turns_after, last_known}
 use Rattle.crq_list.specs.Stretches.{Stretch}
+use Rattle.crq_list.specs.Operations.{Operation}
 use Rattle.crq_list.specs.Spots.{rank_at}
 
 -- the caller's walk stands at the row
@@ -110,3 +111,10 @@ take_exchanges op = taking_exchanges op.state
 -- one step of it was made, and then maybe others that are no exchanges
 abbrev pub TakeStretch : ℕ → Table → Control → TakeOp → TakeOp → Pass → Pass → Progress MarkEnd → Type 0
 TakeStretch n table x = Stretch TakeOp (Progress MarkEnd) (TakeStepped n table x) take_exchanges More
+
+-- the take, as an operation; and at this state
+abbrev pub the_take : Operation TakeOp (Progress MarkEnd)
+the_take = record { at = IsTaking; stepped = TakeStepped; exchanges = take_exchanges; more = More }
+
+abbrev pub take_at : TakeOp → Taking → TakeOp
+take_at op state = record op { state = state }

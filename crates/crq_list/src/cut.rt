@@ -1,11 +1,11 @@
 //! Cutting dead rows out of a list.
 ghost use Rattle.std.specs.Prelude.{◌≡◌, ℕ};
-ghost use Rattle.crq_base.specs.declared.words.Control.{Control};
-ghost use Rattle.crq_rows.specs.Passes.{caller, IsPassOf};
+ghost use Rattle.crq_rows.specs.Passes.{IsPassOf};
 ghost use Rattle.crq_list.specs.declared.seek.Seek.TheVariants.{Load};
 ghost use Rattle.crq_list.specs.declared.parts.Spot.TheVariants.{Head};
 ghost use Rattle.crq_list.specs.Seeking.{seek_exchanges};
-ghost use Rattle.crq_list.specs.Cutting.{IsCutting, progress_of, CutStepped, CutStretch};
+ghost use Rattle.crq_list.specs.Operations.{IsUnderWay, MakesStep, MakesSteps};
+ghost use Rattle.crq_list.specs.Cutting.{the_cut, progress_of};
 
 use crate::parts::{ListAt, Progress, Spot};
 use crate::seek::{Seek, Sought};
@@ -71,8 +71,8 @@ impl CutOp {
     #[inline(always)]
     pub fn step(&mut self, table: &Table, pass: &mut Pass) -> Progress<CutEnd>
         requires of { IsPassOf table.now pass.old }
-        requires op { (n : ℕ) × (x : Control) × IsCutting n table.now x self.old (caller table.now pass.old) }
-        ensures { (n : ℕ) (x : Control) → IsCutting n table.now x self.old (caller table.now pass.old) → CutStepped n table.now x self.old self.new pass.old pass.new result }
+        requires op { IsUnderWay the_cut table.now (self.old, pass.old) }
+        ensures { MakesStep the_cut table.now (self.old, pass.old) (self.new, pass.new) result }
     {
         progress_of(self.seek.step(table, pass, &self.list, &self.upto))
     }
@@ -81,8 +81,8 @@ impl CutOp {
     #[inline(always)]
     pub fn run(&mut self, table: &Table, pass: &mut Pass) -> Progress<CutEnd>
         requires of { IsPassOf table.now pass.old }
-        requires op { (n : ℕ) × (x : Control) × IsCutting n table.now x self.old (caller table.now pass.old) }
-        ensures { (n : ℕ) (x : Control) → IsCutting n table.now x self.old (caller table.now pass.old) → CutStretch n table.now x self.old self.new pass.old pass.new result }
+        requires op { IsUnderWay the_cut table.now (self.old, pass.old) }
+        ensures { MakesSteps the_cut table.now (self.old, pass.old) (self.new, pass.new) result }
     {
         if self.exchanges() {
             return self.step(table, pass);

@@ -1,10 +1,10 @@
 //! Walking a list to a target, with dead rows cut on the way.
 ghost use Rattle.std.specs.Prelude.{◌≡◌, ◌<◌, ℕ};
-ghost use Rattle.crq_base.specs.declared.words.Control.{Control};
-ghost use Rattle.crq_rows.specs.Passes.{caller, IsPassOf};
+ghost use Rattle.crq_rows.specs.Passes.{IsPassOf};
 ghost use Rattle.crq_list.specs.declared.parts.Before.{Before};
 ghost use Rattle.crq_list.specs.declared.seek.Seek.TheVariants.{Load, Reading, Passing, Cutting, Tagging, Retiring};
-ghost use Rattle.crq_list.specs.Seeking.{IsSeeking, SeekStepped, seek_exchanges, next_seek, key_part, part_of};
+ghost use Rattle.crq_list.specs.Operations.{IsUnderWay, MakesStep};
+ghost use Rattle.crq_list.specs.Seeking.{the_walk, seek_exchanges, next_seek, key_part, part_of};
 
 use crate::parts::{Before, ListAt, Spot};
 use crate::steps::{cut_step, walk_step};
@@ -68,8 +68,8 @@ pub(crate) fn load(
     spot: Spot,
 ) -> (Seek, Sought)
     requires of { IsPassOf table.now pass.old }
-    requires seek { (n : ℕ) × (x : Control) × IsSeeking n table.now x list.now target.now (Load spot) (caller table.now pass.old) }
-    ensures { (n : ℕ) (x : Control) → IsSeeking n table.now x list.now target.now (Load spot) (caller table.now pass.old) → SeekStepped n table.now x list.now target.now (Load spot) result.0 pass.old pass.new result.1 }
+    requires seek { IsUnderWay (the_walk list.now target.now) table.now (Load spot, pass.old) }
+    ensures { MakesStep (the_walk list.now target.now) table.now (Load spot, pass.old) (result.0, pass.new) result.1 }
 {
     let link = walk_step(table, pass, spot, false);
     match link.mark {
@@ -110,8 +110,8 @@ pub(crate) fn read(
     place: u32,
 ) -> (Seek, Sought)
     requires of { IsPassOf table.now pass.old }
-    requires seek { (n : ℕ) × (x : Control) × IsSeeking n table.now x list.now target.now (Reading before place) (caller table.now pass.old) }
-    ensures stepped { (n : ℕ) (x : Control) → IsSeeking n table.now x list.now target.now (Reading before place) (caller table.now pass.old) → SeekStepped n table.now x list.now target.now (Reading before place) result.0 pass.old pass.new result.1 }
+    requires seek { IsUnderWay (the_walk list.now target.now) table.now (Reading before place, pass.old) }
+    ensures stepped { MakesStep (the_walk list.now target.now) table.now (Reading before place, pass.old) (result.0, pass.new) result.1 }
     ensures same { (other : Before) → ((next : ℕ) → result.0 ≡ Reading other next → other ≡ before) × (result.0 ≡ Passing other → other ≡ before) }
 {
     let Some((event, row)) = target else {
@@ -144,8 +144,8 @@ pub(crate) fn pass_row(
     before: Before,
 ) -> (Seek, Sought)
     requires of { IsPassOf table.now pass.old }
-    requires seek { (n : ℕ) × (x : Control) × IsSeeking n table.now x list.now target.now (Passing before) (caller table.now pass.old) }
-    ensures { (n : ℕ) (x : Control) → IsSeeking n table.now x list.now target.now (Passing before) (caller table.now pass.old) → SeekStepped n table.now x list.now target.now (Passing before) result.0 pass.old pass.new result.1 }
+    requires seek { IsUnderWay (the_walk list.now target.now) table.now (Passing before, pass.old) }
+    ensures { MakesStep (the_walk list.now target.now) table.now (Passing before, pass.old) (result.0, pass.new) result.1 }
 {
     let spot = Spot::Row(before.link.row);
     let link = walk_step(table, pass, spot, false);
@@ -167,8 +167,8 @@ fn cut_row(
     last: Link,
 ) -> (Seek, Sought)
     requires of { IsPassOf table.now pass.old }
-    requires seek { (n : ℕ) × (x : Control) × IsSeeking n table.now x list.now target.now (Cutting before last) (caller table.now pass.old) }
-    ensures { (n : ℕ) (x : Control) → IsSeeking n table.now x list.now target.now (Cutting before last) (caller table.now pass.old) → SeekStepped n table.now x list.now target.now (Cutting before last) result.0 pass.old pass.new result.1 }
+    requires seek { IsUnderWay (the_walk list.now target.now) table.now (Cutting before last, pass.old) }
+    ensures { MakesStep (the_walk list.now target.now) table.now (Cutting before last, pass.old) (result.0, pass.new) result.1 }
 {
     if cut_step(table, pass, before.spot, before.link, last) {
         (Seek::Tagging(before.spot, before.link.row), Sought::More)
@@ -188,8 +188,8 @@ pub(crate) fn tag(
     row: u32,
 ) -> (Seek, Sought)
     requires of { IsPassOf table.now pass.old }
-    requires seek { (n : ℕ) × (x : Control) × IsSeeking n table.now x list.now target.now (Tagging spot row) (caller table.now pass.old) }
-    ensures { (n : ℕ) (x : Control) → IsSeeking n table.now x list.now target.now (Tagging spot row) (caller table.now pass.old) → SeekStepped n table.now x list.now target.now (Tagging spot row) result.0 pass.old pass.new result.1 }
+    requires seek { IsUnderWay (the_walk list.now target.now) table.now (Tagging spot row, pass.old) }
+    ensures { MakesStep (the_walk list.now target.now) table.now (Tagging spot row, pass.old) (result.0, pass.new) result.1 }
 {
     let epoch = epoch_step(table, pass);
     (Seek::Retiring(spot, row, epoch), Sought::More)
@@ -207,8 +207,8 @@ pub(crate) fn retire(
     epoch: u64,
 ) -> (Seek, Sought)
     requires of { IsPassOf table.now pass.old }
-    requires seek { (n : ℕ) × (x : Control) × IsSeeking n table.now x list.now target.now (Retiring spot row epoch) (caller table.now pass.old) }
-    ensures { (n : ℕ) (x : Control) → IsSeeking n table.now x list.now target.now (Retiring spot row epoch) (caller table.now pass.old) → SeekStepped n table.now x list.now target.now (Retiring spot row epoch) result.0 pass.old pass.new result.1 }
+    requires seek { IsUnderWay (the_walk list.now target.now) table.now (Retiring spot row epoch, pass.old) }
+    ensures { MakesStep (the_walk list.now target.now) table.now (Retiring spot row epoch, pass.old) (result.0, pass.new) result.1 }
 {
     retire_step(table, pass, row, epoch);
     (Seek::Load(spot), Sought::More)
@@ -232,8 +232,8 @@ impl Seek {
         target: &Target,
     ) -> Sought
         requires of { IsPassOf table.now pass.old }
-        requires seek { (n : ℕ) × (x : Control) × IsSeeking n table.now x list.now target.now self.old (caller table.now pass.old) }
-        ensures { (n : ℕ) (x : Control) → IsSeeking n table.now x list.now target.now self.old (caller table.now pass.old) → SeekStepped n table.now x list.now target.now self.old self.new pass.old pass.new result }
+        requires seek { IsUnderWay (the_walk list.now target.now) table.now (self.old, pass.old) }
+        ensures { MakesStep (the_walk list.now target.now) table.now (self.old, pass.old) (self.new, pass.new) result }
     {
         let (seek, answer) = match *self {
             Seek::Load(spot) => load(table, pass, list, target, spot),

@@ -1,13 +1,13 @@
 //! Several steps of a walk made in one go, as they mostly follow on one another: so the walk needn't be stored and taken up
 //! again after each of them.
 ghost use Rattle.std.specs.Prelude.{◌≡◌, ℕ};
-ghost use Rattle.crq_base.specs.declared.words.Control.{Control};
 ghost use Rattle.crq_rule.specs.declared.pass.Pass.{Pass};
-ghost use Rattle.crq_rows.specs.Passes.{caller, IsPassOf};
+ghost use Rattle.crq_rows.specs.Passes.{IsPassOf};
 ghost use Rattle.crq_list.specs.declared.seek.Seek.{Seek};
 ghost use Rattle.crq_list.specs.declared.seek.Seek.TheVariants.{Reading, Passing};
 ghost use Rattle.crq_list.specs.declared.seek.Sought.TheVariants.{More};
-ghost use Rattle.crq_list.specs.Seeking.{IsSeeking, SeekStretch};
+ghost use Rattle.crq_list.specs.Operations.{IsUnderWay, MayGoOn, MakesSteps, GoesOn};
+ghost use Rattle.crq_list.specs.Seeking.{the_walk};
 
 use crate::parts::{Before, ListAt};
 use crate::seek::{Seek, Sought, Target, load, pass_row, read, retire, tag};
@@ -24,8 +24,8 @@ fn compare(
     first: u32,
 ) -> (Seek, Sought)
     requires of { IsPassOf table.now pass.old }
-    requires seek { (n : ℕ) × (x : Control) × IsSeeking n table.now x list.now target.now (Reading before first) (caller table.now pass.old) }
-    ensures { (n : ℕ) (x : Control) → IsSeeking n table.now x list.now target.now (Reading before first) (caller table.now pass.old) → SeekStretch n table.now x list.now target.now (Reading before first) result.0 pass.old pass.new result.1 }
+    requires seek { IsUnderWay (the_walk list.now target.now) table.now (Reading before first, pass.old) }
+    ensures { MakesSteps (the_walk list.now target.now) table.now (Reading before first, pass.old) (result.0, pass.new) result.1 }
 {
     let mut place = first;
     loop {
@@ -48,8 +48,8 @@ fn pass_rows(
     before: Before,
 ) -> (Seek, Sought)
     requires of { IsPassOf table.now pass.old }
-    requires seek { (n : ℕ) × (x : Control) × IsSeeking n table.now x list.now target.now (Passing before) (caller table.now pass.old) }
-    ensures { (n : ℕ) (x : Control) → IsSeeking n table.now x list.now target.now (Passing before) (caller table.now pass.old) → SeekStretch n table.now x list.now target.now (Passing before) result.0 pass.old pass.new result.1 }
+    requires seek { IsUnderWay (the_walk list.now target.now) table.now (Passing before, pass.old) }
+    ensures { MakesSteps (the_walk list.now target.now) table.now (Passing before, pass.old) (result.0, pass.new) result.1 }
 {
     let mut before = before;
     loop {
@@ -75,8 +75,8 @@ fn then_tag(
     told: (Seek, Sought),
 ) -> (Seek, Sought)
     requires of { IsPassOf table.now pass.old }
-    requires seek { told.1 ≡ More → (n : ℕ) × (x : Control) × IsSeeking n table.now x list.now target.now told.0 (caller table.now pass.old) }
-    ensures { (n : ℕ) (x : Control) (first : Seek) (old : Pass) → SeekStretch n table.now x list.now target.now first told.0 old pass.old told.1 → SeekStretch n table.now x list.now target.now first result.0 old pass.new result.1 }
+    requires seek { MayGoOn (the_walk list.now target.now) table.now (told.0, pass.old) told.1 }
+    ensures { GoesOn (the_walk list.now target.now) table.now (told.0, pass.old) told.1 (result.0, pass.new) result.1 }
 {
     let (Seek::Tagging(spot, row), Sought::More) = told else {
         return told;
@@ -94,8 +94,8 @@ fn then_retire(
     told: (Seek, Sought),
 ) -> (Seek, Sought)
     requires of { IsPassOf table.now pass.old }
-    requires seek { told.1 ≡ More → (n : ℕ) × (x : Control) × IsSeeking n table.now x list.now target.now told.0 (caller table.now pass.old) }
-    ensures { (n : ℕ) (x : Control) (first : Seek) (old : Pass) → SeekStretch n table.now x list.now target.now first told.0 old pass.old told.1 → SeekStretch n table.now x list.now target.now first result.0 old pass.new result.1 }
+    requires seek { MayGoOn (the_walk list.now target.now) table.now (told.0, pass.old) told.1 }
+    ensures { GoesOn (the_walk list.now target.now) table.now (told.0, pass.old) told.1 (result.0, pass.new) result.1 }
 {
     let (Seek::Retiring(spot, row, epoch), Sought::More) = told else {
         return told;
@@ -113,8 +113,8 @@ fn then_load(
     told: (Seek, Sought),
 ) -> (Seek, Sought)
     requires of { IsPassOf table.now pass.old }
-    requires seek { told.1 ≡ More → (n : ℕ) × (x : Control) × IsSeeking n table.now x list.now target.now told.0 (caller table.now pass.old) }
-    ensures { (n : ℕ) (x : Control) (first : Seek) (old : Pass) → SeekStretch n table.now x list.now target.now first told.0 old pass.old told.1 → SeekStretch n table.now x list.now target.now first result.0 old pass.new result.1 }
+    requires seek { MayGoOn (the_walk list.now target.now) table.now (told.0, pass.old) told.1 }
+    ensures { GoesOn (the_walk list.now target.now) table.now (told.0, pass.old) told.1 (result.0, pass.new) result.1 }
 {
     let (Seek::Load(spot), Sought::More) = told else {
         return told;
@@ -132,8 +132,8 @@ fn then_compare(
     told: (Seek, Sought),
 ) -> (Seek, Sought)
     requires of { IsPassOf table.now pass.old }
-    requires seek { told.1 ≡ More → (n : ℕ) × (x : Control) × IsSeeking n table.now x list.now target.now told.0 (caller table.now pass.old) }
-    ensures { (n : ℕ) (x : Control) (first : Seek) (old : Pass) → SeekStretch n table.now x list.now target.now first told.0 old pass.old told.1 → SeekStretch n table.now x list.now target.now first result.0 old pass.new result.1 }
+    requires seek { MayGoOn (the_walk list.now target.now) table.now (told.0, pass.old) told.1 }
+    ensures { GoesOn (the_walk list.now target.now) table.now (told.0, pass.old) told.1 (result.0, pass.new) result.1 }
 {
     let (Seek::Reading(before, place), Sought::More) = told else {
         return told;
@@ -151,8 +151,8 @@ fn then_pass(
     told: (Seek, Sought),
 ) -> (Seek, Sought)
     requires of { IsPassOf table.now pass.old }
-    requires seek { told.1 ≡ More → (n : ℕ) × (x : Control) × IsSeeking n table.now x list.now target.now told.0 (caller table.now pass.old) }
-    ensures { (n : ℕ) (x : Control) (first : Seek) (old : Pass) → SeekStretch n table.now x list.now target.now first told.0 old pass.old told.1 → SeekStretch n table.now x list.now target.now first result.0 old pass.new result.1 }
+    requires seek { MayGoOn (the_walk list.now target.now) table.now (told.0, pass.old) told.1 }
+    ensures { GoesOn (the_walk list.now target.now) table.now (told.0, pass.old) told.1 (result.0, pass.new) result.1 }
 {
     let (Seek::Passing(before), Sought::More) = told else {
         return told;
@@ -170,8 +170,8 @@ pub(crate) fn run_seek(
     seek: &mut Seek,
 ) -> Sought
     requires of { IsPassOf table.now pass.old }
-    requires seek { (n : ℕ) × (x : Control) × IsSeeking n table.now x list.now target.now seek.old (caller table.now pass.old) }
-    ensures { (n : ℕ) (x : Control) → IsSeeking n table.now x list.now target.now seek.old (caller table.now pass.old) → SeekStretch n table.now x list.now target.now seek.old seek.new pass.old pass.new result }
+    requires seek { IsUnderWay (the_walk list.now target.now) table.now (seek.old, pass.old) }
+    ensures { MakesSteps (the_walk list.now target.now) table.now (seek.old, pass.old) (seek.new, pass.new) result }
 {
     let answer = seek.step(table, pass, list, target);
     let told = then_tag(table, pass, list, target, (*seek, answer));
