@@ -113,8 +113,8 @@ abbrev pub TakeStretch : ℕ → Table → Control → TakeOp → TakeOp → Pas
 TakeStretch n table x = Stretch TakeOp (Progress MarkEnd) (TakeStepped n table x) take_exchanges More
 
 -- the take, as an operation; and at this state
-abbrev pub the_take : Operation TakeOp (Progress MarkEnd)
-the_take = record { at = IsTaking; stepped = TakeStepped; exchanges = take_exchanges; more = More }
+abbrev pub the_take : Operation TakeOp MarkEnd
+the_take = record { at = IsTaking; stepped = TakeStepped; exchanges = take_exchanges }
 
 abbrev pub take_at : TakeOp → Taking → TakeOp
 take_at op state = record op { state = state }

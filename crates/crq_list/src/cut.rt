@@ -8,7 +8,7 @@ ghost use Rattle.crq_list.specs.Operations.{IsUnderWay, MakesStep, MakesSteps};
 ghost use Rattle.crq_list.specs.Cutting.{the_cut, progress_of};
 
 use crate::parts::{ListAt, Progress, Spot};
-use crate::seek::{Seek, Sought};
+use crate::seek::{Seek, SeekEnd, Sought};
 use crate::stretch::run_seek;
 use crq_base::Event;
 use crq_rows::{Pass, Table};
@@ -28,34 +28,31 @@ pub enum CutEnd {
 /// the next is cut.
 #[derive(Clone, Copy, Debug, PartialEq, Eq)]
 pub struct CutOp {
-    /// The list.
-    pub list: ListAt,
-    /// Up to which row of which event; none is the whole list.
-    pub upto: Option<(Event, u32)>,
+    /// The list, and up to which row of which event; none is the whole list.
+    pub sought: Sought,
     /// How far it is.
     pub seek: Seek,
 }
 
 /// What a step of the walk says of the cut.
 #[inline(always)]
-fn progress_of(sought: Sought) -> Progress<CutEnd>
-    ensures { result ≡ progress_of sought }
+fn progress_of(walked: Progress<SeekEnd>) -> Progress<CutEnd>
+    ensures { result ≡ progress_of walked }
 {
-    match sought {
-        Sought::More => Progress::More,
-        Sought::There(_) => Progress::Done(CutEnd::Clean),
-        Sought::Frozen => Progress::Done(CutEnd::Frozen),
+    match walked {
+        Progress::More => Progress::More,
+        Progress::Done(SeekEnd::There(_)) => Progress::Done(CutEnd::Clean),
+        Progress::Done(SeekEnd::Frozen) => Progress::Done(CutEnd::Frozen),
     }
 }
 
 impl CutOp {
     /// A cut that has made no step.
     pub fn new(list: ListAt, upto: Option<(Event, u32)>) -> CutOp
-        ensures { result ≡ record { list = list; upto = upto; seek = Load (Head list.head) } }
+        ensures { result ≡ record { sought = record { list = list; target = upto }; seek = Load (Head list.head) } }
     {
         CutOp {
-            list,
-            upto,
+            sought: Sought { list, target: upto },
             seek: Seek::Load(Spot::Head(list.head)),
         }
     }
@@ -74,7 +71,7 @@ impl CutOp {
         requires op { IsUnderWay the_cut table.now (self.old, pass.old) }
         ensures { MakesStep the_cut table.now (self.old, pass.old) (self.new, pass.new) result }
     {
-        progress_of(self.seek.step(table, pass, &self.list, &self.upto))
+        progress_of(self.seek.step(table, pass, &self.sought))
     }
 
     /// Makes one atomic step or more, of which only the first may be an exchange: those that mostly follow on one another.
@@ -87,6 +84,6 @@ impl CutOp {
         if self.exchanges() {
             return self.step(table, pass);
         }
-        progress_of(run_seek(table, pass, &self.list, &self.upto, &mut self.seek))
+        progress_of(run_seek(table, pass, &self.sought, &mut self.seek))
     }
 }

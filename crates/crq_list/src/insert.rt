@@ -10,7 +10,7 @@ ghost use Rattle.crq_list.specs.Operations.{IsUnderWay, MayGoOn, MakesStep, Make
 ghost use Rattle.crq_list.specs.Inserting.{the_insertion, insertion_at, insert_exchanges, after_seek};
 
 use crate::parts::{Before, ListAt, Progress, Spot};
-use crate::seek::{Seek, Sought};
+use crate::seek::{Seek, SeekEnd, Sought};
 use crate::steps::link_step;
 use crate::stretch::run_seek;
 use crq_base::Event;
@@ -115,13 +115,16 @@ fn write_words(
 
 /// What follows on steps of the walk, which is there.
 #[inline(always)]
-fn after_seek(seek: Seek, sought: Sought) -> (Inserting, Progress<InsertEnd>)
-    ensures { result ≡ after_seek seek sought }
+fn after_seek(seek: Seek, walked: Progress<SeekEnd>) -> (Inserting, Progress<InsertEnd>)
+    ensures { result ≡ after_seek seek walked }
 {
-    match sought {
-        Sought::More => (Inserting::Seeking(seek), Progress::More),
-        Sought::There(before) => (Inserting::Placing(before), Progress::More),
-        Sought::Frozen => (Inserting::Seeking(seek), Progress::Done(InsertEnd::Frozen)),
+    match walked {
+        Progress::More => (Inserting::Seeking(seek), Progress::More),
+        Progress::Done(SeekEnd::There(before)) => (Inserting::Placing(before), Progress::More),
+        Progress::Done(SeekEnd::Frozen) => (
+            Inserting::Seeking(seek),
+            Progress::Done(InsertEnd::Frozen),
+        ),
     }
 }
 
@@ -138,8 +141,12 @@ fn seek_place(
     ensures { MakesStep the_insertion table.now (insertion_at op.now (Seeking seek), pass.old) (insertion_at op.now result.0, pass.new) result.1 }
 {
     let mut seek = seek;
-    let sought = seek.step(table, pass, &op.list, &Some((op.event, op.row)));
-    after_seek(seek, sought)
+    let sought = Sought {
+        list: op.list,
+        target: Some((op.event, op.row)),
+    };
+    let walked = seek.step(table, pass, &sought);
+    after_seek(seek, walked)
 }
 
 /// Makes one step of that walk or more, of which only the first may be an exchange.
@@ -155,8 +162,12 @@ fn run_to_place(
     ensures { MakesSteps the_insertion table.now (insertion_at op.now (Seeking seek), pass.old) (insertion_at op.now result.0, pass.new) result.1 }
 {
     let mut seek = seek;
-    let sought = run_seek(table, pass, &op.list, &Some((op.event, op.row)), &mut seek);
-    after_seek(seek, sought)
+    let sought = Sought {
+        list: op.list,
+        target: Some((op.event, op.row)),
+    };
+    let walked = run_seek(table, pass, &sought, &mut seek);
+    after_seek(seek, walked)
 }
 
 /// Writes the row's own link: the row that is next behind the spot is to follow it.
