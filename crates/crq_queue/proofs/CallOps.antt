@@ -107,4 +107,4 @@ module _ {table : Table} {n budget : ℕ} {x : Control} {op : CutOp} {old mid : 
   }
 
 pub cut_unfinished : {table : Table} {n budget : ℕ} {x : Control} {op : CutOp} {old new : Pass} {s t : Spent} (d : CutDebt) → CutRan table n budget x op old new (Err s) → old.debts.cut ≡ Some d → op.upto ≡ Some (d.event, d.row) → CutFinished table n budget x old new (Err t)
-cut_unfinished {table} {n} d c owes upto = record { ran = c.ran; inside = c.inside; free = c.free; finished = used_for (λ p needs. record { debt = d; owes = owes; cuts = subst (λ u. UptoNeeds n table u p) upto needs }) c.ended }
+cut_unfinished {table} {n} d c owes upto = record { ran = c.ran; inside = c.inside; free = c.free; finished = (ap (λ (d : Debts). d.cut) c.debts, used_for (λ p needs. record { debt = d; owes = owes; cuts = subst (λ u. UptoNeeds n table u p) upto needs }) c.ended) }
