@@ -78,7 +78,7 @@ pub record UptoNeeds (n : ℕ) (table : Table) (upto : Target) (p : Caller) : Ty
   pub control : Control
   pub op : CutOp
   pub at : IsCutting n table control op p
-  pub upto_is : op.upto ≡ upto
+  pub upto_is : op.sought.target ≡ upto
   pub exchanges : seek_exchanges op.seek ≡ true
 
 -- for the cut of the dead row that was owed; where none was, there is no such need
@@ -107,8 +107,8 @@ pub record IsUsedUp (table : Table) (n budget : ℕ) (Needs : Caller → Type 0)
   pub quiet : exchanges_of rest ≡ 0
 
 abbrev pub CutEnded : ℕ → ℕ → Table → CutOp → Pass → Result (Unit {0}) Spent → Type 0
-CutEnded n budget table op new (Ok u) = (d : CutDebt) → op.upto ≡ Some (d.event, d.row) → d.head ≡ op.list.head → (caller table new).debts.cut ≡ Some d → ⊥
-CutEnded n budget table op new (Err s) = IsUsedUp table n budget (UptoNeeds n table op.upto) new
+CutEnded n budget table op new (Ok u) = (d : CutDebt) → op.sought.target ≡ Some (d.event, d.row) → d.head ≡ op.sought.list.head → (caller table new).debts.cut ≡ Some d → ⊥
+CutEnded n budget table op new (Err s) = IsUsedUp table n budget (UptoNeeds n table op.sought.target) new
 
 pub record CutRan (table : Table) (n budget : ℕ) (x : Control) (op : CutOp) (old new : Pass) (result : Result (Unit {0}) Spent) : Type 0 where
   pub ran : Ran table n budget old new []
