@@ -4,8 +4,8 @@ ghost use Rattle.std.specs.Prelude.{◌≡◌, ◌⊎◌, ◌↔◌, ℕ, suc, �
 ghost use Rattle.std.specs.List.{AllByRecursion};
 ghost use Rattle.crq_base.specs.declared.event.Event.{Event};
 ghost use Rattle.crq_base.specs.Keys.{IsBefore};
-ghost use Rattle.crq_sim.specs.Examples.{relay_pair, three_starts};
 ghost use Rattle.crq_sim.specs.EventLists.{with_event, without_event, AreInOrder, IsHead, HaveKeysApart};
+ghost use Rattle.crq_sim.specs.Examples.{relay_pair, three_starts};
 ghost use Rattle.crq_sim.specs.Models.{ModelData, IsModel};
 ghost use Rattle.crq_sim.specs.Reactions.{sends_of};
 ghost use Rattle.crq_sim.specs.Runs.{Simulation, state_of, after_events, events_sent, scheduled_starts, beginning, simulation_at};
