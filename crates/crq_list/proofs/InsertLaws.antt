@@ -40,14 +40,13 @@ use Rattle.crq_list.specs.declared.insert.InsertState.{InsertState}
 use Rattle.crq_list.specs.declared.insert.InsertState.TheVariants.{Writing, Seeking, Placing, Linking}
 use Rattle.crq_list.specs.declared.seek.SeekState.{SeekState}
 use Rattle.crq_list.specs.declared.seek.SeekState.TheVariants.{Load}
-use Rattle.crq_list.specs.declared.seek.SeekEnd.{SeekEnd}
 use Rattle.crq_list.specs.declared.seek.SeekEnd.TheVariants.{There}
 use Rattle.crq_list.specs.declared.seek.Sought.{Sought}
 use Rattle.crq_rows.proofs.Knowing.{known_else}
 use Rattle.crq_list.proofs.SweepLaws.{sweep_begins, sweep_stays}
 use Rattle.crq_rows.proofs.Working.{plain_no_tick}
 use Rattle.crq_list.proofs.StepLaws.{rows_apart}
-use Rattle.crq_list.specs.Known.{is_exchange, last_known, Stays, Works, turns_after}
+use Rattle.crq_list.specs.Known.{is_exchange, Stays, Works, turns_after}
 use Rattle.crq_list.specs.Spots.{cell, Target, IsReached, IsAfter, IsBeyondSpot, IsListOf}
 use Rattle.crq_list.specs.Swaps.{LinkSwapped}
 use Rattle.crq_list.specs.Seeking.{IsSeeking, IsThere, SeekStepped}

@@ -5,7 +5,6 @@ use Rattle.crq_base.specs.declared.words.Control.{Control}
 use Rattle.crq_rule.specs.declared.pass.Pass.{Pass}
 use Rattle.crq_rule.specs.declared.pass.Table.{Table}
 use Rattle.crq_rows.specs.Passes.{caller, IsPassOf}
-use Rattle.crq_list.specs.declared.parts.ListAt.{ListAt}
 use Rattle.crq_list.specs.declared.parts.Progress.{Progress}
 use Rattle.crq_list.specs.declared.parts.Progress.TheVariants.{More, Done}
 use Rattle.crq_list.specs.declared.seek.SeekState.{SeekState}
@@ -16,7 +15,6 @@ use Rattle.crq_list.specs.declared.insert.InsertOp.{InsertOp}
 use Rattle.crq_list.specs.declared.insert.InsertState.{InsertState}
 use Rattle.crq_list.specs.declared.insert.InsertState.TheVariants.{Seeking}
 use Rattle.crq_list.specs.declared.insert.InsertEnd.{InsertEnd}
-use Rattle.crq_list.specs.Spots.{Target}
 use Rattle.crq_list.specs.Stretches.{Stretch, ends, goes_on}
 use Rattle.crq_list.specs.Seeking.{IsSeeking, SeekStepped, SeekStretch, seek_exchanges}
 use Rattle.crq_list.specs.Cutting.{CutStepped, CutStretch, progress_of}
