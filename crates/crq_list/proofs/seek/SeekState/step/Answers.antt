@@ -1,6 +1,6 @@
-use Rattle.crq_list.specs.declared.seek.Seek.TheVariants.{Load, Reading, Passing, Cutting, Tagging, Retiring}
+use Rattle.crq_list.specs.declared.seek.SeekState.TheVariants.{Load, Reading, Passing, Cutting, Tagging, Retiring}
 use Rattle.crq_list.proofs.SeekSteps.{step_as}
-use Rattle.crq_list.proofs.seek.Seek.step.Goals as goal
+use Rattle.crq_list.proofs.seek.SeekState.step.Goals as goal
 
 pub returns-in-Load : goal.returns-in-Load
 returns-in-Load c = step_as c.args.table.now c.args.sought.now c.args.pass.now c.load.new.pass c.args.self.now (Load c.in-Load.spot) c.load.result.0 c.load.result.1 c.in-Load.is c.load.ensures
