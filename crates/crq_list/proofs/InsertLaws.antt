@@ -23,7 +23,7 @@ use Rattle.crq_rule.specs.Lists.{In}
 use Rattle.crq_rule.specs.Places.{index, IsRow, IsHead, link}
 use Rattle.crq_rule.specs.Parts.{IsOn, IsEvent}
 use Rattle.crq_rule.specs.Kinds.{makes}
-use Rattle.crq_rule.specs.Ranks.{rank, head_of, cell_place}
+use Rattle.crq_rule.specs.Ranks.{rank, head_of, at_head, at_row, cell_place}
 use Rattle.crq_rule.specs.ListKinds.{Content, no_twin, new_time, new_source, new_sequence, new_load, IsContent, content_number, content_word, event_word, unwritten, wrote, writes, links, put_entries, StandsOn, IsWritten, IsFresh, ComesAfter, ComesBefore, MayLink}
 use Rattle.crq_rows.specs.Passes.{caller, IsPassOf, Stepped, step_made, store_made, counted}
 use Rattle.crq_rows.proofs.Reached.{hand_row, stand_row}
@@ -40,15 +40,18 @@ use Rattle.crq_list.specs.declared.insert.Inserting.{Inserting}
 use Rattle.crq_list.specs.declared.insert.Inserting.TheVariants.{Writing, Seeking, Placing, Linking}
 use Rattle.crq_list.specs.declared.seek.Seek.{Seek}
 use Rattle.crq_list.specs.declared.seek.Seek.TheVariants.{Load}
-use Rattle.crq_list.specs.declared.seek.Sought.TheVariants.{More as Further, There}
+use Rattle.crq_list.specs.declared.seek.SeekEnd.{SeekEnd}
+use Rattle.crq_list.specs.declared.seek.SeekEnd.TheVariants.{There}
+use Rattle.crq_list.specs.declared.seek.Sought.{Sought}
 use Rattle.crq_rows.proofs.Knowing.{known_else}
+use Rattle.crq_list.proofs.SweepLaws.{sweep_begins, sweep_stays}
 use Rattle.crq_rows.proofs.Working.{plain_no_tick}
 use Rattle.crq_list.proofs.StepLaws.{rows_apart}
 use Rattle.crq_list.specs.Known.{is_exchange, last_known, Stays, Works, turns_after}
 use Rattle.crq_list.specs.Spots.{cell, Target, IsReached, IsAfter, IsBeyondSpot, IsListOf}
 use Rattle.crq_list.specs.Swaps.{LinkSwapped}
 use Rattle.crq_list.specs.Seeking.{IsSeeking, IsThere, SeekStepped}
-use Rattle.crq_list.specs.Inserting.{AreWritten, target_of, IsInsertingAt, IsInserting, state_exchanges, state_left, InsertStepped}
+use Rattle.crq_list.specs.Inserting.{AreWritten, sought_by, IsInsertingAt, IsInserting, state_exchanges, state_left, InsertStepped}
 
 -- What is written
 
@@ -121,12 +124,6 @@ module _ (written : List Wrote) (r : ℕ) (e : Event) where
 
 -- What is known of words
 
--- a step on another word leaves what is known of a word
-pub known_since : (n : ℕ) (ms : List Made) (m : Made) (w a : ℕ) → m.word ≢ w → last_known (drop n ms) w ≡ Some a → last_known (drop n (ms ++ m ∷ [])) w ≡ Some a
-known_since zero ms m w a ne e = known_else zero ms m w (omega arith) ne ∙ e
-known_since (suc n) [] m w a ne e = absurd (cc)
-known_since (suc n) (x ∷ ms) m w a ne e = known_since n ms m w a ne e
-
 -- Where the row comes
 
 -- two rows that stand at one place or in order are in order, where they aren't one
@@ -193,12 +190,13 @@ still_inserting n table x op s s' p q stays counted own hand at i = record {
 
 -- the list is to be walked from its head
 pub seeks_anew : (n : ℕ) (b : Bool) (table : Table) (x : Control) (op : InsertOp) (s : Inserting) (p q : Caller) → Works n b p q → q.cut ≡ None → IsInserting n table x (record op { state = s }) p
-    → IsSeeking n table x op.list (target_of op) (Load (Head op.list.head)) q
+    → IsSeeking n table x (sought_by op) (Load (Head op.list.head)) q
 seeks_anew n b table x op s p q works none i = record {
   counted = counts_on n b p q works i.counted;
   on = subst IsOn (sym works.stays.guard) i.on;
   list_is = list_stays x op.list p q works.stays.found i.list_is;
   target_is = i.of_list;
+  swept = sweep_begins table.start.layout (at_head op.list.head) (drop n q.made);
   at = (none, refl);
 }
 
@@ -226,14 +224,15 @@ module _ (m : Made) (r place word : ℕ) (p : Caller) where
   beyond_stays (Head h) e s is = is
   beyond_stays (Row t) e s is = is
 
-  pub there_stays : (n : ℕ) (table : Table) (x : Control) (q : ℕ) (target : Target) (b : Before) → m.word ≢ index table.start.layout (cell_place (cell b.spot)) → IsThere n table x q target b p → IsThere n table x q target b after_write
-  there_stays n table x q target b ne is = record {
+  pub there_stays : (n : ℕ) (table : Table) (x : Control) (sought : Sought) (b : Before) → n ≤ length p.made → m.word ≢ index table.start.layout (cell_place (cell b.spot)) → IsThere n table x sought b p → IsThere n table x sought b after_write
+  there_stays n table x sought b begun ne is = record {
     none = is.none;
     passed = record {
       bits = is.passed.bits;
       present = is.passed.present;
-      known = known_since n p.made m (index table.start.layout (cell_place (cell b.spot))) (link_word b.link) ne is.passed.known;
-      reached = reached_stays x q target b.spot is.passed.reached;
+      known = known_else n p.made m (index table.start.layout (cell_place (cell b.spot))) begun ne ∙ is.passed.known;
+      reached = reached_stays x sought.list.head sought.target b.spot is.passed.reached;
+      swept = sweep_stays n p.made after_write.made m refl begun table.start.layout (at_head sought.list.head) (at_row b.link.row) is.passed.swept;
       next = λ some. let t = is.passed.next some in record { event = t.event; on = t.on; belongs = t.belongs; beyond = beyond_stays b.spot t.event b.link.row t.beyond };
       owed = record { ahead = is.passed.owed.ahead };
     };
@@ -267,13 +266,13 @@ module _ (n : ℕ) (table : Table) (x : Control) (op : InsertOp) (old new : Pass
   }
 
   -- the walk goes on
-  pub seeks_on : (seek seek' : Seek) → IsPassOf table old → IsInserting n table x (record op { state = Seeking seek }) (caller table old) → SeekStepped n table x op.list (target_of op) seek seek' old new Further
+  pub seeks_on : (seek seek' : Seek) → IsPassOf table old → IsInserting n table x (record op { state = Seeking seek }) (caller table old) → SeekStepped n table x (sought_by op) seek seek' old new More
       → InsertStepped n table x (record op { state = Seeking seek }) (record op { state = Seeking seek' }) old new More
   seeks_on seek seek' of i s = goes_on (Seeking seek) (Seeking seek') of s.is s.works s.turns s.number s.debts s.owed s.own s.free
       (s.answers.0, subst (λ w. AreWritten w op.row op.event 6) (sym s.written) i.at.1) (⊎_elim (λ e. inl e) (λ less. inr (omega arith)) s.answers.1) i
 
   -- it came to the row's place
-  pub seeks_there : (seek seek' : Seek) (b : Before) → IsPassOf table old → IsInserting n table x (record op { state = Seeking seek }) (caller table old) → SeekStepped n table x op.list (target_of op) seek seek' old new (There b)
+  pub seeks_there : (seek seek' : Seek) (b : Before) → IsPassOf table old → IsInserting n table x (record op { state = Seeking seek }) (caller table old) → SeekStepped n table x (sought_by op) seek seek' old new (Done (There b))
       → InsertStepped n table x (record op { state = Seeking seek }) (record op { state = Placing b }) old new More
   seeks_there seek seek' b of i s = goes_on (Seeking seek) (Placing b) of s.is s.works s.turns s.number s.debts s.owed s.own s.free
       (s.answers, subst (λ w. AreWritten w op.row op.event 6) (sym s.written) i.at.1) (inr (omega arith)) i
@@ -312,7 +311,7 @@ module _ (n : ℕ) (table : Table) (x : Control) (op : InsertOp) (old new : Pass
   writes_link b word is of i t = let m = store_made Write (index table.start.layout (link op.row)) word in let p = caller table old in
       writes_on (Placing b) (Linking b) 0 word (index table.start.layout (link op.row)) refl of i t
       (subst (IsInsertingAt n table x (record op { state = Linking b }) (Linking b)) (sym t.part) (
-        there_stays m op.row 0 word p n table x op.list.head (target_of op) b (word_apart table.start.layout x op.list.head (target_of op) op.row b.spot p (hand_row table old of op.row i.held) i.list_is.is_head (λ s. of.lawful.apart op.row s i.held) i.at.0.passed.reached) i.at.0,
+        there_stays m op.row 0 word p n table x (sought_by op) b i.counted (word_apart table.start.layout x op.list.head (sought_by op).target op.row b.spot p (hand_row table old of op.row i.held) i.list_is.is_head (λ s. of.lawful.apart op.row s i.held) i.at.0.passed.reached) i.at.0,
         subst (λ z. IsWritten (wrote op.row 0 z p.written) op.row op.event b.link) (sym is) (written_all p.written op.row op.event b.link i.at.0.passed.present i.at.1),
       ))
       (omega arith)
@@ -322,7 +321,7 @@ module _ (n : ℕ) (table : Table) (x : Control) (op : InsertOp) (old new : Pass
     row_apart : op.row ≢ b.link.row
     row_apart same = let row = hand_row table old of op.row i.held in ⊎_elim
         (λ (none : b.link.row ≡ 0). omega arith)
-        (λ (t : (f : Event) × StandsOn (caller table old).position.rows b.link.row f × IsAfter (target_of op) f b.link.row). let on = t.1 in of.lawful.apart op.row on.0 i.held on.1 (on.2 ∙ sym same)) i.at.0.after
+        (λ (t : (f : Event) × StandsOn (caller table old).position.rows b.link.row f × IsAfter (sought_by op).target f b.link.row). let on = t.1 in of.lawful.apart op.row on.0 i.held on.1 (on.2 ∙ sym same)) i.at.0.after
 
     -- the exchange expects the link that was found at the spot
     link_works : (f : Caller → Caller) (found : ℕ) → Stays (caller table old) (f (caller table old)) → (f (caller table old)).made ≡ (caller table old).made

@@ -1,4 +1,4 @@
--- What each step of a walk to a target tells.
+-- What each step of a walk to a sought.target tells.
 use Rattle.std.proofs.Common.{◌≡◌, ◌≢◌, ◌⊎◌, ⊎_elim, inl, inr, ℕ, ◌+◌, ◌*◌, ◌^◌, ◌<◌, ◌≤◌, eqb, Bool, true, false, [], ◌∷◌, ◌++◌, drop, length, Some, None, sym, refl, ap, ◌∙◌, subst, arith, eq-eqb}
 use Rattle.std.proofs.lemmas.Bool.{cond_both, eqb-true, eqb-false}
 use Rattle.std.proofs.lemmas.List.{length-append}
@@ -16,39 +16,42 @@ use Rattle.crq_rule.specs.declared.view.Caller.{Caller}
 use Rattle.crq_rule.specs.Places.{index, IsHead, epoch, stamp}
 use Rattle.crq_rule.specs.Parts.{IsEvent, IsOn}
 use Rattle.crq_rule.specs.Kinds.{makes, loads_epoch, tagged, retires}
-use Rattle.crq_rule.specs.Ranks.{rank, head_of, IsOpen, at_head, at_row, cell_place}
+use Rattle.crq_rule.specs.Ranks.{rank, head_of, IsOpen, Cell, at_head, at_row, cell_place}
 use Rattle.crq_rule.specs.ListKinds.{StandsOn, MayWalk, MayCut, is_beyond, walks, cuts, event_word, row_place}
 use Rattle.crq_rule.specs.Rule.{Lawful, WalksOn, IsWalkable}
 use Rattle.crq_rows.specs.Passes.{caller, IsPassOf, Stepped, load_made, store_made, step_made}
 use Rattle.crq_rows.specs.Reading.{stays}
-use Rattle.crq_list.specs.declared.parts.ListAt.{ListAt}
 use Rattle.crq_list.specs.declared.parts.Spot.{Spot}
 use Rattle.crq_list.specs.declared.parts.Spot.TheVariants.{Head, Row}
 use Rattle.crq_list.specs.declared.parts.Before.{Before}
 use Rattle.crq_list.specs.declared.seek.Seek.{Seek}
 use Rattle.crq_list.specs.declared.seek.Seek.TheVariants.{Load, Reading, Passing, Cutting, Tagging, Retiring}
 use Rattle.crq_list.specs.declared.seek.Sought.{Sought}
-use Rattle.crq_list.specs.declared.seek.Sought.TheVariants.{More, There}
+use Rattle.crq_list.specs.declared.seek.SeekEnd.{SeekEnd}
+use Rattle.crq_list.specs.declared.seek.SeekEnd.TheVariants.{There}
+use Rattle.crq_list.specs.declared.parts.Progress.{Progress}
 use Rattle.crq_list.specs.Known.{Works, Stays, turns_after, last_known}
 use Rattle.crq_list.specs.Spots.{cell, Target, IsUpTo, IsAfter, IsReached, IsBeyondSpot, Next, IsPassed, IsListOf, far, left_of}
-use Rattle.crq_list.specs.Seeking.{HasRead, IsPassing, IsAt, IsSeeking, next_seek, key_part, part_of, seek_exchanges, seek_left, IsThere, SeekAnswers, SeekStepped}
+use Rattle.crq_list.specs.Seeking.{spot_of, HasRead, IsPassing, IsAt, IsSeeking, next_seek, key_part, part_of, seek_exchanges, seek_left, IsThere, SeekAnswers, SeekStepped}
 use Rattle.crq_list.specs.Swaps.{Saw, CutSwapped, where_won}
-use Rattle.crq_list.specs.declared.parts.Progress.TheVariants.{Done}
+use Rattle.crq_list.specs.declared.parts.Progress.TheVariants.{More, Done}
 use Rattle.crq_list.specs.declared.cut.CutEnd.TheVariants.{Clean}
 use Rattle.crq_list.specs.declared.cut.CutOp.{CutOp}
 use Rattle.crq_list.specs.Cutting.{CutStepped}
+use Rattle.crq_list.specs.Sweeps.{SweepsTo}
+use Rattle.crq_list.proofs.SweepLaws.{sweep_begins, sweep_stays, sweep_passes}
 use Rattle.crq_list.proofs.StepLaws.{rows_apart, relieved_is, unnamed_is}
 use Rattle.crq_rows.proofs.Knowing.{known_here, known_else}
 use Rattle.crq_list.proofs.SeekLaws.{rank_some, rank_limit, rank_at_is, walk_next, walk_here, dead_kept, dead_last, without_stands, still_ahead, was_owed, beyond_row, IsCell, link_apart, event_apart, part_is, part_less, key_same, read_more}
 
 -- What a step tells of its caller, before and after
 
-pub record Told (n : ℕ) (table : Table) (x : Control) (list : ListAt) (target : Target) (seek seek' : Seek) (p q : Caller) (answer : Sought) : Type 0 where
+pub record Told (n : ℕ) (table : Table) (x : Control) (sought : Sought) (seek seek' : Seek) (p q : Caller) (answer : Progress SeekEnd) : Type 0 where
   pub works : Works n (seek_exchanges seek) p q
   pub own : q.own ≡ p.own
   pub written : q.written ≡ p.written
   pub owed : (q.debts.cut ≡ None) ⊎ (q.debts.cut ≡ p.debts.cut)
-  pub answers : SeekAnswers n table x list target seek seek' p q answer
+  pub answers : SeekAnswers n table x sought seek seek' p q answer
 
 -- two stands on one row have one event
 pub one_event : (p : Caller) → Lawful p → (r : ℕ) (f g : Event) → StandsOn p.position.rows r f → StandsOn p.position.rows r g → f ≡ g
@@ -70,39 +73,51 @@ val_del l a b = cc
 one_target : (t u : Event × ℕ) → Some t ≡ Some u → t ≡ u
 one_target t u e = cc
 
-module _ (n : ℕ) (table : Table) (x : Control) (list : ListAt) (target : Target) (p : Caller) where
+module _ (n : ℕ) (table : Table) (x : Control) (sought : Sought) (p : Caller) where
   -- spots that were reached can be walked
 
-  pub spot_fits : (spot : Spot) → IsListOf x list p → IsReached x list.head target spot p → IsCell (cell spot)
+  pub spot_fits : (spot : Spot) → IsListOf x sought.list p → IsReached x sought.list.head sought.target spot p → IsCell (cell spot)
   spot_fits (Head h) is reached = subst IsHead (sym reached) is.is_head
   spot_fits (Row r) is reached = tt
 
-  pub spot_walks : (spot : Spot) → IsListOf x list p → IsReached x list.head target spot p → MayWalk p.position.rows (cell spot)
+  pub spot_walks : (spot : Spot) → IsListOf x sought.list p → IsReached x sought.list.head sought.target spot p → MayWalk p.position.rows (cell spot)
   spot_walks (Head h) is reached = subst IsHead (sym reached) is.is_head
   spot_walks (Row r) is reached = (reached.0, reached.1)
 
+  abbrev Sweeps : Caller → Cell → Type 0
+  Sweeps q cell = SweepsTo table.start.layout (at_head sought.list.head) (drop n q.made) cell
+
+  -- the sweep stays where it is
+  swept_on : (seek : Seek) (q : Caller) (m : Made) → q.made ≡ p.made ++ m ∷ [] → IsSeeking n table x sought seek p → Sweeps q (cell (spot_of seek))
+  swept_on seek q m made is = sweep_stays n p.made q.made m made is.counted table.start.layout (at_head sought.list.head) (cell (spot_of seek)) is.swept
+
+  -- or begins anew
+  swept_anew : (q : Caller) → Sweeps q (at_head sought.list.head)
+  swept_anew q = sweep_begins table.start.layout (at_head sought.list.head) (drop n q.made)
+
   -- the list goes on being walked
-  go_on : (seek seek' : Seek) (q : Caller) (m : Made) → q.made ≡ p.made ++ m ∷ [] → Stays p q → IsSeeking n table x list target seek p → IsAt n table x list.head target seek' q → IsSeeking n table x list target seek' q
-  go_on seek seek' q m made stays is at = record {
+  go_on : (seek seek' : Seek) (q : Caller) (m : Made) → q.made ≡ p.made ++ m ∷ [] → Stays p q → IsSeeking n table x sought seek p → Sweeps q (cell (spot_of seek')) → IsAt n table x sought seek' q → IsSeeking n table x sought seek' q
+  go_on seek seek' q m made stays is swept at = record {
     counted = let b = is.counted in omega (arith, ap length made, length-append p.made (m ∷ []));
     on = subst IsOn (sym stays.guard) is.on;
     list_is = record { control = ap (λ f. f.control) stays.found ∙ is.list_is.control; generation = is.list_is.generation; is_head = is.list_is.is_head; opened = is.list_is.opened };
     target_is = is.target_is;
+    swept = swept;
     at = at;
   }
 
   -- what is to be done after a spot was passed
-  next_answers : (target' : Target) → target ≡ target' → (seek : Seek) (b : Before) (q : Caller) (m : Made) → q.made ≡ p.made ++ m ∷ [] → Stays p q → IsSeeking n table x list target seek p → q.cut ≡ None
-      → IsPassed n table.start.layout x list.head target b q → left_of b.spot q * 16 + 12 < seek_left seek p
-      → SeekAnswers n table x list target seek (next_seek b target').0 p q (next_seek b target').1
-  next_answers None is seek b q m made stays at none passed low = cond_both (eqb b.link.row 0) (Load b.spot, There b) (Passing b, More) (λ (z : Seek × Sought). SeekAnswers n table x list target seek z.0 p q z.1)
+  next_answers : (target' : Target) → sought.target ≡ target' → (seek : Seek) (b : Before) (q : Caller) (m : Made) → q.made ≡ p.made ++ m ∷ [] → Stays p q → IsSeeking n table x sought seek p → q.cut ≡ None
+      → IsPassed n table.start.layout x sought b q → Sweeps q (cell b.spot) → left_of b.spot q * 16 + 12 < seek_left seek p
+      → SeekAnswers n table x sought seek (next_seek b target').0 p q (next_seek b target').1
+  next_answers None is seek b q m made stays at none passed swept low = cond_both (eqb b.link.row 0) (Load b.spot, Done (There b)) (Passing b, More) (λ (z : Seek × Progress SeekEnd). SeekAnswers n table x sought seek z.0 p q z.1)
       (λ yes. record { none = none; passed = passed; after = inl (eqb-true b.link.row 0 yes) })
       (λ no. let ne = eqb-false b.link.row 0 no in
-      (go_on seek (Passing b) q m made stays at (none, record { passed = passed; some_row = omega arith; up_to = λ e on. subst (λ t. IsUpTo t e b.link.row) (sym is) tt }), inr (omega arith)))
-  next_answers (Some t) is seek b q m made stays at none passed low = cond_both (eqb b.link.row 0) (Load b.spot, There b) (Reading b 2, More) (λ (z : Seek × Sought). SeekAnswers n table x list target seek z.0 p q z.1)
+      (go_on seek (Passing b) q m made stays at swept (none, record { passed = passed; some_row = omega arith; up_to = λ e on. subst (λ t. IsUpTo t e b.link.row) (sym is) tt }), inr (omega arith)))
+  next_answers (Some t) is seek b q m made stays at none passed swept low = cond_both (eqb b.link.row 0) (Load b.spot, Done (There b)) (Reading b 2, More) (λ (z : Seek × Progress SeekEnd). SeekAnswers n table x sought seek z.0 p q z.1)
       (λ yes. record { none = none; passed = passed; after = inl (eqb-true b.link.row 0 yes) })
       (λ no. let ne = eqb-false b.link.row 0 no in
-      (go_on seek (Reading b 2) q m made stays at (none, passed, omega arith, omega arith, omega arith, (t, is, λ e on. (λ n. absurd (omega arith), λ n. absurd (omega arith)))), inr (omega arith)))
+      (go_on seek (Reading b 2) q m made stays at swept (none, passed, omega arith, omega arith, omega arith, (t, is, λ e on. (λ n. absurd (omega arith), λ n. absurd (omega arith)))), inr (omega arith)))
 
   -- Walks
 
@@ -118,18 +133,19 @@ module _ (n : ℕ) (table : Table) (x : Control) (list : ListAt) (target : Targe
   walk_works : (spot : Spot) (l : Link) (e : Event) → Works n false p (seen spot l e)
   walk_works spot l e = record { stays = walk_stays spot l e; step = walk_made spot l; made = refl; kind = refl; expects = λ no. absurd (cc); timed = λ no. absurd (cc) }
 
-  reached_walk : (spot : Spot) (l : Link) (e : Event) → IsReached x list.head target spot p → IsReached x list.head target spot (seen spot l e)
+  reached_walk : (spot : Spot) (l : Link) (e : Event) → IsReached x sought.list.head sought.target spot p → IsReached x sought.list.head sought.target spot (seen spot l e)
   reached_walk (Head h) l e reached = reached
   reached_walk (Row r) l e reached = (reached.0, walk_here r false l e p.position.rows reached.0 reached.1, reached.2, reached.3)
 
   -- a spot that was found present was passed
-  passed_walk : (spot : Spot) (l : Link) (e : Event) → n ≤ length p.made → IsListOf x list p → Lawful p → Lawful (seen spot l e) → IsReached x list.head target spot p → IsLink l → l.mark ≡ Val
-      → WalksOn (cell spot) l e p → IsPassed n table.start.layout x list.head target (record { spot = spot; link = l }) (seen spot l e)
-  passed_walk spot l e begun is law law' reached bits present next = record {
+  passed_walk : (spot : Spot) (l : Link) (e : Event) → n ≤ length p.made → IsListOf x sought.list p → Lawful p → Lawful (seen spot l e) → IsReached x sought.list.head sought.target spot p → IsLink l → l.mark ≡ Val → Sweeps p (cell spot)
+      → WalksOn (cell spot) l e p → IsPassed n table.start.layout x sought (record { spot = spot; link = l }) (seen spot l e)
+  passed_walk spot l e begun is law law' reached bits present swept next = record {
     bits = bits;
     present = present;
     known = known_here n p.made (load_made Walk (index table.start.layout (cell_place (cell spot))) (link_word l)) (index table.start.layout (cell_place (cell spot))) begun refl;
     reached = reached_walk spot l e reached;
+    swept = sweep_passes n p.made (seen spot l e).made (walk_made spot l) refl begun table.start.layout (at_head sought.list.head) (cell spot) l (record { load = refl; bits = bits; present = present }) swept;
     next = λ some. record { event = e; on = walk_next (cell spot) false l e p.position.rows some; belongs = belongs spot reached next some; beyond = beyond spot law' reached next some };
     owed = record {
       ahead = λ d same at owed. let ahead = still_ahead p.found.control (cell spot) p.position.rows l e p.debts.cut d present (past spot reached d same at) owed in
@@ -137,21 +153,21 @@ module _ (n : ℕ) (table : Table) (x : Control) (list : ListAt) (target : Targe
     };
   }
     where
-      belongs : (s : Spot) → IsReached x list.head target s p → WalksOn (cell s) l e p → 0 < l.row → head_of x e ≡ list.head
+      belongs : (s : Spot) → IsReached x sought.list.head sought.target s p → WalksOn (cell s) l e p → 0 < l.row → head_of x e ≡ sought.list.head
       belongs (Head h) reached next some = next x is.control some ∙ reached
       belongs (Row r) reached next some = (next reached.0 reached.1 some).1 x is.control ∙ reached.2
 
-      beyond : (s : Spot) → Lawful (seen s l e) → IsReached x list.head target s p → WalksOn (cell s) l e p → 0 < l.row → IsBeyondSpot s e l.row (seen s l e)
+      beyond : (s : Spot) → Lawful (seen s l e) → IsReached x sought.list.head sought.target s p → WalksOn (cell s) l e p → 0 < l.row → IsBeyondSpot s e l.row (seen s l e)
       beyond (Head h) law' reached next some = tt
       beyond (Row r) law' reached next some = λ f on. subst (λ z. rank z r < rank e l.row) (one_event (seen (Row r) l e) law' r reached.0 f (walk_here r false l e p.position.rows reached.0 reached.1) on) (next reached.0 reached.1 some).0
 
-      past : (s : Spot) → IsReached x list.head target s p → (d : CutDebt) → target ≡ Some (d.event, d.row) → d.head ≡ list.head → is_beyond p.found.control (cell s) p.position.rows d ≡ true
+      past : (s : Spot) → IsReached x sought.list.head sought.target s p → (d : CutDebt) → sought.target ≡ Some (d.event, d.row) → d.head ≡ sought.list.head → is_beyond p.found.control (cell s) p.position.rows d ≡ true
       past (Head h) reached d same at = eq-eqb d.head h (at ∙ sym reached)
       past (Row r) reached d same at = subst (λ z. is_beyond z (at_row r) p.position.rows d ≡ true) (sym is.control)
           (beyond_row x r p.position.rows d reached.0 (λ g on. one_event p law r g reached.0 on reached.1) reached.1 (reached.2 ∙ sym at) (subst (λ t. IsUpTo t reached.0 r) same reached.3))
 
   -- a head of the open table is present
-  pub head_val : (h : ℕ) (l : Link) → IsListOf x list p → IsReached x list.head target (Head h) p → IsWalkable (at_head h) l p → l.mark ≡ Val
+  pub head_val : (h : ℕ) (l : Link) → IsListOf x sought.list p → IsReached x sought.list.head sought.target (Head h) p → IsWalkable (at_head h) l p → l.mark ≡ Val
   head_val h l is reached may = (may x is.control (subst (IsOpen x) (sym reached) is.opened)).0
 
   owed_walk : (spot : Spot) (l : Link) (e : Event) → ((seen spot l e).debts.cut ≡ None) ⊎ ((seen spot l e).debts.cut ≡ p.debts.cut)
@@ -161,48 +177,49 @@ module _ (n : ℕ) (table : Table) (x : Control) (list : ListAt) (target : Targe
   load_low (Head h) q = omega arith
   load_low (Row r) q = omega arith
 
-  pub load_val : (spot : Spot) (l : Link) (e : Event) → IsSeeking n table x list target (Load spot) p → Lawful p → Lawful (seen spot l e) → IsLink l → l.mark ≡ Val → WalksOn (cell spot) l e p
-      → let b : Before = record { spot = spot; link = l } in Told n table x list target (Load spot) (next_seek b target).0 p (seen spot l e) (next_seek b target).1
+  pub load_val : (spot : Spot) (l : Link) (e : Event) → IsSeeking n table x sought (Load spot) p → Lawful p → Lawful (seen spot l e) → IsLink l → l.mark ≡ Val → WalksOn (cell spot) l e p
+      → let b : Before = record { spot = spot; link = l } in Told n table x sought (Load spot) (next_seek b sought.target).0 p (seen spot l e) (next_seek b sought.target).1
   load_val spot l e at law law' bits present next = let b : Before = record { spot = spot; link = l } in record {
     works = walk_works spot l e;
     own = refl;
     written = refl;
     owed = owed_walk spot l e;
-    answers = next_answers target refl (Load spot) b (seen spot l e) (walk_made spot l) refl (walk_stays spot l e) at at.at.0
-        (passed_walk spot l e at.counted at.list_is law law' at.at.1 bits present next) (load_low spot (seen spot l e));
+    answers = next_answers sought.target refl (Load spot) b (seen spot l e) (walk_made spot l) refl (walk_stays spot l e) at at.at.0
+        (passed_walk spot l e at.counted at.list_is law law' at.at.1 bits present at.swept next) (swept_on (Load spot) (seen spot l e) (walk_made spot l) refl at) (load_low spot (seen spot l e));
   }
 
   -- a dead row was found: back to the head
-  pub load_del : (r : ℕ) (l : Link) (e : Event) → IsSeeking n table x list target (Load (Row r)) p → Told n table x list target (Load (Row r)) (Load (Head list.head)) p (seen (Row r) l e) More
+  pub load_del : (r : ℕ) (l : Link) (e : Event) → IsSeeking n table x sought (Load (Row r)) p → Told n table x sought (Load (Row r)) (Load (Head sought.list.head)) p (seen (Row r) l e) More
   load_del r l e at = record {
     works = walk_works (Row r) l e;
     own = refl;
     written = refl;
     owed = owed_walk (Row r) l e;
-    answers = (go_on (Load (Row r)) (Load (Head list.head)) (seen (Row r) l e) (walk_made (Row r) l) refl (walk_stays (Row r) l e) at (at.at.0, refl), inr (omega arith));
+    answers = (go_on (Load (Row r)) (Load (Head sought.list.head)) (seen (Row r) l e) (walk_made (Row r) l) refl (walk_stays (Row r) l e) at (swept_anew (seen (Row r) l e)) (at.at.0, refl), inr (omega arith));
   }
 
   -- Steps that leave what was passed
 
   module _ (q : Caller) (law' : Lawful q) (keeps : (s : ℕ) (f : Event) → StandsOn p.position.rows s f → StandsOn q.position.rows s f) where
-    reached_stays : (spot : Spot) → IsReached x list.head target spot p → IsReached x list.head target spot q
+    reached_stays : (spot : Spot) → IsReached x sought.list.head sought.target spot p → IsReached x sought.list.head sought.target spot q
     reached_stays (Head h) reached = reached
     reached_stays (Row r) reached = (reached.0, keeps r reached.0 reached.1, reached.2, reached.3)
 
-    beyond_stays : (spot : Spot) (e : Event) (r : ℕ) → IsReached x list.head target spot p → IsBeyondSpot spot e r p → IsBeyondSpot spot e r q
+    beyond_stays : (spot : Spot) (e : Event) (r : ℕ) → IsReached x sought.list.head sought.target spot p → IsBeyondSpot spot e r p → IsBeyondSpot spot e r q
     beyond_stays (Head h) e r reached beyond = tt
     beyond_stays (Row s) e r reached beyond = λ f on. subst (λ z. rank z s < rank e r) (one_event q law' s reached.0 f (keeps s reached.0 reached.1) on) (beyond reached.0 reached.1)
 
-    next_stays : (b : Before) → IsReached x list.head target b.spot p → Next x list.head b p → Next x list.head b q
+    next_stays : (b : Before) → IsReached x sought.list.head sought.target b.spot p → Next x sought.list.head b p → Next x sought.list.head b q
     next_stays b reached next = record { event = next.event; on = keeps b.link.row next.event next.on; belongs = next.belongs; beyond = beyond_stays b.spot next.event b.link.row reached next.beyond }
 
-    passed_stays : (b : Before) → last_known (drop n q.made) (index table.start.layout (cell_place (cell b.spot))) ≡ last_known (drop n p.made) (index table.start.layout (cell_place (cell b.spot)))
-        → ((d : CutDebt) → q.debts.cut ≡ Some d → p.debts.cut ≡ Some d) → IsPassed n table.start.layout x list.head target b p → IsPassed n table.start.layout x list.head target b q
-    passed_stays b known owed passed = record {
+    passed_stays : (b : Before) → last_known (drop n q.made) (index table.start.layout (cell_place (cell b.spot))) ≡ last_known (drop n p.made) (index table.start.layout (cell_place (cell b.spot))) → (Sweeps p (at_row b.link.row) → Sweeps q (at_row b.link.row))
+        → ((d : CutDebt) → q.debts.cut ≡ Some d → p.debts.cut ≡ Some d) → IsPassed n table.start.layout x sought b p → IsPassed n table.start.layout x sought b q
+    passed_stays b known sweeps owed passed = record {
       bits = passed.bits;
       present = passed.present;
       known = known ∙ passed.known;
       reached = reached_stays b.spot passed.reached;
+      swept = sweeps passed.swept;
       next = λ some. next_stays b passed.reached (passed.next some);
       owed = record {
         ahead = λ d same at is. let ahead = passed.owed.ahead d same at (owed d is) in let next = passed.next ahead.0 in
@@ -210,22 +227,22 @@ module _ (n : ℕ) (table : Table) (x : Control) (list : ListAt) (target : Targe
       };
     }
 
-    passing_stays : (b : Before) → last_known (drop n q.made) (index table.start.layout (cell_place (cell b.spot))) ≡ last_known (drop n p.made) (index table.start.layout (cell_place (cell b.spot)))
-        → ((d : CutDebt) → q.debts.cut ≡ Some d → p.debts.cut ≡ Some d) → IsPassing n table x list.head target b p → IsPassing n table x list.head target b q
-    passing_stays b known owed at = let next = at.passed.next at.some_row in record {
-      passed = passed_stays b known owed at.passed;
+    passing_stays : (b : Before) → last_known (drop n q.made) (index table.start.layout (cell_place (cell b.spot))) ≡ last_known (drop n p.made) (index table.start.layout (cell_place (cell b.spot))) → (Sweeps p (at_row b.link.row) → Sweeps q (at_row b.link.row))
+        → ((d : CutDebt) → q.debts.cut ≡ Some d → p.debts.cut ≡ Some d) → IsPassing n table x sought b p → IsPassing n table x sought b q
+    passing_stays b known sweeps owed at = let next = at.passed.next at.some_row in record {
+      passed = passed_stays b known sweeps owed at.passed;
       some_row = at.some_row;
-      up_to = λ f on. subst (λ z. IsUpTo target z b.link.row) (one_event q law' b.link.row next.event f (keeps b.link.row next.event next.on) on) (at.up_to next.event next.on);
+      up_to = λ f on. subst (λ z. IsUpTo sought.target z b.link.row) (one_event q law' b.link.row next.event f (keeps b.link.row next.event next.on) on) (at.up_to next.event next.on);
     }
 
-    far_stays : Lawful p → (spot : Spot) → IsReached x list.head target spot p → far spot q ≡ far spot p
+    far_stays : Lawful p → (spot : Spot) → IsReached x sought.list.head sought.target spot p → far spot q ≡ far spot p
     far_stays law (Head h) reached = refl
     far_stays law (Row r) reached = let on' = keeps r reached.0 reached.1 in rank_at_is q.position.rows r reached.0 (λ g on. one_event q law' r g reached.0 on on') on'
         ∙ sym (rank_at_is p.position.rows r reached.0 (λ g on. one_event p law r g reached.0 on reached.1) reached.1)
 
   -- Passing
 
-  far_below : Lawful p → (spot : Spot) (e : Event) (r : ℕ) → 0 < r → IsReached x list.head target spot p → IsBeyondSpot spot e r p → far spot p < rank e r
+  far_below : Lawful p → (spot : Spot) (e : Event) (r : ℕ) → 0 < r → IsReached x sought.list.head sought.target spot p → IsBeyondSpot spot e r p → far spot p < rank e r
   far_below law (Head h) e r some reached beyond = rank_some e r some
   far_below law (Row s) e r some reached beyond = let at = rank_at_is p.position.rows s reached.0 (λ g on. one_event p law s g reached.0 on reached.1) reached.1 in let low = beyond reached.0 reached.1 in omega arith
 
@@ -234,11 +251,11 @@ module _ (n : ℕ) (table : Table) (x : Control) (list : ListAt) (target : Targe
   spot_apart (Head h) e r on beyond s is same = head_row h s is
   spot_apart (Row t) e r on beyond s is same = let one = row_one t s is ∙ same in let low = beyond e (subst (λ z. StandsOn p.position.rows z e) (sym one) on) in let at = ap (rank e) one in omega arith
 
-  pub next_row : (b : Before) → IsPassing n table x list.head target b p → IsReached x list.head target (Row b.link.row) p
+  pub next_row : (b : Before) → IsPassing n table x sought b p → IsReached x sought.list.head sought.target (Row b.link.row) p
   next_row b at = let next = at.passed.next at.some_row in (next.event, next.on, next.belongs, at.up_to next.event next.on)
 
-  pub pass_val : (b : Before) (l : Link) (e : Event) → IsSeeking n table x list target (Passing b) p → Lawful p → Lawful (seen (Row b.link.row) l e) → IsLink l → l.mark ≡ Val → WalksOn (at_row b.link.row) l e p
-      → let a : Before = record { spot = Row b.link.row; link = l } in Told n table x list target (Passing b) (next_seek a target).0 p (seen (Row b.link.row) l e) (next_seek a target).1
+  pub pass_val : (b : Before) (l : Link) (e : Event) → IsSeeking n table x sought (Passing b) p → Lawful p → Lawful (seen (Row b.link.row) l e) → IsLink l → l.mark ≡ Val → WalksOn (at_row b.link.row) l e p
+      → let a : Before = record { spot = Row b.link.row; link = l } in Told n table x sought (Passing b) (next_seek a sought.target).0 p (seen (Row b.link.row) l e) (next_seek a sought.target).1
   pass_val b l e at law law' bits present on = let spot : Spot = Row b.link.row in let a : Before = record { spot = spot; link = l } in
       let q = seen spot l e in
       let reached = next_row b at.at.1 in let next = at.at.1.passed.next at.at.1.some_row in
@@ -251,7 +268,8 @@ module _ (n : ℕ) (table : Table) (x : Control) (list : ListAt) (target : Targe
         own = refl;
         written = refl;
         owed = owed_walk spot l e;
-        answers = next_answers target refl (Passing b) a q (walk_made spot l) refl (walk_stays spot l e) at at.at.0 (passed_walk spot l e at.counted at.list_is law law' reached bits present on) (omega arith);
+        answers = next_answers sought.target refl (Passing b) a q (walk_made spot l) refl (walk_stays spot l e) at at.at.0 (passed_walk spot l e at.counted at.list_is law law' reached bits present at.at.1.passed.swept on)
+            (sweep_stays n p.made q.made (walk_made spot l) refl at.counted table.start.layout (at_head sought.list.head) (at_row b.link.row) at.at.1.passed.swept) (omega arith);
       }
 
   -- the link of a dead row doesn't name the row itself
@@ -261,8 +279,8 @@ module _ (n : ℕ) (table : Table) (x : Control) (list : ListAt) (target : Targe
       let one = one_event q law' r f e (dead_kept r l e p.position.rows r f dead on) there in
       let high = subst (λ z. rank f r < rank e z) same (up f on some).0 in let even = ap (λ z. rank z r) one in omega arith
 
-  pub pass_del : (b : Before) (l : Link) (e : Event) → IsSeeking n table x list target (Passing b) p → Lawful p → Lawful (seen (Row b.link.row) l e) → IsLink l → l.mark ≡ Del → WalksOn (at_row b.link.row) l e p
-      → Told n table x list target (Passing b) (Cutting b l) p (seen (Row b.link.row) l e) More
+  pub pass_del : (b : Before) (l : Link) (e : Event) → IsSeeking n table x sought (Passing b) p → Lawful p → Lawful (seen (Row b.link.row) l e) → IsLink l → l.mark ≡ Del → WalksOn (at_row b.link.row) l e p
+      → Told n table x sought (Passing b) (Cutting b l) p (seen (Row b.link.row) l e) More
   pass_del b l e at law law' bits dead on = let spot : Spot = Row b.link.row in let q = seen spot l e in
       let keeps : (s : ℕ) (f : Event) → StandsOn p.position.rows s f → StandsOn q.position.rows s f = λ s f. dead_kept b.link.row l e p.position.rows s f dead in
       let passing = at.at.1 in let next = passing.passed.next passing.some_row in
@@ -274,8 +292,8 @@ module _ (n : ℕ) (table : Table) (x : Control) (list : ListAt) (target : Targe
         written = refl;
         owed = owed_walk spot l e;
         answers = (
-          go_on (Passing b) (Cutting b l) q (walk_made spot l) refl (walk_stays spot l e) at
-              (at.at.0, passing_stays q law' keeps b known (λ d. was_owed p.found.control (at_row b.link.row) p.position.rows l e p.debts.cut d) passing, bits, dead, link_onward b.link.row l e next.event law' passing.some_row dead next.on on, dead_last b.link.row l e p.position.rows next.event dead next.on),
+          go_on (Passing b) (Cutting b l) q (walk_made spot l) refl (walk_stays spot l e) at (swept_on (Passing b) q (walk_made spot l) refl at)
+              (at.at.0, passing_stays q law' keeps b known (sweep_stays n p.made q.made (walk_made spot l) refl at.counted table.start.layout (at_head sought.list.head) (at_row b.link.row)) (λ d. was_owed p.found.control (at_row b.link.row) p.position.rows l e p.debts.cut d) passing, bits, dead, link_onward b.link.row l e next.event law' passing.some_row dead next.on on, dead_last b.link.row l e p.position.rows next.event dead next.on),
           inr (omega arith),
         );
       }
@@ -288,7 +306,7 @@ module _ (n : ℕ) (table : Table) (x : Control) (list : ListAt) (target : Targe
   abbrev read_made : ℕ → ℕ → ℕ → Made
   read_made r place word = load_made Read (index table.start.layout (row_place r place)) word
 
-  module _ (b : Before) (place word : ℕ) (t : Event × ℕ) (is : target ≡ Some t) (at : IsSeeking n table x list target (Reading b place) p) (law : Lawful p) (law' : Lawful (read_of b.link.row place word))
+  module _ (b : Before) (place word : ℕ) (t : Event × ℕ) (is : sought.target ≡ Some t) (at : IsSeeking n table x sought (Reading b place) p) (law : Lawful p) (law' : Lawful (read_of b.link.row place word))
       (tells : (e : Event) → StandsOn p.position.rows b.link.row e → word ≡ event_word e place) where
     read_works : Works n false p (read_of b.link.row place word)
     read_works = record {
@@ -300,20 +318,22 @@ module _ (n : ℕ) (table : Table) (x : Control) (list : ListAt) (target : Targe
       timed = λ no. absurd (cc);
     }
 
-    read_goes : (seek' : Seek) → IsAt n table x list.head target seek' (read_of b.link.row place word) → IsSeeking n table x list target seek' (read_of b.link.row place word)
-    read_goes seek' there = go_on (Reading b place) seek' (read_of b.link.row place word) (read_made b.link.row place word) refl (record { number = refl; start = refl; deal = refl; found = refl; guard = refl }) at there
+    read_goes : (seek' : Seek) → spot_of seek' ≡ b.spot → IsAt n table x sought seek' (read_of b.link.row place word) → IsSeeking n table x sought seek' (read_of b.link.row place word)
+    read_goes seek' spot there = go_on (Reading b place) seek' (read_of b.link.row place word) (read_made b.link.row place word) refl (record { number = refl; start = refl; deal = refl; found = refl; guard = refl }) at
+        (subst (λ s. Sweeps (read_of b.link.row place word) (cell s)) (sym spot) (swept_on (Reading b place) (read_of b.link.row place word) (read_made b.link.row place word) refl at)) there
 
-    read_passed : IsPassed n table.start.layout x list.head target b (read_of b.link.row place word)
+    read_passed : IsPassed n table.start.layout x sought b (read_of b.link.row place word)
     read_passed = passed_stays (read_of b.link.row place word) law' (λ s f on. on) b
         (known_else n p.made (read_made b.link.row place word) (index table.start.layout (cell_place (cell b.spot))) at.counted
-        (event_apart table.start.layout b.link.row place (cell b.spot) at.at.2 at.at.3 (spot_fits b.spot at.list_is at.at.1.reached))) (λ d o. o) at.at.1
+        (event_apart table.start.layout b.link.row place (cell b.spot) at.at.2 at.at.3 (spot_fits b.spot at.list_is at.at.1.reached)))
+        (sweep_stays n p.made (read_of b.link.row place word).made (read_made b.link.row place word) refl at.counted table.start.layout (at_head sought.list.head) (at_row b.link.row)) (λ d o. o) at.at.1
 
     far_same : (spot : Spot) → far spot (read_of b.link.row place word) ≡ far spot p
     far_same (Head h) = refl
     far_same (Row r) = refl
 
-    read_told : (seek' : Seek) (answer : Sought) → SeekAnswers n table x list target (Reading b place) seek' p (read_of b.link.row place word) answer
-        → Told n table x list target (Reading b place) seek' p (read_of b.link.row place word) answer
+    read_told : (seek' : Seek) (answer : Progress SeekEnd) → SeekAnswers n table x sought (Reading b place) seek' p (read_of b.link.row place word) answer
+        → Told n table x sought (Reading b place) seek' p (read_of b.link.row place word) answer
     read_told seek' answer answers = record { works = read_works; own = refl; written = refl; owed = inr refl; answers = answers }
 
     has_read : (e : Event) → StandsOn p.position.rows b.link.row e → HasRead place e t.0
@@ -322,15 +342,15 @@ module _ (n : ℕ) (table : Table) (x : Control) (list : ListAt) (target : Targe
     found_key : (e : Event) → StandsOn p.position.rows b.link.row e → part_of word place ≡ key_part e place
     found_key e on = ap (λ z. part_of z place) (tells e on) ∙ part_is e place (stand_fits p law b.link.row e on).1 at.at.3 at.at.4
 
-    -- the word is that of the target, and there is one more to read
-    pub read_next : part_of word place ≡ key_part t.0 place → place < 4 → Told n table x list target (Reading b place) (Reading b (place + 1)) p (read_of b.link.row place word) More
+    -- the word is that of the sought.target, and there is one more to read
+    pub read_next : part_of word place ≡ key_part t.0 place → place < 4 → Told n table x sought (Reading b place) (Reading b (place + 1)) p (read_of b.link.row place word) More
     read_next same low = let still = far_same b.spot in read_told (Reading b (place + 1)) More
-        (read_goes (Reading b (place + 1)) (at.at.0, read_passed, at.at.2, (let two = at.at.3 in omega arith), omega arith, (t, is, λ e on. read_more e t.0 place at.at.3 low (has_read e on) (sym (found_key e on) ∙ same))), inr (omega arith))
+        (read_goes (Reading b (place + 1)) refl (at.at.0, read_passed, at.at.2, (let two = at.at.3 in omega arith), omega arith, (t, is, λ e on. read_more e t.0 place at.at.3 low (has_read e on) (sym (found_key e on) ∙ same))), inr (omega arith))
 
-    -- the next row doesn't come after the target
-    pub read_up : (part_of word place < key_part t.0 place) ⊎ ((part_of word place ≡ key_part t.0 place) × (4 ≤ place) × (b.link.row ≤ t.1)) → Told n table x list target (Reading b place) (Passing b) p (read_of b.link.row place word) More
+    -- the next row doesn't come after the sought.target
+    pub read_up : (part_of word place < key_part t.0 place) ⊎ ((part_of word place ≡ key_part t.0 place) × (4 ≤ place) × (b.link.row ≤ t.1)) → Told n table x sought (Reading b place) (Passing b) p (read_of b.link.row place word) More
     read_up h = let high = at.at.4 in let still = far_same b.spot in read_told (Passing b) More
-        (read_goes (Passing b) (at.at.0, record { passed = read_passed; some_row = at.at.2; up_to = λ e on. subst (λ z. IsUpTo z e b.link.row) (sym is) (low e on h) }), inr (omega arith))
+        (read_goes (Passing b) refl (at.at.0, record { passed = read_passed; some_row = at.at.2; up_to = λ e on. subst (λ z. IsUpTo z e b.link.row) (sym is) (low e on h) }), inr (omega arith))
       where
         low : (e : Event) → StandsOn p.position.rows b.link.row e → (part_of word place < key_part t.0 place) ⊎ ((part_of word place ≡ key_part t.0 place) × (4 ≤ place) × (b.link.row ≤ t.1)) → rank e b.link.row ≤ rank t.0 t.1
         low e on h = let fits = stand_fits p law b.link.row e on in let key = found_key e on in ⊎_elim
@@ -339,8 +359,8 @@ module _ (n : ℕ) (table : Table) (x : Control) (list : ListAt) (target : Targe
             (key_same e t.0 b.link.row t.1 (subst (λ z. HasRead z e t.0) four (has_read e on)) (subst (λ z. key_part e z ≡ key_part t.0 z) four (sym key ∙ same.0))).0 same.2) h
 
     -- the next row comes after it
-    pub read_past : (key_part t.0 place < part_of word place) ⊎ ((part_of word place ≡ key_part t.0 place) × (4 ≤ place) × (t.1 < b.link.row)) → Told n table x list target (Reading b place) (Load b.spot) p (read_of b.link.row place word) (There b)
-    read_past h = let next = at.at.1.next at.at.2 in read_told (Load b.spot) (There b)
+    pub read_past : (key_part t.0 place < part_of word place) ⊎ ((part_of word place ≡ key_part t.0 place) × (4 ≤ place) × (t.1 < b.link.row)) → Told n table x sought (Reading b place) (Load b.spot) p (read_of b.link.row place word) (Done (There b))
+    read_past h = let next = at.at.1.next at.at.2 in read_told (Load b.spot) (Done (There b))
         (record { none = at.at.0; passed = read_passed; after = inr (next.event, next.on, subst (λ z. IsAfter z next.event b.link.row) (sym is) (λ fits row. high next.event next.on fits row h)) })
       where
         high : (e : Event) → StandsOn p.position.rows b.link.row e → IsEvent t.0 → t.1 < 2 ^ 24 → (key_part t.0 place < part_of word place) ⊎ ((part_of word place ≡ key_part t.0 place) × (4 ≤ place) × (t.1 < b.link.row)) → rank t.0 t.1 < rank e b.link.row
@@ -351,64 +371,64 @@ module _ (n : ℕ) (table : Table) (x : Control) (list : ListAt) (target : Targe
 
   -- Cutting
 
-  pub may_cut : (b : Before) (last : Link) → IsSeeking n table x list target (Cutting b last) p → MayCut (cell b.spot) b.link.row last p
+  pub may_cut : (b : Before) (last : Link) → IsSeeking n table x sought (Cutting b last) p → MayCut (cell b.spot) b.link.row last p
   may_cut b last at = record { none = at.at.0; cell_is = spot_walks b.spot at.list_is at.at.1.passed.reached; on = at.at.5; dead = at.at.3 }
 
   abbrev pub cut_made : Before → Link → ℕ → Made
   cut_made b last found = step_made Cut (index table.start.layout (cell_place (cell b.spot))) (link_word b.link) (link_word (record b.link { row = last.row })) found
 
-  reached_cut : (spot : Spot) (e : Event) (r : ℕ) (m : Made) → StandsOn p.position.rows r e → IsBeyondSpot spot e r p → IsReached x list.head target spot p → IsReached x list.head target spot (makes m (cuts r p))
+  reached_cut : (spot : Spot) (e : Event) (r : ℕ) (m : Made) → StandsOn p.position.rows r e → IsBeyondSpot spot e r p → IsReached x sought.list.head sought.target spot p → IsReached x sought.list.head sought.target spot (makes m (cuts r p))
   reached_cut (Head h) e r m on beyond reached = reached
   reached_cut (Row s) e r m on beyond reached = (reached.0, without_stands r p.position.rows s reached.0 (spot_apart (Row s) e r on beyond s refl) reached.1, reached.2, reached.3)
 
-  pub cut_won : (b : Before) (last : Link) (found : ℕ) → IsSeeking n table x list target (Cutting b last) p → Told n table x list target (Cutting b last) (Tagging b.spot b.link.row) p (makes (cut_made b last found) (cuts b.link.row p)) More
+  pub cut_won : (b : Before) (last : Link) (found : ℕ) → IsSeeking n table x sought (Cutting b last) p → Told n table x sought (Cutting b last) (Tagging b.spot b.link.row) p (makes (cut_made b last found) (cuts b.link.row p)) More
   cut_won b last found at = let passed = at.at.1.passed in let next = passed.next at.at.1.some_row in let stays : Stays p (makes (cut_made b last found) (cuts b.link.row p)) = record { number = refl; start = refl; deal = refl; found = refl; guard = refl } in record {
     works = record { stays = stays; step = cut_made b last found; made = refl; kind = refl; expects = λ _. (passed.known, rows_apart b.link last.row at.at.4); timed = λ no. absurd (cc) };
     own = refl;
     written = refl;
     owed = ⊎_elim inr inl (unnamed_is b.link.row p.debts.cut);
     answers = (
-      go_on (Cutting b last) (Tagging b.spot b.link.row) (makes (cut_made b last found) (cuts b.link.row p)) (cut_made b last found) refl stays at
+      go_on (Cutting b last) (Tagging b.spot b.link.row) (makes (cut_made b last found) (cuts b.link.row p)) (cut_made b last found) refl stays at (swept_on (Cutting b last) (makes (cut_made b last found) (cuts b.link.row p)) (cut_made b last found) refl at)
           (reached_cut b.spot next.event b.link.row (cut_made b last found) next.on next.beyond passed.reached, (record { row = b.link.row; tags = [] }, refl, refl)),
       inl refl,
     );
   }
 
-  pub cut_lost : (b : Before) (last : Link) (found : ℕ) → IsSeeking n table x list target (Cutting b last) p → Told n table x list target (Cutting b last) (Load (Head list.head)) p (makes (cut_made b last found) p) More
+  pub cut_lost : (b : Before) (last : Link) (found : ℕ) → IsSeeking n table x sought (Cutting b last) p → Told n table x sought (Cutting b last) (Load (Head sought.list.head)) p (makes (cut_made b last found) p) More
   cut_lost b last found at = let stays : Stays p (makes (cut_made b last found) p) = record { number = refl; start = refl; deal = refl; found = refl; guard = refl } in record {
     works = record { stays = stays; step = cut_made b last found; made = refl; kind = refl; expects = λ _. (at.at.1.passed.known, rows_apart b.link last.row at.at.4); timed = λ no. absurd (cc) };
     own = refl;
     written = refl;
     owed = inr refl;
-    answers = (go_on (Cutting b last) (Load (Head list.head)) (makes (cut_made b last found) p) (cut_made b last found) refl stays at (at.at.0, refl), inl refl);
+    answers = (go_on (Cutting b last) (Load (Head sought.list.head)) (makes (cut_made b last found) p) (cut_made b last found) refl stays at (swept_anew (makes (cut_made b last found) p)) (at.at.0, refl), inl refl);
   }
 
   -- Tagging and retiring
 
-  reached_same : (spot : Spot) (q : Caller) → q.position.rows ≡ p.position.rows → IsReached x list.head target spot p → IsReached x list.head target spot q
+  reached_same : (spot : Spot) (q : Caller) → q.position.rows ≡ p.position.rows → IsReached x sought.list.head sought.target spot p → IsReached x sought.list.head sought.target spot q
   reached_same (Head h) q same reached = reached
   reached_same (Row r) q same reached = (reached.0, subst (λ ss. StandsOn ss r reached.0) (sym same) reached.1, reached.2, reached.3)
 
-  pub tag_told : (spot : Spot) (row e : ℕ) → IsSeeking n table x list target (Tagging spot row) p
-      → Told n table x list target (Tagging spot row) (Retiring spot row e) p (makes (load_made EpochLoad (index table.start.layout epoch) e) (loads_epoch e p)) More
+  pub tag_told : (spot : Spot) (row e : ℕ) → IsSeeking n table x sought (Tagging spot row) p
+      → Told n table x sought (Tagging spot row) (Retiring spot row e) p (makes (load_made EpochLoad (index table.start.layout epoch) e) (loads_epoch e p)) More
   tag_told spot row e at = let m = load_made EpochLoad (index table.start.layout epoch) e in let q = makes m (loads_epoch e p) in let y = at.at.1 in
       let stays : Stays p q = record { number = refl; start = refl; deal = refl; found = refl; guard = refl } in record {
         works = record { stays = stays; step = m; made = refl; kind = refl; expects = λ no. absurd (cc); timed = λ no. absurd (cc) };
         own = refl;
         written = refl;
         owed = inr refl;
-        answers = (go_on (Tagging spot row) (Retiring spot row e) q m refl stays at (reached_same spot q refl at.at.0, (record y.0 { tags = e ∷ y.0.tags }, ap (tagged e) y.1, y.2, inl refl)), inr (omega arith));
+        answers = (go_on (Tagging spot row) (Retiring spot row e) q m refl stays at (swept_on (Tagging spot row) q m refl at) (reached_same spot q refl at.at.0, (record y.0 { tags = e ∷ y.0.tags }, ap (tagged e) y.1, y.2, inl refl)), inr (omega arith));
       }
 
-  pub retire_told : (spot : Spot) (row tag : ℕ) → IsSeeking n table x list target (Retiring spot row tag) p
-      → Told n table x list target (Retiring spot row tag) (Load spot) p (makes (store_made Retire (index table.start.layout (stamp row)) (tag + 1)) (retires p)) More
+  pub retire_told : (spot : Spot) (row tag : ℕ) → IsSeeking n table x sought (Retiring spot row tag) p
+      → Told n table x sought (Retiring spot row tag) (Load spot) p (makes (store_made Retire (index table.start.layout (stamp row)) (tag + 1)) (retires p)) More
   retire_told spot row tag at = let m = store_made Retire (index table.start.layout (stamp row)) (tag + 1) in let q = makes m (retires p) in
       let stays : Stays p q = record { number = refl; start = refl; deal = refl; found = refl; guard = refl } in record {
         works = record { stays = stays; step = m; made = refl; kind = refl; expects = λ no. absurd (cc); timed = λ no. absurd (cc) };
         own = refl;
         written = refl;
         owed = inr refl;
-        answers = (go_on (Retiring spot row tag) (Load spot) q m refl stays at (refl, reached_same spot q refl at.at.0), inr (low spot));
+        answers = (go_on (Retiring spot row tag) (Load spot) q m refl stays at (swept_on (Retiring spot row tag) q m refl at) (refl, reached_same spot q refl at.at.0), inr (low spot));
       }
     where
       low : (spot : Spot) → seek_left (Load spot) (makes (store_made Retire (index table.start.layout (stamp row)) (tag + 1)) (retires p)) < seek_left (Retiring spot row tag) p
@@ -417,11 +437,11 @@ module _ (n : ℕ) (table : Table) (x : Control) (list : ListAt) (target : Targe
 
 -- The same of the pass
 
-module _ (n : ℕ) (table : Table) (x : Control) (list : ListAt) (target : Target) (old new : Pass) where
+module _ (n : ℕ) (table : Table) (x : Control) (sought : Sought) (old new : Pass) where
   -- a load or a store leaves what the pass has at run time
-  stepped : (seek seek' : Seek) (q : Caller) (answer : Sought) → IsPassOf table new → new ≡ record old { seat = new.seat } → caller table new ≡ q → seek_exchanges seek ≡ false
-      → Told n table x list target seek seek' (caller table old) q answer → SeekStepped n table x list target seek seek' old new answer
-  stepped seek seek' q answer is same part loads at = let told = subst (λ z. Told n table x list target seek seek' (caller table old) z answer) (sym part) at in record {
+  stepped : (seek seek' : Seek) (q : Caller) (answer : Progress SeekEnd) → IsPassOf table new → new ≡ record old { seat = new.seat } → caller table new ≡ q → seek_exchanges seek ≡ false
+      → Told n table x sought seek seek' (caller table old) q answer → SeekStepped n table x sought seek seek' old new answer
+  stepped seek seek' q answer is same part loads at = let told = subst (λ z. Told n table x sought seek seek' (caller table old) z answer) (sym part) at in record {
     is = is;
     works = told.works;
     turns = ap (λ (z : Pass). z.turns) same ∙ ap (λ b. turns_after b old.turns) (sym loads);
@@ -434,9 +454,9 @@ module _ (n : ℕ) (table : Table) (x : Control) (list : ListAt) (target : Targe
     answers = told.answers;
   }
 
-  exchanged : (b : Before) (last : Link) (won : Bool) (seek' : Seek) (q : Caller) (answer : Sought) → CutSwapped table old new (cell b.spot) b.link last won → caller table new ≡ q
-      → Told n table x list target (Cutting b last) seek' (caller table old) q answer → SeekStepped n table x list target (Cutting b last) seek' old new answer
-  exchanged b last won seek' q answer cut part at = let told = subst (λ z. Told n table x list target (Cutting b last) seek' (caller table old) z answer) (sym part) at in record {
+  exchanged : (b : Before) (last : Link) (won : Bool) (seek' : Seek) (q : Caller) (answer : Progress SeekEnd) → CutSwapped table old new (cell b.spot) b.link last won → caller table new ≡ q
+      → Told n table x sought (Cutting b last) seek' (caller table old) q answer → SeekStepped n table x sought (Cutting b last) seek' old new answer
+  exchanged b last won seek' q answer cut part at = let told = subst (λ z. Told n table x sought (Cutting b last) seek' (caller table old) z answer) (sym part) at in record {
     is = cut.swapped.is;
     works = told.works;
     turns = cut.swapped.turns;
@@ -449,72 +469,82 @@ module _ (n : ℕ) (table : Table) (x : Control) (list : ListAt) (target : Targe
     answers = told.answers;
   }
 
-  pub load_present : (spot : Spot) (l : Link) (to : Seek × Sought) → IsPassOf table old → Saw table old new (cell spot) false l → l.mark ≡ Val → to ≡ next_seek (record { spot = spot; link = l }) target
-      → IsSeeking n table x list target (Load spot) (caller table old) → SeekStepped n table x list target (Load spot) to.0 old new to.1
+  pub load_present : (spot : Spot) (l : Link) (to : Seek × Progress SeekEnd) → IsPassOf table old → Saw table old new (cell spot) false l → l.mark ≡ Val → to ≡ next_seek (record { spot = spot; link = l }) sought.target
+      → IsSeeking n table x sought (Load spot) (caller table old) → SeekStepped n table x sought (Load spot) to.0 old new to.1
   load_present spot l to of saw present is at = let p = caller table old in let b : Before = record { spot = spot; link = l } in
-      subst (λ (z : Seek × Sought). SeekStepped n table x list target (Load spot) z.0 old new z.1) (sym is)
-      (stepped (Load spot) (next_seek b target).0 (seen n table x list target p spot l saw.event) (next_seek b target).1 saw.is saw.same saw.part refl
-      (load_val n table x list target p spot l saw.event at of.lawful (subst Lawful saw.part saw.is.lawful) saw.is_link present saw.next))
+      subst (λ (z : Seek × Progress SeekEnd). SeekStepped n table x sought (Load spot) z.0 old new z.1) (sym is)
+      (stepped (Load spot) (next_seek b sought.target).0 (seen n table x sought p spot l saw.event) (next_seek b sought.target).1 saw.is saw.same saw.part refl
+      (load_val n table x sought p spot l saw.event at of.lawful (subst Lawful saw.part saw.is.lawful) saw.is_link present saw.next))
 
-  pub load_dead : (spot : Spot) (l : Link) → Saw table old new (cell spot) false l → l.mark ≡ Del → IsSeeking n table x list target (Load spot) (caller table old)
-      → SeekStepped n table x list target (Load spot) (Load (Head list.head)) old new More
-  load_dead (Row r) l saw dead at = stepped (Load (Row r)) (Load (Head list.head)) (seen n table x list target (caller table old) (Row r) l saw.event) More saw.is saw.same saw.part refl (load_del n table x list target (caller table old) r l saw.event at)
-  load_dead (Head h) l saw dead at = absurd (val_del l (head_val n table x list target (caller table old) h l at.list_is at.at.1 saw.marked) dead)
+  pub load_dead : (spot : Spot) (l : Link) → Saw table old new (cell spot) false l → l.mark ≡ Del → IsSeeking n table x sought (Load spot) (caller table old)
+      → SeekStepped n table x sought (Load spot) (Load (Head sought.list.head)) old new More
+  load_dead (Row r) l saw dead at = stepped (Load (Row r)) (Load (Head sought.list.head)) (seen n table x sought (caller table old) (Row r) l saw.event) More saw.is saw.same saw.part refl (load_del n table x sought (caller table old) r l saw.event at)
+  load_dead (Head h) l saw dead at = absurd (val_del l (head_val n table x sought (caller table old) h l at.list_is at.at.1 saw.marked) dead)
 
-  pub pass_present : (b : Before) (l : Link) (to : Seek × Sought) → IsPassOf table old → Saw table old new (at_row b.link.row) false l → l.mark ≡ Val → to ≡ next_seek (record { spot = Row b.link.row; link = l }) target
-      → IsSeeking n table x list target (Passing b) (caller table old) → SeekStepped n table x list target (Passing b) to.0 old new to.1
+  pub pass_present : (b : Before) (l : Link) (to : Seek × Progress SeekEnd) → IsPassOf table old → Saw table old new (at_row b.link.row) false l → l.mark ≡ Val → to ≡ next_seek (record { spot = Row b.link.row; link = l }) sought.target
+      → IsSeeking n table x sought (Passing b) (caller table old) → SeekStepped n table x sought (Passing b) to.0 old new to.1
   pass_present b l to of saw present is at = let p = caller table old in let a : Before = record { spot = Row b.link.row; link = l } in
-      subst (λ (z : Seek × Sought). SeekStepped n table x list target (Passing b) z.0 old new z.1) (sym is)
-      (stepped (Passing b) (next_seek a target).0 (seen n table x list target p (Row b.link.row) l saw.event) (next_seek a target).1 saw.is saw.same saw.part refl
-      (pass_val n table x list target p b l saw.event at of.lawful (subst Lawful saw.part saw.is.lawful) saw.is_link present saw.next))
+      subst (λ (z : Seek × Progress SeekEnd). SeekStepped n table x sought (Passing b) z.0 old new z.1) (sym is)
+      (stepped (Passing b) (next_seek a sought.target).0 (seen n table x sought p (Row b.link.row) l saw.event) (next_seek a sought.target).1 saw.is saw.same saw.part refl
+      (pass_val n table x sought p b l saw.event at of.lawful (subst Lawful saw.part saw.is.lawful) saw.is_link present saw.next))
 
   pub pass_dead : (b : Before) (l : Link) → IsPassOf table old → Saw table old new (at_row b.link.row) false l → l.mark ≡ Del
-      → IsSeeking n table x list target (Passing b) (caller table old) → SeekStepped n table x list target (Passing b) (Cutting b l) old new More
-  pass_dead b l of saw dead at = stepped (Passing b) (Cutting b l) (seen n table x list target (caller table old) (Row b.link.row) l saw.event) More saw.is saw.same saw.part refl
-      (pass_del n table x list target (caller table old) b l saw.event at of.lawful (subst Lawful saw.part saw.is.lawful) saw.is_link dead saw.next)
+      → IsSeeking n table x sought (Passing b) (caller table old) → SeekStepped n table x sought (Passing b) (Cutting b l) old new More
+  pass_dead b l of saw dead at = stepped (Passing b) (Cutting b l) (seen n table x sought (caller table old) (Row b.link.row) l saw.event) More saw.is saw.same saw.part refl
+      (pass_del n table x sought (caller table old) b l saw.event at of.lawful (subst Lawful saw.part saw.is.lawful) saw.is_link dead saw.next)
 
   pub cut_done : (b : Before) (last : Link) (won : Bool) → won ≡ true → CutSwapped table old new (cell b.spot) b.link last won
-      → IsSeeking n table x list target (Cutting b last) (caller table old) → SeekStepped n table x list target (Cutting b last) (Tagging b.spot b.link.row) old new More
-  cut_done b last won is cut at = let p = caller table old in let m = cut_made n table x list target p b last cut.swapped.found in
-      exchanged b last won (Tagging b.spot b.link.row) (makes m (cuts b.link.row p)) More cut (cut.swapped.part ∙ ap (λ w. makes m (where_won w (cuts b.link.row) p)) is) (cut_won n table x list target p b last cut.swapped.found at)
+      → IsSeeking n table x sought (Cutting b last) (caller table old) → SeekStepped n table x sought (Cutting b last) (Tagging b.spot b.link.row) old new More
+  cut_done b last won is cut at = let p = caller table old in let m = cut_made n table x sought p b last cut.swapped.found in
+      exchanged b last won (Tagging b.spot b.link.row) (makes m (cuts b.link.row p)) More cut (cut.swapped.part ∙ ap (λ w. makes m (where_won w (cuts b.link.row) p)) is) (cut_won n table x sought p b last cut.swapped.found at)
 
   pub cut_missed : (b : Before) (last : Link) (won : Bool) → won ≡ false → CutSwapped table old new (cell b.spot) b.link last won
-      → IsSeeking n table x list target (Cutting b last) (caller table old) → SeekStepped n table x list target (Cutting b last) (Load (Head list.head)) old new More
-  cut_missed b last won is cut at = let p = caller table old in let m = cut_made n table x list target p b last cut.swapped.found in
-      exchanged b last won (Load (Head list.head)) (makes m p) More cut (cut.swapped.part ∙ ap (λ w. makes m (where_won w (cuts b.link.row) p)) is) (cut_lost n table x list target p b last cut.swapped.found at)
+      → IsSeeking n table x sought (Cutting b last) (caller table old) → SeekStepped n table x sought (Cutting b last) (Load (Head sought.list.head)) old new More
+  cut_missed b last won is cut at = let p = caller table old in let m = cut_made n table x sought p b last cut.swapped.found in
+      exchanged b last won (Load (Head sought.list.head)) (makes m p) More cut (cut.swapped.part ∙ ap (λ w. makes m (where_won w (cuts b.link.row) p)) is) (cut_lost n table x sought p b last cut.swapped.found at)
 
-  module _ (b : Before) (place word : ℕ) (t : Event × ℕ) (is : target ≡ Some t) (of : IsPassOf table old)
+  pub tags_row : (spot : Spot) (row e : ℕ) → Stepped table old new (load_made EpochLoad (index table.start.layout epoch) e) (loads_epoch e)
+      → IsSeeking n table x sought (Tagging spot row) (caller table old) → SeekStepped n table x sought (Tagging spot row) (Retiring spot row e) old new More
+  tags_row spot row e s at = let p = caller table old in
+      stepped (Tagging spot row) (Retiring spot row e) (makes (load_made EpochLoad (index table.start.layout epoch) e) (loads_epoch e p)) More s.is s.same s.part refl (tag_told n table x sought p spot row e at)
+
+  pub retires_row : (spot : Spot) (row tag : ℕ) → Stepped table old new (store_made Retire (index table.start.layout (stamp row)) (tag + 1)) retires
+      → IsSeeking n table x sought (Retiring spot row tag) (caller table old) → SeekStepped n table x sought (Retiring spot row tag) (Load spot) old new More
+  retires_row spot row tag s at = let p = caller table old in
+      stepped (Retiring spot row tag) (Load spot) (makes (store_made Retire (index table.start.layout (stamp row)) (tag + 1)) (retires p)) More s.is s.same s.part refl (retire_told n table x sought p spot row tag at)
+
+  module _ (b : Before) (place word : ℕ) (t : Event × ℕ) (is : sought.target ≡ Some t) (of : IsPassOf table old)
       (read : Stepped table old new (load_made Read (index table.start.layout (row_place b.link.row place)) word) stays)
-      (tells : (e : Event) → StandsOn (caller table old).position.rows b.link.row e → word ≡ event_word e place) (at : IsSeeking n table x list target (Reading b place) (caller table old)) where
-    reads : (seek' : Seek) (answer : Sought) → Told n table x list target (Reading b place) seek' (caller table old) (read_of n table x list target (caller table old) b.link.row place word) answer
-        → SeekStepped n table x list target (Reading b place) seek' old new answer
-    reads seek' answer told = stepped (Reading b place) seek' (read_of n table x list target (caller table old) b.link.row place word) answer read.is read.same read.part refl told
+      (tells : (e : Event) → StandsOn (caller table old).position.rows b.link.row e → word ≡ event_word e place) (at : IsSeeking n table x sought (Reading b place) (caller table old)) where
+    reads : (seek' : Seek) (answer : Progress SeekEnd) → Told n table x sought (Reading b place) seek' (caller table old) (read_of n table x sought (caller table old) b.link.row place word) answer
+        → SeekStepped n table x sought (Reading b place) seek' old new answer
+    reads seek' answer told = stepped (Reading b place) seek' (read_of n table x sought (caller table old) b.link.row place word) answer read.is read.same read.part refl told
 
-    pub reads_next : part_of word place ≡ key_part t.0 place → place < 4 → SeekStepped n table x list target (Reading b place) (Reading b (place + 1)) old new More
-    reads_next same low = reads (Reading b (place + 1)) More (read_next n table x list target (caller table old) b place word t is at of.lawful (subst Lawful read.part read.is.lawful) tells same low)
+    pub reads_next : part_of word place ≡ key_part t.0 place → place < 4 → SeekStepped n table x sought (Reading b place) (Reading b (place + 1)) old new More
+    reads_next same low = reads (Reading b (place + 1)) More (read_next n table x sought (caller table old) b place word t is at of.lawful (subst Lawful read.part read.is.lawful) tells same low)
 
-    pub reads_up : (part_of word place < key_part t.0 place) ⊎ ((part_of word place ≡ key_part t.0 place) × (4 ≤ place) × (b.link.row ≤ t.1)) → SeekStepped n table x list target (Reading b place) (Passing b) old new More
-    reads_up h = reads (Passing b) More (read_up n table x list target (caller table old) b place word t is at of.lawful (subst Lawful read.part read.is.lawful) tells h)
+    pub reads_up : (part_of word place < key_part t.0 place) ⊎ ((part_of word place ≡ key_part t.0 place) × (4 ≤ place) × (b.link.row ≤ t.1)) → SeekStepped n table x sought (Reading b place) (Passing b) old new More
+    reads_up h = reads (Passing b) More (read_up n table x sought (caller table old) b place word t is at of.lawful (subst Lawful read.part read.is.lawful) tells h)
 
-    pub reads_past : (key_part t.0 place < part_of word place) ⊎ ((part_of word place ≡ key_part t.0 place) × (4 ≤ place) × (t.1 < b.link.row)) → SeekStepped n table x list target (Reading b place) (Load b.spot) old new (There b)
-    reads_past h = reads (Load b.spot) (There b) (read_past n table x list target (caller table old) b place word t is at of.lawful (subst Lawful read.part read.is.lawful) tells h)
+    pub reads_past : (key_part t.0 place < part_of word place) ⊎ ((part_of word place ≡ key_part t.0 place) × (4 ≤ place) × (t.1 < b.link.row)) → SeekStepped n table x sought (Reading b place) (Load b.spot) old new (Done (There b))
+    reads_past h = reads (Load b.spot) (Done (There b)) (read_past n table x sought (caller table old) b place word t is at of.lawful (subst Lawful read.part read.is.lawful) tells h)
 
 -- a step of a walk that is at this one of its states
-pub step_as : (table : Table) (list : ListAt) (target : Target) (old new : Pass) (seek at seek' : Seek) (answer : Sought) → seek ≡ at
-    → ((n : ℕ) (x : Control) → IsSeeking n table x list target at (caller table old) → SeekStepped n table x list target at seek' old new answer)
-    → (n : ℕ) (x : Control) → IsSeeking n table x list target seek (caller table old) → SeekStepped n table x list target seek seek' old new answer
-step_as table list target old new seek at seek' answer is step n x h =
-    subst (λ s. SeekStepped n table x list target s seek' old new answer) (sym is) (step n x (subst (λ s. IsSeeking n table x list target s (caller table old)) is h))
+pub step_as : (table : Table) (sought : Sought) (old new : Pass) (seek at seek' : Seek) (answer : Progress SeekEnd) → seek ≡ at
+    → ((n : ℕ) (x : Control) → IsSeeking n table x sought at (caller table old) → SeekStepped n table x sought at seek' old new answer)
+    → (n : ℕ) (x : Control) → IsSeeking n table x sought seek (caller table old) → SeekStepped n table x sought seek seek' old new answer
+step_as table sought old new seek at seek' answer is step n x h =
+    subst (λ s. SeekStepped n table x sought s seek' old new answer) (sym is) (step n x (subst (λ s. IsSeeking n table x sought s (caller table old)) is h))
 
 -- A cut of dead rows
 
-there_clean : (n : ℕ) (table : Table) (x : Control) (q : ℕ) (target : Target) (b : Before) (p : Caller) → Lawful p → IsThere n table x q target b p → (d : CutDebt) → target ≡ Some (d.event, d.row) → d.head ≡ q → p.debts.cut ≡ Some d → ⊥
-there_clean n table x q target b p law there d is at owed = let ahead = there.passed.owed.ahead d is at owed in let fits = law.owed_fits d owed in let row = fits.0.1 in let all = p.start.layout.all_fit in ⊎_elim
+there_clean : (n : ℕ) (table : Table) (x : Control) (sought : Sought) (b : Before) (p : Caller) → Lawful p → IsThere n table x sought b p → (d : CutDebt) → sought.target ≡ Some (d.event, d.row) → d.head ≡ sought.list.head → p.debts.cut ≡ Some d → ⊥
+there_clean n table x sought b p law there d is at owed = let ahead = there.passed.owed.ahead d is at owed in let fits = law.owed_fits d owed in let row = fits.0.1 in let all = p.start.layout.all_fit in ⊎_elim
     (λ none. let some = ahead.0 in omega arith)
     (λ past. let low = ahead.1 past.0 past.1 in let high : rank d.event d.row < rank past.0 b.link.row = subst (λ t. IsAfter t past.0 b.link.row) is past.2 fits.1 (omega arith) in omega arith) there.after
 
--- the walk came to the place of its target
-pub cut_ends : (n : ℕ) (table : Table) (x : Control) (op op' : CutOp) (b : Before) (old new : Pass) → SeekStepped n table x op.list op.upto op.seek op'.seek old new (There b) → CutStepped n table x op op' old new (Done Clean)
+-- the walk came to the place of its sought.target
+pub cut_ends : (n : ℕ) (table : Table) (x : Control) (op op' : CutOp) (b : Before) (old new : Pass) → SeekStepped n table x op.sought op.seek op'.seek old new (Done (There b)) → CutStepped n table x op op' old new (Done Clean)
 cut_ends n table x op op' b old new at = record {
   is = at.is;
   works = at.works;
@@ -524,5 +554,5 @@ cut_ends n table x op op' b old new at = record {
   debts = at.debts;
   own = at.own;
   owed = at.owed;
-  answers = (at.answers.none, there_clean n table x op.list.head op.upto b (caller table new) at.is.lawful at.answers);
+  answers = (at.answers.none, there_clean n table x op.sought b (caller table new) at.is.lawful at.answers, record { row = b.link.row; sweeps = at.answers.passed.swept; ends = at.answers.after });
 }

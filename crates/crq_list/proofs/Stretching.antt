@@ -7,10 +7,11 @@ use Rattle.crq_rule.specs.declared.pass.Table.{Table}
 use Rattle.crq_rows.specs.Passes.{caller, IsPassOf}
 use Rattle.crq_list.specs.declared.parts.ListAt.{ListAt}
 use Rattle.crq_list.specs.declared.parts.Progress.{Progress}
-use Rattle.crq_list.specs.declared.parts.Progress.TheVariants.{More}
+use Rattle.crq_list.specs.declared.parts.Progress.TheVariants.{More, Done}
 use Rattle.crq_list.specs.declared.seek.Seek.{Seek}
 use Rattle.crq_list.specs.declared.seek.Sought.{Sought}
-use Rattle.crq_list.specs.declared.seek.Sought.TheVariants.{More as Further, There, Frozen as FoundFrozen}
+use Rattle.crq_list.specs.declared.seek.SeekEnd.{SeekEnd}
+use Rattle.crq_list.specs.declared.seek.SeekEnd.TheVariants.{There, Frozen as FoundFrozen}
 use Rattle.crq_list.specs.declared.insert.InsertOp.{InsertOp}
 use Rattle.crq_list.specs.declared.insert.Inserting.{Inserting}
 use Rattle.crq_list.specs.declared.insert.Inserting.TheVariants.{Seeking}
@@ -19,7 +20,7 @@ use Rattle.crq_list.specs.Spots.{Target}
 use Rattle.crq_list.specs.Stretches.{Stretch, ends, goes_on}
 use Rattle.crq_list.specs.Seeking.{IsSeeking, SeekStepped, SeekStretch, seek_exchanges}
 use Rattle.crq_list.specs.Cutting.{CutStepped, CutStretch, progress_of}
-use Rattle.crq_list.specs.Inserting.{target_of, IsInserting, InsertStepped, InsertStretch, after_seek, insert_exchanges}
+use Rattle.crq_list.specs.Inserting.{sought_by, IsInserting, InsertStepped, InsertStretch, after_seek, insert_exchanges}
 use Rattle.crq_list.specs.declared.take.MarkEnd.{MarkEnd}
 use Rattle.crq_list.specs.declared.take.TakeOp.{TakeOp}
 use Rattle.crq_list.specs.declared.take.Taking.{Taking}
@@ -57,48 +58,48 @@ fell exchanges left less plain told = ⊎_elim (λ yes. absurd (false≢true (sy
 
 -- A cut
 
-pub cut_told : (n : ℕ) (table : Table) (x : Control) (list : ListAt) (upto : Target) (seek seek' : Seek) (old new : Pass) (answer : Sought) → SeekStepped n table x list upto seek seek' old new answer
-    → CutStepped n table x (record { list = list; upto = upto; seek = seek }) (record { list = list; upto = upto; seek = seek' }) old new (progress_of answer)
-cut_told n table x list upto seek seek' old new Further s = record { is = s.is; works = s.works; turns = s.turns; number = s.number; free = s.free; debts = s.debts; own = s.own; owed = s.owed; answers = (s.answers.0, refl, s.answers.1) }
-cut_told n table x list upto seek seek' old new (There b) s = cut_ends n table x (record { list = list; upto = upto; seek = seek }) (record { list = list; upto = upto; seek = seek' }) b old new s
-cut_told n table x list upto seek seek' old new FoundFrozen s = absurd s.answers
+pub cut_told : (n : ℕ) (table : Table) (x : Control) (sought : Sought) (seek seek' : Seek) (old new : Pass) (answer : Progress SeekEnd) → SeekStepped n table x sought seek seek' old new answer
+    → CutStepped n table x (record { sought = sought; seek = seek }) (record { sought = sought; seek = seek' }) old new (progress_of answer)
+cut_told n table x sought seek seek' old new More s = record { is = s.is; works = s.works; turns = s.turns; number = s.number; free = s.free; debts = s.debts; own = s.own; owed = s.owed; answers = (s.answers.0, refl, s.answers.1) }
+cut_told n table x sought seek seek' old new (Done (There b)) s = cut_ends n table x (record { sought = sought; seek = seek }) (record { sought = sought; seek = seek' }) b old new s
+cut_told n table x sought seek seek' old new (Done FoundFrozen) s = absurd s.answers
 
-pub cut_stretch : (n : ℕ) (table : Table) (x : Control) (list : ListAt) (upto : Target) (seek seek' : Seek) (old new : Pass) (answer : Sought) → SeekStretch n table x list upto seek seek' old new answer
-    → CutStretch n table x (record { list = list; upto = upto; seek = seek }) (record { list = list; upto = upto; seek = seek' }) old new (progress_of answer)
-cut_stretch n table x list upto seek seek' old new answer (ends _ _ _ _ _ s) = ends _ _ old new _ (cut_told n table x list upto seek seek' old new answer s)
-cut_stretch n table x list upto seek seek' old new answer (goes_on _ mid _ _ between _ _ s plain rest) =
-    goes_on _ (record { list = list; upto = upto; seek = mid }) _ old between new _ (cut_told n table x list upto seek mid old between Further s) plain (cut_stretch n table x list upto mid seek' between new answer rest)
+pub cut_stretch : (n : ℕ) (table : Table) (x : Control) (sought : Sought) (seek seek' : Seek) (old new : Pass) (answer : Progress SeekEnd) → SeekStretch n table x sought seek seek' old new answer
+    → CutStretch n table x (record { sought = sought; seek = seek }) (record { sought = sought; seek = seek' }) old new (progress_of answer)
+cut_stretch n table x sought seek seek' old new answer (ends _ _ _ _ _ s) = ends _ _ old new _ (cut_told n table x sought seek seek' old new answer s)
+cut_stretch n table x sought seek seek' old new answer (goes_on _ mid _ _ between _ _ s plain rest) =
+    goes_on _ (record { sought = sought; seek = mid }) _ old between new _ (cut_told n table x sought seek mid old between More s) plain (cut_stretch n table x sought mid seek' between new answer rest)
 
 -- An insertion
 
-pub seek_told : (n : ℕ) (table : Table) (x : Control) (op : InsertOp) (seek seek' : Seek) (old new : Pass) (answer : Sought) → IsPassOf table old → IsInserting n table x (record op { state = Seeking seek }) (caller table old)
-    → SeekStepped n table x op.list (target_of op) seek seek' old new answer → InsertStepped n table x (record op { state = Seeking seek }) (record op { state = (after_seek seek' answer).0 }) old new (after_seek seek' answer).1
-seek_told n table x op seek seek' old new Further of i s = seeks_on n table x op old new seek seek' of i s
-seek_told n table x op seek seek' old new (There b) of i s = seeks_there n table x op old new seek seek' b of i s
-seek_told n table x op seek seek' old new FoundFrozen of i s = absurd s.answers
+pub seek_told : (n : ℕ) (table : Table) (x : Control) (op : InsertOp) (seek seek' : Seek) (old new : Pass) (answer : Progress SeekEnd) → IsPassOf table old → IsInserting n table x (record op { state = Seeking seek }) (caller table old)
+    → SeekStepped n table x (sought_by op) seek seek' old new answer → InsertStepped n table x (record op { state = Seeking seek }) (record op { state = (after_seek seek' answer).0 }) old new (after_seek seek' answer).1
+seek_told n table x op seek seek' old new More of i s = seeks_on n table x op old new seek seek' of i s
+seek_told n table x op seek seek' old new (Done (There b)) of i s = seeks_there n table x op old new seek seek' b of i s
+seek_told n table x op seek seek' old new (Done FoundFrozen) of i s = absurd s.answers
 
-pub insert_stretch : (n : ℕ) (table : Table) (x : Control) (op : InsertOp) (seek seek' : Seek) (old new : Pass) (answer : Sought) → IsPassOf table old → IsInserting n table x (record op { state = Seeking seek }) (caller table old)
-    → SeekStretch n table x op.list (target_of op) seek seek' old new answer → InsertStretch n table x (record op { state = Seeking seek }) (record op { state = (after_seek seek' answer).0 }) old new (after_seek seek' answer).1
+pub insert_stretch : (n : ℕ) (table : Table) (x : Control) (op : InsertOp) (seek seek' : Seek) (old new : Pass) (answer : Progress SeekEnd) → IsPassOf table old → IsInserting n table x (record op { state = Seeking seek }) (caller table old)
+    → SeekStretch n table x (sought_by op) seek seek' old new answer → InsertStretch n table x (record op { state = Seeking seek }) (record op { state = (after_seek seek' answer).0 }) old new (after_seek seek' answer).1
 insert_stretch n table x op seek seek' old new answer of i (ends _ _ _ _ _ s) = ends _ _ old new _ (seek_told n table x op seek seek' old new answer of i s)
-insert_stretch n table x op seek seek' old new answer of i (goes_on _ mid _ _ between _ _ s plain rest) = let told = seek_told n table x op seek mid old between Further of i s in
+insert_stretch n table x op seek seek' old new answer of i (goes_on _ mid _ _ between _ _ s plain rest) = let told = seek_told n table x op seek mid old between More of i s in
     goes_on _ (record op { state = Seeking mid }) _ old between new _ told plain (insert_stretch n table x op mid seek' between new answer told.is told.answers.0 rest)
 
 -- Where a stretch told that there is more to do: the pass, what is known, and the stretch to that state
 
-module _ (n : ℕ) (table : Table) (x : Control) (list : ListAt) (target : Target) where
-  pub seek_part : (first now : Seek) (old mid : Pass) (told : Seek × Sought) → told.0 ≡ now → told.1 ≡ Further → SeekStretch n table x list target first told.0 old mid told.1
-      → IsPassOf table mid × IsSeeking n table x list target now (caller table mid) × SeekStretch n table x list target first now old mid Further
-  seek_part first now old mid told at more run = let part = subst (λ (z : Seek × Sought). SeekStretch n table x list target first z.0 old mid z.1) (λ i. (at i, more i)) run in
-      let left = stretch_leaves Seek Sought (SeekStepped n table x list target) seek_exchanges Further (λ s p. IsPassOf table p × IsSeeking n table x list target s (caller table p)) (λ s s' p q step. (step.is, step.answers.0)) first now old mid part in
+module _ (n : ℕ) (table : Table) (x : Control) (sought : Sought) where
+  pub seek_part : (first now : Seek) (old mid : Pass) (told : Seek × Progress SeekEnd) → told.0 ≡ now → told.1 ≡ More → SeekStretch n table x sought first told.0 old mid told.1
+      → IsPassOf table mid × IsSeeking n table x sought now (caller table mid) × SeekStretch n table x sought first now old mid More
+  seek_part first now old mid told at more run = let part = subst (λ (z : Seek × Progress SeekEnd). SeekStretch n table x sought first z.0 old mid z.1) (λ i. (at i, more i)) run in
+      let left = stretch_leaves Seek (Progress SeekEnd) (SeekStepped n table x sought) seek_exchanges More (λ s p. IsPassOf table p × IsSeeking n table x sought s (caller table p)) (λ s s' p q step. (step.is, step.answers.0)) first now old mid part in
       (left.0, left.1, part)
 
   -- after a stretch the pass is one of the table, and if there is more to do, what is known is so
-  pub seek_holds : (first now : Seek) (old mid : Pass) (answer : Sought) → SeekStretch n table x list target first now old mid answer → IsPassOf table mid × (answer ≡ Further → IsSeeking n table x list target now (caller table mid))
-  seek_holds first now old mid answer (ends _ _ _ _ _ step) = (step.is, λ more. (subst (λ z. SeekStepped n table x list target first now old mid z) more step).answers.0)
+  pub seek_holds : (first now : Seek) (old mid : Pass) (answer : Progress SeekEnd) → SeekStretch n table x sought first now old mid answer → IsPassOf table mid × (answer ≡ More → IsSeeking n table x sought now (caller table mid))
+  seek_holds first now old mid answer (ends _ _ _ _ _ step) = (step.is, λ more. (subst (λ z. SeekStepped n table x sought first now old mid z) more step).answers.0)
   seek_holds first now old mid answer (goes_on _ next _ _ between _ _ step still then) = seek_holds next now between mid answer then
 
-  pub seek_on : (first now last : Seek) (old mid new : Pass) (answer : Sought) → SeekStretch n table x list target first now old mid Further → seek_exchanges now ≡ false → SeekStretch n table x list target now last mid new answer → SeekStretch n table x list target first last old new answer
-  seek_on = stretch_on Seek Sought (SeekStepped n table x list target) seek_exchanges Further
+  pub seek_on : (first now last : Seek) (old mid new : Pass) (answer : Progress SeekEnd) → SeekStretch n table x sought first now old mid More → seek_exchanges now ≡ false → SeekStretch n table x sought now last mid new answer → SeekStretch n table x sought first last old new answer
+  seek_on = stretch_on Seek (Progress SeekEnd) (SeekStepped n table x sought) seek_exchanges More
 
 module _ (n : ℕ) (table : Table) (x : Control) (op : InsertOp) where
   pub insert_part : (first : InsertOp) (now : Inserting) (old mid : Pass) (told : Inserting × Progress InsertEnd) → told.0 ≡ now → told.1 ≡ More → InsertStretch n table x first (record op { state = told.0 }) old mid told.1

@@ -42,7 +42,7 @@ use Rattle.crq_list.proofs.StepLaws.{marks_apart}
 use Rattle.crq_list.specs.Known.{is_exchange, Works, turns_after}
 use Rattle.crq_list.specs.Spots.{rank_at}
 use Rattle.crq_list.specs.Swaps.{Saw, MarkSwapped, where_won}
-use Rattle.crq_list.specs.Taking.{IsPresent, IsRead, IsTakingAt, IsTaking, taking_exchanges, taking_left, TakeAnswers, TakeStepped}
+use Rattle.crq_list.specs.Taking.{IsPresent, IsRead, IsTakingAt, IsTaking, taking_exchanges, taking_left, StopsAt, TakeAnswers, TakeStepped}
 
 -- the words of a row's event are other words than its link
 other_word : (l : Layout) (r place : ℕ) → 2 ≤ place → place < 6 → index l (row_place r place) ≢ index l (link_place r)
@@ -177,14 +177,15 @@ module _ (n : ℕ) (table : Table) (x : Control) (op : TakeOp) (s : Taking) (old
   )
 
   -- or at a row that isn't below the limit
-  pub past : (y : Walk) (e : Event) → w ≡ Some y → StandsOn a.rows y.at e → op.limit ≤ e.time → TakeStepped n table x is_op (record op { state = Load }) old new (Done (Beyond e))
-  past y e walks on high = loaded (record op { state = Load }) (Done (Beyond e)) (
+  pub past : (y : Walk) (e : Event) → w ≡ Some y → StandsOn a.rows y.at e → op.limit ≤ e.time → StopsAt n table e now → TakeStepped n table x is_op (record op { state = Load }) old new (Done (Beyond e))
+  past y e walks on high stops = loaded (record op { state = Load }) (Done (Beyond e)) (
     ap (λ (z : Caller). z.own) h.part,
     ap (λ (z : Pass). z.debts) h.same,
     missing op.limit (y, walks, inr (e, on, high)),
     high,
     ap (λ (z : Caller). z.cut) h.part ∙ t.uncut,
     ap (λ (z : Caller). z.debts.cut) h.part,
+    subst (StopsAt n table e) (sym h.part) stops,
   )
 
 walking_no : (r r' : ℕ) (l : Link) (e : Event) → Walking r ≡ Marking r' l e → ⊥
@@ -312,7 +313,7 @@ module _ (n : ℕ) (table : Table) (x : Control) (op : TakeOp) (r : ℕ) (l : Li
 
   pub beyond_stepped : 5 ≤ place → op.limit ≤ got.time → TakeStepped n table x (record op { state = Reading r l place read }) (record op { state = Load }) old new (Done (Beyond got))
   beyond_stepped five high = let y = t.at.0.at in past n table x op (Reading r l place read) old new _ _ _ (read_loads table old new _ found t.free h) refl t y.0 got y.1
-      (subst (λ z. StandsOn (caller table old).position.rows z got) (sym y.2) (whole five)) high
+      (subst (λ z. StandsOn (caller table old).position.rows z got) (sym y.2) (whole five)) high (r, l, still n table r place l found (caller table old) t.counted t.at.1 t.at.2 t.at.0, whole five)
 
   pub whole_stepped : 5 ≤ place → got.time < op.limit → TakeStepped n table x (record op { state = Reading r l place read }) (record op { state = Marking r l got }) old new More
   whole_stepped five low = more n table x op (Reading r l place read) old new _ _ _ (read_loads table old new _ found t.free h) refl t (Marking r l got) (λ r' l' e' q. subst (λ (z : Event). z.time < op.limit) (marking_one r r' l l' got e' q) low)

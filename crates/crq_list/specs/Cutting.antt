@@ -1,36 +1,50 @@
 -- Cutting dead rows out of a list: what is known between two steps, and what each step tells.
-use Rattle.std.specs.Prelude.{◌≡◌, ◌⊎◌, ℕ, ◌<◌, Bool, true, Some, None}
+use Rattle.std.specs.Prelude.{◌≡◌, ◌⊎◌, ℕ, ◌<◌, Bool, true, drop, Some, None}
+use Rattle.crq_base.specs.declared.event.Event.{Event}
 use Rattle.crq_base.specs.declared.words.Control.{Control}
 use Rattle.crq_rule.specs.declared.pass.Pass.{Pass}
 use Rattle.crq_rule.specs.declared.pass.Table.{Table}
 use Rattle.crq_rule.specs.declared.debts.CutDebt.{CutDebt}
+use Rattle.crq_rule.specs.declared.layout.Layout.{Layout}
 use Rattle.crq_rule.specs.declared.view.Caller.{Caller}
+use Rattle.crq_rule.specs.Ranks.{at_head, at_row}
+use Rattle.crq_rule.specs.ListKinds.{StandsOn}
 use Rattle.crq_rows.specs.Passes.{caller, IsPassOf}
 use Rattle.crq_list.specs.declared.parts.Progress.{Progress}
 use Rattle.crq_list.specs.declared.parts.Progress.TheVariants.{More, Done}
 use Rattle.crq_list.specs.declared.cut.CutEnd.{CutEnd}
 use Rattle.crq_list.specs.declared.cut.CutEnd.TheVariants.{Clean, Frozen}
 use Rattle.crq_list.specs.declared.cut.CutOp.{CutOp}
-use Rattle.crq_list.specs.declared.seek.Sought.{Sought}
-use Rattle.crq_list.specs.declared.seek.Sought.TheVariants.{More as Further, There, Frozen as FoundFrozen}
+use Rattle.crq_list.specs.declared.seek.SeekEnd.{SeekEnd}
+use Rattle.crq_list.specs.declared.seek.SeekEnd.TheVariants.{There, Frozen as FoundFrozen}
 use Rattle.crq_list.specs.Known.{Works, turns_after}
 use Rattle.crq_list.specs.Stretches.{Stretch}
+use Rattle.crq_list.specs.Operations.{Operation}
+use Rattle.crq_list.specs.Sweeps.{SweepsTo}
+use Rattle.crq_list.specs.Spots.{Target, IsAfter}
 use Rattle.crq_list.specs.Seeking.{IsSeeking, seek_exchanges, seek_left}
 
 -- a caller that cuts the dead rows of a list of the table that it found
 abbrev pub IsCutting : ℕ → Table → Control → CutOp → Caller → Type 0
-IsCutting n table x op p = IsSeeking n table x op.list op.upto op.seek p
+IsCutting n table x op p = IsSeeking n table x op.sought op.seek p
 
 -- what a step of the walk says of the cut
-abbrev pub progress_of : Sought → Progress CutEnd
-progress_of Further = More
-progress_of (There b) = Done Clean
-progress_of FoundFrozen = Done Frozen
+abbrev pub progress_of : Progress SeekEnd → Progress CutEnd
+progress_of More = More
+progress_of (Done (There b)) = Done Clean
+progress_of (Done FoundFrozen) = Done Frozen
 
--- a dead row that was the target isn't owed any more
+-- Since its first n steps the caller swept the list q: from its head on to its end, or to a row that comes after the target. Each row on the way was present when its link was loaded: so each dead one that was met was cut out
+-- of the way before
+pub record HasSwept (n : ℕ) (l : Layout) (q : ℕ) (target : Target) (p : Caller) : Type 0 where
+  pub row : ℕ
+  pub sweeps : SweepsTo l (at_head q) (drop n p.made) (at_row row)
+  pub ends : (row ≡ 0) ⊎ ((e : Event) × StandsOn p.position.rows row e × IsAfter target e row)
+
+-- The list was swept up to the row asked for, and without one to its end. A dead row that was the target isn't owed any more
 abbrev pub CutAnswers : ℕ → Table → Control → CutOp → CutOp → Caller → Caller → Progress CutEnd → Type 0
 CutAnswers n table x op op' p q More = IsCutting n table x op' q × (op' ≡ record op { seek = op'.seek }) × ((seek_exchanges op.seek ≡ true) ⊎ (seek_left op'.seek q < seek_left op.seek p))
-CutAnswers n table x op op' p q (Done Clean) = (q.cut ≡ None) × ((d : CutDebt) → op.upto ≡ Some (d.event, d.row) → d.head ≡ op.list.head → q.debts.cut ≡ Some d → ⊥)
+CutAnswers n table x op op' p q (Done Clean) = (q.cut ≡ None) × ((d : CutDebt) → op.sought.target ≡ Some (d.event, d.row) → d.head ≡ op.sought.list.head → q.debts.cut ≡ Some d → ⊥) × HasSwept n table.start.layout op.sought.list.head op.sought.target q
 CutAnswers n table x op op' p q (Done Frozen) = ⊥
 
 -- one step of it was made
@@ -51,3 +65,7 @@ cut_exchanges op = seek_exchanges op.seek
 -- one step of it was made, and then maybe others that are no exchanges
 abbrev pub CutStretch : ℕ → Table → Control → CutOp → CutOp → Pass → Pass → Progress CutEnd → Type 0
 CutStretch n table x = Stretch CutOp (Progress CutEnd) (CutStepped n table x) cut_exchanges More
+
+-- the cut, as an operation
+abbrev pub the_cut : Operation CutOp CutEnd
+the_cut = record { at = IsCutting; stepped = CutStepped; exchanges = cut_exchanges }

@@ -20,24 +20,27 @@ use Rattle.crq_list.specs.declared.insert.Inserting.{Inserting}
 use Rattle.crq_list.specs.declared.insert.Inserting.TheVariants.{Writing, Seeking, Placing, Linking}
 use Rattle.crq_list.specs.declared.seek.Seek.{Seek}
 use Rattle.crq_list.specs.declared.seek.Sought.{Sought}
-use Rattle.crq_list.specs.declared.seek.Sought.TheVariants.{More as Further, There, Frozen as FoundFrozen}
+use Rattle.crq_list.specs.declared.seek.SeekEnd.{SeekEnd}
+use Rattle.crq_list.specs.declared.seek.SeekEnd.TheVariants.{There, Frozen as FoundFrozen}
 use Rattle.crq_list.specs.Known.{Works, turns_after}
 use Rattle.crq_list.specs.Stretches.{Stretch}
-use Rattle.crq_list.specs.Spots.{Target, IsListOf}
+use Rattle.crq_list.specs.Operations.{Operation}
+use Rattle.crq_list.specs.Spots.{IsListOf}
 use Rattle.crq_list.specs.Seeking.{IsSeeking, IsThere, seek_exchanges, seek_left}
 
 -- the words at the places 1 to before `upto` were written into the row: no twin, and the event
 abbrev pub AreWritten : List Wrote → ℕ → Event → ℕ → Type 0
 AreWritten written r e upto = (1 < upto → In (record { row = r; place = 1; word = 0 }) written) × ((place : ℕ) → 2 ≤ place → place < upto → place < 6 → In (record { row = r; place = place; word = event_word e place }) written)
 
-abbrev pub target_of : InsertOp → Target
-target_of op = Some (op.event, op.row)
+-- what its walk seeks
+abbrev pub sought_by : InsertOp → Sought
+sought_by op = record { list = op.list; target = Some (op.event, op.row) }
 
 abbrev pub IsInsertingAt : ℕ → Table → Control → InsertOp → Inserting → Caller → Type 0
 IsInsertingAt n table x op (Writing place) p = (p.cut ≡ None) × (1 ≤ place) × (place < 6) × AreWritten p.written op.row op.event place
-IsInsertingAt n table x op (Seeking seek) p = IsSeeking n table x op.list (target_of op) seek p × AreWritten p.written op.row op.event 6
-IsInsertingAt n table x op (Placing b) p = IsThere n table x op.list.head (target_of op) b p × AreWritten p.written op.row op.event 6
-IsInsertingAt n table x op (Linking b) p = IsThere n table x op.list.head (target_of op) b p × IsWritten p.written op.row op.event b.link
+IsInsertingAt n table x op (Seeking seek) p = IsSeeking n table x (sought_by op) seek p × AreWritten p.written op.row op.event 6
+IsInsertingAt n table x op (Placing b) p = IsThere n table x (sought_by op) b p × AreWritten p.written op.row op.event 6
+IsInsertingAt n table x op (Linking b) p = IsThere n table x (sought_by op) b p × IsWritten p.written op.row op.event b.link
 
 -- a caller that inserts its row in hand, with a fresh event of its sources, into the event's list of the table that it found
 pub record IsInserting (n : ℕ) (table : Table) (x : Control) (op : InsertOp) (p : Caller) : Type 0 where
@@ -66,10 +69,10 @@ state_left (Placing b) p = 2
 state_left (Linking b) p = 1
 
 -- what follows on steps of the walk, which is there
-abbrev pub after_seek : Seek → Sought → Inserting × Progress InsertEnd
-after_seek seek Further = (Seeking seek, More)
-after_seek seek (There b) = (Placing b, More)
-after_seek seek FoundFrozen = (Seeking seek, Done Frozen)
+abbrev pub after_seek : Seek → Progress SeekEnd → Inserting × Progress InsertEnd
+after_seek seek More = (Seeking seek, More)
+after_seek seek (Done (There b)) = (Placing b, More)
+after_seek seek (Done FoundFrozen) = (Seeking seek, Done Frozen)
 
 abbrev pub InsertAnswers : ℕ → Table → Control → InsertOp → InsertOp → Pass → Pass → Progress InsertEnd → Type 0
 InsertAnswers n table x op op' old new More =
@@ -92,3 +95,10 @@ pub record InsertStepped (n : ℕ) (table : Table) (x : Control) (op op' : Inser
 -- one step of it was made, and then maybe others that are no exchanges
 abbrev pub InsertStretch : ℕ → Table → Control → InsertOp → InsertOp → Pass → Pass → Progress InsertEnd → Type 0
 InsertStretch n table x = Stretch InsertOp (Progress InsertEnd) (InsertStepped n table x) insert_exchanges More
+
+-- the insertion, as an operation; and at this state
+abbrev pub the_insertion : Operation InsertOp InsertEnd
+the_insertion = record { at = IsInserting; stepped = InsertStepped; exchanges = insert_exchanges }
+
+abbrev pub insertion_at : InsertOp → Inserting → InsertOp
+insertion_at op state = record op { state = state }

@@ -1,7 +1,9 @@
 pub mod Known
+pub mod Sweeps
 pub mod Spots
 pub mod Swaps
 pub mod Stretches
+pub mod Operations
 pub mod Seeking
 pub mod Inserting
 pub mod Cutting

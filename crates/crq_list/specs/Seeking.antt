@@ -1,5 +1,5 @@
 -- Walking a list to a target, with dead rows cut on the way: what is known between two steps, and what each step tells.
-use Rattle.std.specs.Prelude.{◌≡◌, ◌≢◌, ◌⊎◌, ℕ, ◌+◌, ◌-◌, ◌*◌, ◌^◌, ◌<◌, ◌≤◌, ◌==◌, ◌/◌, cond, Bool, true, false, length, Some, None}
+use Rattle.std.specs.Prelude.{◌≡◌, ◌≢◌, ◌⊎◌, ℕ, ◌+◌, ◌-◌, ◌*◌, ◌^◌, ◌<◌, ◌≤◌, ◌==◌, ◌/◌, cond, Bool, true, false, length, drop, Some, None}
 use Rattle.crq_base.specs.declared.event.Event.{Event}
 use Rattle.crq_base.specs.declared.words.Mark.TheVariants.{Del}
 use Rattle.crq_base.specs.declared.words.Control.{Control}
@@ -11,50 +11,66 @@ use Rattle.crq_rule.specs.declared.view.Stand.{Stand}
 use Rattle.crq_rule.specs.declared.view.Caller.{Caller}
 use Rattle.crq_rule.specs.Lists.{In}
 use Rattle.crq_rule.specs.Parts.{IsOn}
+use Rattle.crq_rule.specs.Ranks.{at_head}
 use Rattle.crq_rule.specs.ListKinds.{StandsOn}
 use Rattle.crq_rows.specs.Passes.{caller, IsPassOf}
-use Rattle.crq_list.specs.declared.parts.ListAt.{ListAt}
+use Rattle.crq_list.specs.declared.parts.Spot.{Spot}
 use Rattle.crq_list.specs.declared.parts.Spot.TheVariants.{Head, Row}
 use Rattle.crq_list.specs.declared.parts.Before.{Before}
 use Rattle.crq_list.specs.declared.seek.Seek.{Seek}
 use Rattle.crq_list.specs.declared.seek.Seek.TheVariants.{Load, Reading, Passing, Cutting, Tagging, Retiring}
 use Rattle.crq_list.specs.declared.seek.Sought.{Sought}
-use Rattle.crq_list.specs.declared.seek.Sought.TheVariants.{More, There, Frozen}
+use Rattle.crq_list.specs.declared.seek.SeekEnd.{SeekEnd}
+use Rattle.crq_list.specs.declared.seek.SeekEnd.TheVariants.{There, Frozen}
+use Rattle.crq_list.specs.declared.parts.Progress.{Progress}
+use Rattle.crq_list.specs.declared.parts.Progress.TheVariants.{More, Done}
 use Rattle.crq_list.specs.Known.{Works, turns_after}
 use Rattle.crq_list.specs.Stretches.{Stretch}
-use Rattle.crq_list.specs.Spots.{Target, IsUpTo, IsAfter, IsReached, IsPassed, IsListOf, IsTarget, left_of}
+use Rattle.crq_list.specs.Operations.{Operation}
+use Rattle.crq_list.specs.Sweeps.{SweepsTo}
+use Rattle.crq_list.specs.Spots.{cell, Target, IsUpTo, IsAfter, IsReached, IsPassed, IsListOf, IsTarget, left_of}
 
 -- the words of the next row's event that were read are those of the target: the time and source, before the place that is read next
 abbrev pub HasRead : ℕ → Event → Event → Type 0
 HasRead place e t = (2 < place → e.time ≡ t.time) × (3 < place → e.src ≡ t.src)
 
 -- the next row doesn't come after the target
-pub record IsPassing (n : ℕ) (table : Table) (x : Control) (q : ℕ) (target : Target) (b : Before) (p : Caller) : Type 0 where
-  pub passed : IsPassed n table.start.layout x q target b p
+pub record IsPassing (n : ℕ) (table : Table) (x : Control) (sought : Sought) (b : Before) (p : Caller) : Type 0 where
+  pub passed : IsPassed n table.start.layout x sought b p
   pub some_row : 0 < b.link.row
-  pub up_to : (e : Event) → StandsOn p.position.rows b.link.row e → IsUpTo target e b.link.row
+  pub up_to : (e : Event) → StandsOn p.position.rows b.link.row e → IsUpTo sought.target e b.link.row
 
-abbrev pub IsAt : ℕ → Table → Control → ℕ → Target → Seek → Caller → Type 0
-IsAt n table x q target (Load spot) p = (p.cut ≡ None) × IsReached x q target spot p
-IsAt n table x q target (Reading b place) p = (p.cut ≡ None) × IsPassed n table.start.layout x q target b p × (0 < b.link.row) × (2 ≤ place) × (place < 5)
-    × ((t : Event × ℕ) × (target ≡ Some t) × ((e : Event) → StandsOn p.position.rows b.link.row e → HasRead place e t.0))
-IsAt n table x q target (Passing b) p = (p.cut ≡ None) × IsPassing n table x q target b p
-IsAt n table x q target (Cutting b last) p = (p.cut ≡ None) × IsPassing n table x q target b p × IsLink last × (last.mark ≡ Del) × (last.row ≢ b.link.row) × ((s : Stand) × In s p.position.rows × (s.row ≡ b.link.row) × (s.last ≡ Some last))
-IsAt n table x q target (Tagging spot row) p = IsReached x q target spot p × ((y : CutRow) × (p.cut ≡ Some y) × (y.row ≡ row))
-IsAt n table x q target (Retiring spot row tag) p = IsReached x q target spot p × ((y : CutRow) × (p.cut ≡ Some y) × (y.row ≡ row) × In tag y.tags)
+abbrev pub IsAt : ℕ → Table → Control → Sought → Seek → Caller → Type 0
+IsAt n table x sought (Load spot) p = (p.cut ≡ None) × IsReached x sought.list.head sought.target spot p
+IsAt n table x sought (Reading b place) p = (p.cut ≡ None) × IsPassed n table.start.layout x sought b p × (0 < b.link.row) × (2 ≤ place) × (place < 5)
+    × ((t : Event × ℕ) × (sought.target ≡ Some t) × ((e : Event) → StandsOn p.position.rows b.link.row e → HasRead place e t.0))
+IsAt n table x sought (Passing b) p = (p.cut ≡ None) × IsPassing n table x sought b p
+IsAt n table x sought (Cutting b last) p = (p.cut ≡ None) × IsPassing n table x sought b p × IsLink last × (last.mark ≡ Del) × (last.row ≢ b.link.row) × ((s : Stand) × In s p.position.rows × (s.row ≡ b.link.row) × (s.last ≡ Some last))
+IsAt n table x sought (Tagging spot row) p = IsReached x sought.list.head sought.target spot p × ((y : CutRow) × (p.cut ≡ Some y) × (y.row ≡ row))
+IsAt n table x sought (Retiring spot row tag) p = IsReached x sought.list.head sought.target spot p × ((y : CutRow) × (p.cut ≡ Some y) × (y.row ≡ row) × In tag y.tags)
 
--- a caller that walks the list of the target, whose control word it found
-pub record IsSeeking (n : ℕ) (table : Table) (x : Control) (list : ListAt) (target : Target) (seek : Seek) (p : Caller) : Type 0 where
+-- the spot at which the walk is
+abbrev pub spot_of : Seek → Spot
+spot_of (Load spot) = spot
+spot_of (Reading b place) = b.spot
+spot_of (Passing b) = b.spot
+spot_of (Cutting b last) = b.spot
+spot_of (Tagging spot row) = spot
+spot_of (Retiring spot row tag) = spot
+
+-- a caller that walks the list of the target, whose control word it found. Its steps since the first n are a sweep to the spot at which it is
+pub record IsSeeking (n : ℕ) (table : Table) (x : Control) (sought : Sought) (seek : Seek) (p : Caller) : Type 0 where
   pub counted : n ≤ length p.made
   pub on : IsOn p.guard
-  pub list_is : IsListOf x list p
-  pub target_is : IsTarget x list target
-  pub at : IsAt n table x list.head target seek p
+  pub list_is : IsListOf x sought.list p
+  pub target_is : IsTarget x sought.list sought.target
+  pub swept : SweepsTo table.start.layout (at_head sought.list.head) (drop n p.made) (cell (spot_of seek))
+  pub at : IsAt n table x sought seek p
 
 -- after a spot was passed: what is to be done next, and what is answered
-abbrev pub next_seek : Before → Target → Seek × Sought
-next_seek b None = cond (b.link.row == 0) (Load b.spot, There b) (Passing b, More)
-next_seek b (Some t) = cond (b.link.row == 0) (Load b.spot, There b) (Reading b 2, More)
+abbrev pub next_seek : Before → Target → Seek × Progress SeekEnd
+next_seek b None = cond (b.link.row == 0) (Load b.spot, Done (There b)) (Passing b, More)
+next_seek b (Some t) = cond (b.link.row == 0) (Load b.spot, Done (There b)) (Reading b 2, More)
 
 -- the part of an event's key at a place, and that part of the word that stands there
 abbrev pub key_part : Event → ℕ → ℕ
@@ -79,18 +95,18 @@ seek_left (Tagging spot row) p = (2 ^ 160) * 16 + 31
 seek_left (Retiring spot row tag) p = (2 ^ 160) * 16 + 30
 
 -- the caller passed the spot, and the next row, if there is one, comes after the target
-pub record IsThere (n : ℕ) (table : Table) (x : Control) (q : ℕ) (target : Target) (b : Before) (p : Caller) : Type 0 where
+pub record IsThere (n : ℕ) (table : Table) (x : Control) (sought : Sought) (b : Before) (p : Caller) : Type 0 where
   pub none : p.cut ≡ None
-  pub passed : IsPassed n table.start.layout x q target b p
-  pub after : (b.link.row ≡ 0) ⊎ ((e : Event) × StandsOn p.position.rows b.link.row e × IsAfter target e b.link.row)
+  pub passed : IsPassed n table.start.layout x sought b p
+  pub after : (b.link.row ≡ 0) ⊎ ((e : Event) × StandsOn p.position.rows b.link.row e × IsAfter sought.target e b.link.row)
 
-abbrev pub SeekAnswers : ℕ → Table → Control → ListAt → Target → Seek → Seek → Caller → Caller → Sought → Type 0
-SeekAnswers n table x list target seek seek' p q More = IsSeeking n table x list target seek' q × ((seek_exchanges seek ≡ true) ⊎ (seek_left seek' q < seek_left seek p))
-SeekAnswers n table x list target seek seek' p q (There b) = IsThere n table x list.head target b q
-SeekAnswers n table x list target seek seek' p q Frozen = ⊥
+abbrev pub SeekAnswers : ℕ → Table → Control → Sought → Seek → Seek → Caller → Caller → Progress SeekEnd → Type 0
+SeekAnswers n table x sought seek seek' p q More = IsSeeking n table x sought seek' q × ((seek_exchanges seek ≡ true) ⊎ (seek_left seek' q < seek_left seek p))
+SeekAnswers n table x sought seek seek' p q (Done (There b)) = IsThere n table x sought b q
+SeekAnswers n table x sought seek seek' p q (Done Frozen) = ⊥
 
 -- one step of it was made: the caller's entries, rows in hand, words written and run-time state stay, but for a dead row that isn't owed any more
-pub record SeekStepped (n : ℕ) (table : Table) (x : Control) (list : ListAt) (target : Target) (seek seek' : Seek) (old new : Pass) (answer : Sought) : Type 0 where
+pub record SeekStepped (n : ℕ) (table : Table) (x : Control) (sought : Sought) (seek seek' : Seek) (old new : Pass) (answer : Progress SeekEnd) : Type 0 where
   pub is : IsPassOf table new
   pub works : Works n (seek_exchanges seek) (caller table old) (caller table new)
   pub turns : new.turns ≡ turns_after (seek_exchanges seek) old.turns
@@ -100,8 +116,16 @@ pub record SeekStepped (n : ℕ) (table : Table) (x : Control) (list : ListAt) (
   pub own : (caller table new).own ≡ (caller table old).own
   pub written : (caller table new).written ≡ (caller table old).written
   pub owed : ((caller table new).debts.cut ≡ None) ⊎ ((caller table new).debts.cut ≡ (caller table old).debts.cut)
-  pub answers : SeekAnswers n table x list target seek seek' (caller table old) (caller table new) answer
+  pub answers : SeekAnswers n table x sought seek seek' (caller table old) (caller table new) answer
 
 -- one step of it was made, and then maybe others that are no exchanges
-abbrev pub SeekStretch : ℕ → Table → Control → ListAt → Target → Seek → Seek → Pass → Pass → Sought → Type 0
-SeekStretch n table x list target = Stretch Seek Sought (SeekStepped n table x list target) seek_exchanges More
+abbrev pub SeekStretch : ℕ → Table → Control → Sought → Seek → Seek → Pass → Pass → Progress SeekEnd → Type 0
+SeekStretch n table x sought = Stretch Seek (Progress SeekEnd) (SeekStepped n table x sought) seek_exchanges More
+
+-- the walk, as an operation
+abbrev pub the_walk : Sought → Operation Seek SeekEnd
+the_walk sought = record {
+  at = λ n table x. IsSeeking n table x sought;
+  stepped = λ n table x. SeekStepped n table x sought;
+  exchanges = seek_exchanges;
+}

@@ -13,10 +13,12 @@ use Rattle.crq_rule.specs.Parts.{IsEvent}
 use Rattle.crq_rule.specs.Ranks.{rank, head_of, IsOpen, Cell, at_head, at_row, cell_place}
 use Rattle.crq_rule.specs.ListKinds.{StandsOn}
 use Rattle.crq_list.specs.declared.parts.ListAt.{ListAt}
+use Rattle.crq_list.specs.declared.seek.Sought.{Sought}
 use Rattle.crq_list.specs.declared.parts.Spot.{Spot}
 use Rattle.crq_list.specs.declared.parts.Spot.TheVariants.{Head, Row}
 use Rattle.crq_list.specs.declared.parts.Before.{Before}
 use Rattle.crq_list.specs.Known.{last_known}
+use Rattle.crq_list.specs.Sweeps.{SweepsTo}
 
 abbrev pub cell : Spot → Cell
 cell (Head q) = at_head q
@@ -57,14 +59,15 @@ pub record Next (x : Control) (q : ℕ) (b : Before) (p : Caller) : Type 0 where
 pub record IsOwedAhead (target : Target) (q : ℕ) (b : Before) (p : Caller) : Type 0 where
   pub ahead : (d : CutDebt) → target ≡ Some (d.event, d.row) → d.head ≡ q → p.debts.cut ≡ Some d → (0 < b.link.row) × ((e : Event) → StandsOn p.position.rows b.link.row e → rank e b.link.row ≤ rank d.event d.row)
 
--- the spot was passed, and its link was the last one known
-pub record IsPassed (n : ℕ) (l : Layout) (x : Control) (q : ℕ) (target : Target) (b : Before) (p : Caller) : Type 0 where
+-- the spot was passed, and its link was the last one known. A sweep of the list came there, and is at the next row
+pub record IsPassed (n : ℕ) (l : Layout) (x : Control) (sought : Sought) (b : Before) (p : Caller) : Type 0 where
   pub bits : IsLink b.link
   pub present : b.link.mark ≡ Val
   pub known : last_known (drop n p.made) (index l (cell_place (cell b.spot))) ≡ Some (link_word b.link)
-  pub reached : IsReached x q target b.spot p
-  pub next : 0 < b.link.row → Next x q b p
-  pub owed : IsOwedAhead target q b p
+  pub reached : IsReached x sought.list.head sought.target b.spot p
+  pub swept : SweepsTo l (at_head sought.list.head) (drop n p.made) (at_row b.link.row)
+  pub next : 0 < b.link.row → Next x sought.list.head b p
+  pub owed : IsOwedAhead sought.target sought.list.head b p
 
 -- the list is one of the open table, whose control word the caller found
 pub record IsListOf (x : Control) (list : ListAt) (p : Caller) : Type 0 where

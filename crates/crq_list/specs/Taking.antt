@@ -26,6 +26,7 @@ use Rattle.crq_list.specs.declared.take.Taking.{Taking}
 use Rattle.crq_list.specs.declared.take.Taking.TheVariants.{Load, Walking, Reading, Marking}
 use Rattle.crq_list.specs.Known.{is_exchange, Works, turns_after, last_known}
 use Rattle.crq_list.specs.Stretches.{Stretch}
+use Rattle.crq_list.specs.Operations.{Operation}
 use Rattle.crq_list.specs.Spots.{rank_at}
 
 -- the caller's walk stands at the row
@@ -78,13 +79,17 @@ taking_left (Marking r l e) p = 0
 abbrev pub FoundAnother : Caller → Caller → Type 0
 FoundAnother p q = (m : Made) × (q.made ≡ p.made ++ m ∷ []) × (is_exchange m.kind ≡ true) × (m.found ≢ m.first)
 
+-- the walk stopped at a row that was found present, and its event is e
+abbrev pub StopsAt : ℕ → Table → Event → Caller → Type 0
+StopsAt n table e p = (r : ℕ) × (l : Link) × IsPresent n table r l p × StandsOn p.position.rows r e
+
 abbrev pub TakeAnswers : ℕ → Table → Control → TakeOp → TakeOp → Pass → Pass → Progress MarkEnd → Type 0
 TakeAnswers n table x op op' old new More = let p = caller table old in let q = caller table new in
     IsTaking n table x op' q × (op' ≡ record op { state = op'.state }) × (q.own ≡ p.own) × (new.debts ≡ old.debts) × ((taking_exchanges op.state ≡ true) ⊎ (taking_left op'.state q < taking_left op.state p))
 TakeAnswers n table x op op' old new (Done (Marked r e)) = let p = caller table old in let q = caller table new in
     (q.own ≡ p.own ++ Take old.number e ∷ []) × (e.time < op.limit) × (new.debts ≡ record old.debts { cut = Some (cut_debt x r e) }) × (q.cut ≡ None)
 TakeAnswers n table x op op' old new (Done (Beyond e)) = let p = caller table old in let q = caller table new in
-    (q.own ≡ p.own) × (new.debts ≡ old.debts) × MayMiss x op.limit q × (op.limit ≤ e.time) × (q.cut ≡ None) × (q.debts.cut ≡ None)
+    (q.own ≡ p.own) × (new.debts ≡ old.debts) × MayMiss x op.limit q × (op.limit ≤ e.time) × (q.cut ≡ None) × (q.debts.cut ≡ None) × StopsAt n table e q
 TakeAnswers n table x op op' old new (Done Nothing) = let p = caller table old in let q = caller table new in
     (q.own ≡ p.own) × (new.debts ≡ old.debts) × ((limit : ℕ) → MayMiss x limit q) × (q.cut ≡ None) × (q.debts.cut ≡ None)
 TakeAnswers n table x op op' old new (Done Lost) = let p = caller table old in let q = caller table new in
@@ -106,3 +111,10 @@ take_exchanges op = taking_exchanges op.state
 -- one step of it was made, and then maybe others that are no exchanges
 abbrev pub TakeStretch : ℕ → Table → Control → TakeOp → TakeOp → Pass → Pass → Progress MarkEnd → Type 0
 TakeStretch n table x = Stretch TakeOp (Progress MarkEnd) (TakeStepped n table x) take_exchanges More
+
+-- the take, as an operation; and at this state
+abbrev pub the_take : Operation TakeOp MarkEnd
+the_take = record { at = IsTaking; stepped = TakeStepped; exchanges = take_exchanges }
+
+abbrev pub take_at : TakeOp → Taking → TakeOp
+take_at op state = record op { state = state }

@@ -1,14 +1,14 @@
 //! Cutting dead rows out of a list.
 ghost use Rattle.std.specs.Prelude.{◌≡◌, ℕ};
-ghost use Rattle.crq_base.specs.declared.words.Control.{Control};
-ghost use Rattle.crq_rows.specs.Passes.{caller, IsPassOf};
+ghost use Rattle.crq_rows.specs.Passes.{IsPassOf};
 ghost use Rattle.crq_list.specs.declared.seek.Seek.TheVariants.{Load};
 ghost use Rattle.crq_list.specs.declared.parts.Spot.TheVariants.{Head};
 ghost use Rattle.crq_list.specs.Seeking.{seek_exchanges};
-ghost use Rattle.crq_list.specs.Cutting.{IsCutting, progress_of, CutStepped, CutStretch};
+ghost use Rattle.crq_list.specs.Operations.{IsUnderWay, MakesStep, MakesSteps};
+ghost use Rattle.crq_list.specs.Cutting.{the_cut, progress_of};
 
 use crate::parts::{ListAt, Progress, Spot};
-use crate::seek::{Seek, Sought};
+use crate::seek::{Seek, SeekEnd, Sought};
 use crate::stretch::run_seek;
 use crq_base::Event;
 use crq_rows::{Pass, Table};
@@ -16,8 +16,9 @@ use crq_rows::{Pass, Table};
 /// How a cut ends.
 #[derive(Clone, Copy, Debug, PartialEq, Eq)]
 pub enum CutEnd {
-    /// The list was walked up to the row asked for, or to its end, and each dead row that was met is cut and retired. If
-    /// the pass owed the row asked for, it doesn't any more.
+    /// The list was walked from its head up to the row asked for, and without one to its end. Each row on the way was
+    /// present when its link was loaded: each dead one that was met was cut and retired before the walk went on. If the
+    /// pass owed the row asked for, it doesn't any more.
     Clean,
     /// A head or row was found that a migration froze, or a head of another table. Over one list this doesn't come.
     Frozen,
@@ -27,34 +28,31 @@ pub enum CutEnd {
 /// the next is cut.
 #[derive(Clone, Copy, Debug, PartialEq, Eq)]
 pub struct CutOp {
-    /// The list.
-    pub list: ListAt,
-    /// Up to which row of which event; none is the whole list.
-    pub upto: Option<(Event, u32)>,
+    /// The list, and up to which row of which event; none is the whole list.
+    pub sought: Sought,
     /// How far it is.
     pub seek: Seek,
 }
 
 /// What a step of the walk says of the cut.
 #[inline(always)]
-fn progress_of(sought: Sought) -> Progress<CutEnd>
-    ensures { result ≡ progress_of sought }
+fn progress_of(walked: Progress<SeekEnd>) -> Progress<CutEnd>
+    ensures { result ≡ progress_of walked }
 {
-    match sought {
-        Sought::More => Progress::More,
-        Sought::There(_) => Progress::Done(CutEnd::Clean),
-        Sought::Frozen => Progress::Done(CutEnd::Frozen),
+    match walked {
+        Progress::More => Progress::More,
+        Progress::Done(SeekEnd::There(_)) => Progress::Done(CutEnd::Clean),
+        Progress::Done(SeekEnd::Frozen) => Progress::Done(CutEnd::Frozen),
     }
 }
 
 impl CutOp {
     /// A cut that has made no step.
     pub fn new(list: ListAt, upto: Option<(Event, u32)>) -> CutOp
-        ensures { result ≡ record { list = list; upto = upto; seek = Load (Head list.head) } }
+        ensures { result ≡ record { sought = record { list = list; target = upto }; seek = Load (Head list.head) } }
     {
         CutOp {
-            list,
-            upto,
+            sought: Sought { list, target: upto },
             seek: Seek::Load(Spot::Head(list.head)),
         }
     }
@@ -70,22 +68,22 @@ impl CutOp {
     #[inline(always)]
     pub fn step(&mut self, table: &Table, pass: &mut Pass) -> Progress<CutEnd>
         requires of { IsPassOf table.now pass.old }
-        requires op { (n : ℕ) × (x : Control) × IsCutting n table.now x self.old (caller table.now pass.old) }
-        ensures { (n : ℕ) (x : Control) → IsCutting n table.now x self.old (caller table.now pass.old) → CutStepped n table.now x self.old self.new pass.old pass.new result }
+        requires op { IsUnderWay the_cut table.now (self.old, pass.old) }
+        ensures { MakesStep the_cut table.now (self.old, pass.old) (self.new, pass.new) result }
     {
-        progress_of(self.seek.step(table, pass, &self.list, &self.upto))
+        progress_of(self.seek.step(table, pass, &self.sought))
     }
 
     /// Makes one atomic step or more, of which only the first may be an exchange: those that mostly follow on one another.
     #[inline(always)]
     pub fn run(&mut self, table: &Table, pass: &mut Pass) -> Progress<CutEnd>
         requires of { IsPassOf table.now pass.old }
-        requires op { (n : ℕ) × (x : Control) × IsCutting n table.now x self.old (caller table.now pass.old) }
-        ensures { (n : ℕ) (x : Control) → IsCutting n table.now x self.old (caller table.now pass.old) → CutStretch n table.now x self.old self.new pass.old pass.new result }
+        requires op { IsUnderWay the_cut table.now (self.old, pass.old) }
+        ensures { MakesSteps the_cut table.now (self.old, pass.old) (self.new, pass.new) result }
     {
         if self.exchanges() {
             return self.step(table, pass);
         }
-        progress_of(run_seek(table, pass, &self.list, &self.upto, &mut self.seek))
+        progress_of(run_seek(table, pass, &self.sought, &mut self.seek))
     }
 }

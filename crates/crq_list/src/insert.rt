@@ -1,16 +1,16 @@
 //! Inserting a row into a sorted list.
 ghost use Rattle.std.specs.Prelude.{◌≡◌, ◌<◌, ◌≤◌, ℕ};
-ghost use Rattle.crq_base.specs.declared.words.Control.{Control};
 ghost use Rattle.crq_rule.specs.ListKinds.{event_word};
-ghost use Rattle.crq_rows.specs.Passes.{caller, IsPassOf};
+ghost use Rattle.crq_rows.specs.Passes.{IsPassOf};
 ghost use Rattle.crq_rule.specs.declared.pass.Pass.{Pass};
 ghost use Rattle.crq_list.specs.declared.parts.Progress.TheVariants.{More};
 ghost use Rattle.crq_list.specs.declared.insert.InsertOp.{InsertOp};
 ghost use Rattle.crq_list.specs.declared.insert.Inserting.TheVariants.{Writing, Seeking, Placing, Linking};
-ghost use Rattle.crq_list.specs.Inserting.{IsInserting, InsertStepped, InsertStretch, insert_exchanges, after_seek};
+ghost use Rattle.crq_list.specs.Operations.{IsUnderWay, MayGoOn, MakesStep, MakesSteps, GoesOn};
+ghost use Rattle.crq_list.specs.Inserting.{the_insertion, insertion_at, insert_exchanges, after_seek};
 
 use crate::parts::{Before, ListAt, Progress, Spot};
-use crate::seek::{Seek, Sought};
+use crate::seek::{Seek, SeekEnd, Sought};
 use crate::steps::link_step;
 use crate::stretch::run_seek;
 use crq_base::Event;
@@ -76,8 +76,8 @@ fn write_word(
     place: u32,
 ) -> (Inserting, Progress<InsertEnd>)
     requires of { IsPassOf table.now pass.old }
-    requires op { (n : ℕ) × (x : Control) × IsInserting n table.now x (record op.now { state = Writing place }) (caller table.now pass.old) }
-    ensures { (n : ℕ) (x : Control) → IsInserting n table.now x (record op.now { state = Writing place }) (caller table.now pass.old) → InsertStepped n table.now x (record op.now { state = Writing place }) (record op.now { state = result.0 }) pass.old pass.new result.1 }
+    requires op { IsUnderWay the_insertion table.now (insertion_at op.now (Writing place), pass.old) }
+    ensures { MakesStep the_insertion table.now (insertion_at op.now (Writing place), pass.old) (insertion_at op.now result.0, pass.new) result.1 }
 {
     let word = word_at(&op.event, place);
     write_step(table, pass, op.row, place, word);
@@ -100,8 +100,8 @@ fn write_words(
     first: u32,
 ) -> (Inserting, Progress<InsertEnd>)
     requires of { IsPassOf table.now pass.old }
-    requires op { (n : ℕ) × (x : Control) × IsInserting n table.now x (record op.now { state = Writing first }) (caller table.now pass.old) }
-    ensures { (n : ℕ) (x : Control) → IsInserting n table.now x (record op.now { state = Writing first }) (caller table.now pass.old) → InsertStretch n table.now x (record op.now { state = Writing first }) (record op.now { state = result.0 }) pass.old pass.new result.1 }
+    requires op { IsUnderWay the_insertion table.now (insertion_at op.now (Writing first), pass.old) }
+    ensures { MakesSteps the_insertion table.now (insertion_at op.now (Writing first), pass.old) (insertion_at op.now result.0, pass.new) result.1 }
 {
     let mut place = first;
     loop {
@@ -115,13 +115,16 @@ fn write_words(
 
 /// What follows on steps of the walk, which is there.
 #[inline(always)]
-fn after_seek(seek: Seek, sought: Sought) -> (Inserting, Progress<InsertEnd>)
-    ensures { result ≡ after_seek seek sought }
+fn after_seek(seek: Seek, walked: Progress<SeekEnd>) -> (Inserting, Progress<InsertEnd>)
+    ensures { result ≡ after_seek seek walked }
 {
-    match sought {
-        Sought::More => (Inserting::Seeking(seek), Progress::More),
-        Sought::There(before) => (Inserting::Placing(before), Progress::More),
-        Sought::Frozen => (Inserting::Seeking(seek), Progress::Done(InsertEnd::Frozen)),
+    match walked {
+        Progress::More => (Inserting::Seeking(seek), Progress::More),
+        Progress::Done(SeekEnd::There(before)) => (Inserting::Placing(before), Progress::More),
+        Progress::Done(SeekEnd::Frozen) => (
+            Inserting::Seeking(seek),
+            Progress::Done(InsertEnd::Frozen),
+        ),
     }
 }
 
@@ -134,12 +137,16 @@ fn seek_place(
     seek: Seek,
 ) -> (Inserting, Progress<InsertEnd>)
     requires of { IsPassOf table.now pass.old }
-    requires op { (n : ℕ) × (x : Control) × IsInserting n table.now x (record op.now { state = Seeking seek }) (caller table.now pass.old) }
-    ensures { (n : ℕ) (x : Control) → IsInserting n table.now x (record op.now { state = Seeking seek }) (caller table.now pass.old) → InsertStepped n table.now x (record op.now { state = Seeking seek }) (record op.now { state = result.0 }) pass.old pass.new result.1 }
+    requires op { IsUnderWay the_insertion table.now (insertion_at op.now (Seeking seek), pass.old) }
+    ensures { MakesStep the_insertion table.now (insertion_at op.now (Seeking seek), pass.old) (insertion_at op.now result.0, pass.new) result.1 }
 {
     let mut seek = seek;
-    let sought = seek.step(table, pass, &op.list, &Some((op.event, op.row)));
-    after_seek(seek, sought)
+    let sought = Sought {
+        list: op.list,
+        target: Some((op.event, op.row)),
+    };
+    let walked = seek.step(table, pass, &sought);
+    after_seek(seek, walked)
 }
 
 /// Makes one step of that walk or more, of which only the first may be an exchange.
@@ -151,12 +158,16 @@ fn run_to_place(
     seek: Seek,
 ) -> (Inserting, Progress<InsertEnd>)
     requires of { IsPassOf table.now pass.old }
-    requires op { (n : ℕ) × (x : Control) × IsInserting n table.now x (record op.now { state = Seeking seek }) (caller table.now pass.old) }
-    ensures { (n : ℕ) (x : Control) → IsInserting n table.now x (record op.now { state = Seeking seek }) (caller table.now pass.old) → InsertStretch n table.now x (record op.now { state = Seeking seek }) (record op.now { state = result.0 }) pass.old pass.new result.1 }
+    requires op { IsUnderWay the_insertion table.now (insertion_at op.now (Seeking seek), pass.old) }
+    ensures { MakesSteps the_insertion table.now (insertion_at op.now (Seeking seek), pass.old) (insertion_at op.now result.0, pass.new) result.1 }
 {
     let mut seek = seek;
-    let sought = run_seek(table, pass, &op.list, &Some((op.event, op.row)), &mut seek);
-    after_seek(seek, sought)
+    let sought = Sought {
+        list: op.list,
+        target: Some((op.event, op.row)),
+    };
+    let walked = run_seek(table, pass, &sought, &mut seek);
+    after_seek(seek, walked)
 }
 
 /// Writes the row's own link: the row that is next behind the spot is to follow it.
@@ -168,8 +179,8 @@ fn place_row(
     before: Before,
 ) -> (Inserting, Progress<InsertEnd>)
     requires of { IsPassOf table.now pass.old }
-    requires op { (n : ℕ) × (x : Control) × IsInserting n table.now x (record op.now { state = Placing before }) (caller table.now pass.old) }
-    ensures { (n : ℕ) (x : Control) → IsInserting n table.now x (record op.now { state = Placing before }) (caller table.now pass.old) → InsertStepped n table.now x (record op.now { state = Placing before }) (record op.now { state = result.0 }) pass.old pass.new result.1 }
+    requires op { IsUnderWay the_insertion table.now (insertion_at op.now (Placing before), pass.old) }
+    ensures { MakesStep the_insertion table.now (insertion_at op.now (Placing before), pass.old) (insertion_at op.now result.0, pass.new) result.1 }
 {
     let word = before.link.pack();
     write_step(table, pass, op.row, 0, word);
@@ -185,8 +196,8 @@ fn link_row(
     before: Before,
 ) -> (Inserting, Progress<InsertEnd>)
     requires of { IsPassOf table.now pass.old }
-    requires op { (n : ℕ) × (x : Control) × IsInserting n table.now x (record op.now { state = Linking before }) (caller table.now pass.old) }
-    ensures { (n : ℕ) (x : Control) → IsInserting n table.now x (record op.now { state = Linking before }) (caller table.now pass.old) → InsertStepped n table.now x (record op.now { state = Linking before }) (record op.now { state = result.0 }) pass.old pass.new result.1 }
+    requires op { IsUnderWay the_insertion table.now (insertion_at op.now (Linking before), pass.old) }
+    ensures { MakesStep the_insertion table.now (insertion_at op.now (Linking before), pass.old) (insertion_at op.now result.0, pass.new) result.1 }
 {
     if link_step(table, pass, before.spot, before.link, op.row, &op.event) {
         (
@@ -210,8 +221,8 @@ fn then_seek(
     told: (Inserting, Progress<InsertEnd>),
 ) -> (Inserting, Progress<InsertEnd>)
     requires of { IsPassOf table.now pass.old }
-    requires op { told.1 ≡ More → (n : ℕ) × (x : Control) × IsInserting n table.now x (record op.now { state = told.0 }) (caller table.now pass.old) }
-    ensures { (n : ℕ) (x : Control) (first : InsertOp) (old : Pass) → InsertStretch n table.now x first (record op.now { state = told.0 }) old pass.old told.1 → InsertStretch n table.now x first (record op.now { state = result.0 }) old pass.new result.1 }
+    requires op { MayGoOn the_insertion table.now (insertion_at op.now told.0, pass.old) told.1 }
+    ensures { GoesOn the_insertion table.now (insertion_at op.now told.0, pass.old) told.1 (insertion_at op.now result.0, pass.new) result.1 }
 {
     let (Inserting::Seeking(seek), Progress::More) = told else {
         return told;
@@ -231,8 +242,8 @@ fn then_place(
     told: (Inserting, Progress<InsertEnd>),
 ) -> (Inserting, Progress<InsertEnd>)
     requires of { IsPassOf table.now pass.old }
-    requires op { told.1 ≡ More → (n : ℕ) × (x : Control) × IsInserting n table.now x (record op.now { state = told.0 }) (caller table.now pass.old) }
-    ensures { (n : ℕ) (x : Control) (first : InsertOp) (old : Pass) → InsertStretch n table.now x first (record op.now { state = told.0 }) old pass.old told.1 → InsertStretch n table.now x first (record op.now { state = result.0 }) old pass.new result.1 }
+    requires op { MayGoOn the_insertion table.now (insertion_at op.now told.0, pass.old) told.1 }
+    ensures { GoesOn the_insertion table.now (insertion_at op.now told.0, pass.old) told.1 (insertion_at op.now result.0, pass.new) result.1 }
 {
     let (Inserting::Placing(before), Progress::More) = told else {
         return told;
@@ -269,8 +280,8 @@ impl InsertOp {
     #[inline(always)]
     pub fn step(&mut self, table: &Table, pass: &mut Pass) -> Progress<InsertEnd>
         requires of { IsPassOf table.now pass.old }
-        requires op { (n : ℕ) × (x : Control) × IsInserting n table.now x self.old (caller table.now pass.old) }
-        ensures { (n : ℕ) (x : Control) → IsInserting n table.now x self.old (caller table.now pass.old) → InsertStepped n table.now x self.old self.new pass.old pass.new result }
+        requires op { IsUnderWay the_insertion table.now (self.old, pass.old) }
+        ensures { MakesStep the_insertion table.now (self.old, pass.old) (self.new, pass.new) result }
     {
         let (state, answer) = match self.state {
             Inserting::Writing(place) => write_word(table, pass, self, place),
@@ -286,8 +297,8 @@ impl InsertOp {
     #[inline(always)]
     fn next(&self, table: &Table, pass: &mut Pass) -> (Inserting, Progress<InsertEnd>)
         requires of { IsPassOf table.now pass.old }
-        requires op { (n : ℕ) × (x : Control) × IsInserting n table.now x self.now (caller table.now pass.old) }
-        ensures { (n : ℕ) (x : Control) → IsInserting n table.now x self.now (caller table.now pass.old) → InsertStretch n table.now x self.now (record self.now { state = result.0 }) pass.old pass.new result.1 }
+        requires op { IsUnderWay the_insertion table.now (self.now, pass.old) }
+        ensures { MakesSteps the_insertion table.now (self.now, pass.old) (insertion_at self.now result.0, pass.new) result.1 }
     {
         match self.state {
             Inserting::Writing(place) => write_words(table, pass, self, place),
@@ -301,8 +312,8 @@ impl InsertOp {
     #[inline(always)]
     pub fn run(&mut self, table: &Table, pass: &mut Pass) -> Progress<InsertEnd>
         requires of { IsPassOf table.now pass.old }
-        requires op { (n : ℕ) × (x : Control) × IsInserting n table.now x self.old (caller table.now pass.old) }
-        ensures { (n : ℕ) (x : Control) → IsInserting n table.now x self.old (caller table.now pass.old) → InsertStretch n table.now x self.old self.new pass.old pass.new result }
+        requires op { IsUnderWay the_insertion table.now (self.old, pass.old) }
+        ensures { MakesSteps the_insertion table.now (self.old, pass.old) (self.new, pass.new) result }
     {
         if self.exchanges() {
             return self.step(table, pass);

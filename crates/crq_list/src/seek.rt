@@ -1,18 +1,15 @@
 //! Walking a list to a target, with dead rows cut on the way.
 ghost use Rattle.std.specs.Prelude.{◌≡◌, ◌<◌, ℕ};
-ghost use Rattle.crq_base.specs.declared.words.Control.{Control};
-ghost use Rattle.crq_rows.specs.Passes.{caller, IsPassOf};
+ghost use Rattle.crq_rows.specs.Passes.{IsPassOf};
 ghost use Rattle.crq_list.specs.declared.parts.Before.{Before};
 ghost use Rattle.crq_list.specs.declared.seek.Seek.TheVariants.{Load, Reading, Passing, Cutting, Tagging, Retiring};
-ghost use Rattle.crq_list.specs.Seeking.{IsSeeking, SeekStepped, seek_exchanges, next_seek, key_part, part_of};
+ghost use Rattle.crq_list.specs.Operations.{IsUnderWay, MakesStep};
+ghost use Rattle.crq_list.specs.Seeking.{the_walk, seek_exchanges, next_seek, key_part, part_of};
 
-use crate::parts::{Before, ListAt, Spot};
+use crate::parts::{Before, ListAt, Progress, Spot};
 use crate::steps::{cut_step, walk_step};
 use crq_base::{Event, Link, Mark};
 use crq_rows::{Pass, Table, epoch_step, read_step, retire_step};
-
-/// Up to which row of which event the walk goes: not past its place in the order by key and row. None is the whole list.
-pub type Target = Option<(Event, u32)>;
 
 /// A walk to the place of a target in a list, one atomic step at a time. Dead rows that it meets are cut out of the list
 /// and retired, each before the next.
@@ -32,11 +29,19 @@ pub enum Seek {
     Retiring(Spot, u32, u64),
 }
 
-/// What one step of a walk answers.
+/// What a walk seeks: the place of a target in a list.
 #[derive(Clone, Copy, Debug, PartialEq, Eq)]
-pub enum Sought {
-    /// There is more to do.
-    More,
+pub struct Sought {
+    /// The list.
+    pub list: ListAt,
+    /// Up to which row of which event the walk goes: not past its place in the order by key and row. None is the whole
+    /// list.
+    pub target: Option<(Event, u32)>,
+}
+
+/// How a walk ends.
+#[derive(Clone, Copy, Debug, PartialEq, Eq)]
+pub enum SeekEnd {
     /// The target's place is behind this spot.
     There(Before),
     /// A head or row was found that a migration froze, or a head of another table.
@@ -46,15 +51,18 @@ pub enum Sought {
 /// What is to be done after a spot was passed: to read of the next row, to load its link where all of the list is walked,
 /// or nothing more where there is none.
 #[inline(always)]
-fn next_of(before: Before, target: &Target) -> (Seek, Sought)
-    ensures { result ≡ next_seek before target.now }
+fn next_of(before: Before, sought: &Sought) -> (Seek, Progress<SeekEnd>)
+    ensures { result ≡ next_seek before sought.now.target }
 {
     if before.link.row == 0 {
-        return (Seek::Load(before.spot), Sought::There(before));
+        return (
+            Seek::Load(before.spot),
+            Progress::Done(SeekEnd::There(before)),
+        );
     }
-    match target {
-        Some(_) => (Seek::Reading(before, 2), Sought::More),
-        None => (Seek::Passing(before), Sought::More),
+    match sought.target {
+        Some(_) => (Seek::Reading(before, 2), Progress::More),
+        None => (Seek::Passing(before), Progress::More),
     }
 }
 
@@ -63,19 +71,18 @@ fn next_of(before: Before, target: &Target) -> (Seek, Sought)
 pub(crate) fn load(
     table: &Table,
     pass: &mut Pass,
-    list: &ListAt,
-    target: &Target,
+    sought: &Sought,
     spot: Spot,
-) -> (Seek, Sought)
+) -> (Seek, Progress<SeekEnd>)
     requires of { IsPassOf table.now pass.old }
-    requires seek { (n : ℕ) × (x : Control) × IsSeeking n table.now x list.now target.now (Load spot) (caller table.now pass.old) }
-    ensures { (n : ℕ) (x : Control) → IsSeeking n table.now x list.now target.now (Load spot) (caller table.now pass.old) → SeekStepped n table.now x list.now target.now (Load spot) result.0 pass.old pass.new result.1 }
+    requires seek { IsUnderWay (the_walk sought.now) table.now (Load spot, pass.old) }
+    ensures { MakesStep (the_walk sought.now) table.now (Load spot, pass.old) (result.0, pass.new) result.1 }
 {
     let link = walk_step(table, pass, spot, false);
     match link.mark {
-        Mark::Val => next_of(Before { spot, link }, target),
-        Mark::Del => (Seek::Load(Spot::Head(list.head)), Sought::More),
-        _ => (Seek::Load(spot), Sought::Frozen),
+        Mark::Val => next_of(Before { spot, link }, sought),
+        Mark::Del => (Seek::Load(Spot::Head(sought.list.head)), Progress::More),
+        _ => (Seek::Load(spot), Progress::Done(SeekEnd::Frozen)),
     }
 }
 
@@ -104,34 +111,39 @@ fn part_of(word: u64, place: u32) -> u64
 pub(crate) fn read(
     table: &Table,
     pass: &mut Pass,
-    list: &ListAt,
-    target: &Target,
+    sought: &Sought,
     before: Before,
     place: u32,
-) -> (Seek, Sought)
+) -> (Seek, Progress<SeekEnd>)
     requires of { IsPassOf table.now pass.old }
-    requires seek { (n : ℕ) × (x : Control) × IsSeeking n table.now x list.now target.now (Reading before place) (caller table.now pass.old) }
-    ensures stepped { (n : ℕ) (x : Control) → IsSeeking n table.now x list.now target.now (Reading before place) (caller table.now pass.old) → SeekStepped n table.now x list.now target.now (Reading before place) result.0 pass.old pass.new result.1 }
+    requires seek { IsUnderWay (the_walk sought.now) table.now (Reading before place, pass.old) }
+    ensures stepped { MakesStep (the_walk sought.now) table.now (Reading before place, pass.old) (result.0, pass.new) result.1 }
     ensures same { (other : Before) → ((next : ℕ) → result.0 ≡ Reading other next → other ≡ before) × (result.0 ≡ Passing other → other ≡ before) }
 {
-    let Some((event, row)) = target else {
+    let Some((event, row)) = &sought.target else {
         unreachable!()
     };
     let found = part_of(read_step(table, pass, before.link.row, place), place);
     let wanted = key_part(event, place);
     if found < wanted {
-        return (Seek::Passing(before), Sought::More);
+        return (Seek::Passing(before), Progress::More);
     }
     if found > wanted {
-        return (Seek::Load(before.spot), Sought::There(before));
+        return (
+            Seek::Load(before.spot),
+            Progress::Done(SeekEnd::There(before)),
+        );
     }
     if place < 4 {
-        return (Seek::Reading(before, place + 1), Sought::More);
+        return (Seek::Reading(before, place + 1), Progress::More);
     }
     if before.link.row <= *row {
-        return (Seek::Passing(before), Sought::More);
+        return (Seek::Passing(before), Progress::More);
     }
-    (Seek::Load(before.spot), Sought::There(before))
+    (
+        Seek::Load(before.spot),
+        Progress::Done(SeekEnd::There(before)),
+    )
 }
 
 /// Loads the link of the next row, which is passed where it is present.
@@ -139,20 +151,19 @@ pub(crate) fn read(
 pub(crate) fn pass_row(
     table: &Table,
     pass: &mut Pass,
-    list: &ListAt,
-    target: &Target,
+    sought: &Sought,
     before: Before,
-) -> (Seek, Sought)
+) -> (Seek, Progress<SeekEnd>)
     requires of { IsPassOf table.now pass.old }
-    requires seek { (n : ℕ) × (x : Control) × IsSeeking n table.now x list.now target.now (Passing before) (caller table.now pass.old) }
-    ensures { (n : ℕ) (x : Control) → IsSeeking n table.now x list.now target.now (Passing before) (caller table.now pass.old) → SeekStepped n table.now x list.now target.now (Passing before) result.0 pass.old pass.new result.1 }
+    requires seek { IsUnderWay (the_walk sought.now) table.now (Passing before, pass.old) }
+    ensures { MakesStep (the_walk sought.now) table.now (Passing before, pass.old) (result.0, pass.new) result.1 }
 {
     let spot = Spot::Row(before.link.row);
     let link = walk_step(table, pass, spot, false);
     match link.mark {
-        Mark::Val => next_of(Before { spot, link }, target),
-        Mark::Del => (Seek::Cutting(before, link), Sought::More),
-        _ => (Seek::Load(spot), Sought::Frozen),
+        Mark::Val => next_of(Before { spot, link }, sought),
+        Mark::Del => (Seek::Cutting(before, link), Progress::More),
+        _ => (Seek::Load(spot), Progress::Done(SeekEnd::Frozen)),
     }
 }
 
@@ -161,19 +172,18 @@ pub(crate) fn pass_row(
 fn cut_row(
     table: &Table,
     pass: &mut Pass,
-    list: &ListAt,
-    target: &Target,
+    sought: &Sought,
     before: Before,
     last: Link,
-) -> (Seek, Sought)
+) -> (Seek, Progress<SeekEnd>)
     requires of { IsPassOf table.now pass.old }
-    requires seek { (n : ℕ) × (x : Control) × IsSeeking n table.now x list.now target.now (Cutting before last) (caller table.now pass.old) }
-    ensures { (n : ℕ) (x : Control) → IsSeeking n table.now x list.now target.now (Cutting before last) (caller table.now pass.old) → SeekStepped n table.now x list.now target.now (Cutting before last) result.0 pass.old pass.new result.1 }
+    requires seek { IsUnderWay (the_walk sought.now) table.now (Cutting before last, pass.old) }
+    ensures { MakesStep (the_walk sought.now) table.now (Cutting before last, pass.old) (result.0, pass.new) result.1 }
 {
     if cut_step(table, pass, before.spot, before.link, last) {
-        (Seek::Tagging(before.spot, before.link.row), Sought::More)
+        (Seek::Tagging(before.spot, before.link.row), Progress::More)
     } else {
-        (Seek::Load(Spot::Head(list.head)), Sought::More)
+        (Seek::Load(Spot::Head(sought.list.head)), Progress::More)
     }
 }
 
@@ -182,17 +192,16 @@ fn cut_row(
 pub(crate) fn tag(
     table: &Table,
     pass: &mut Pass,
-    list: &ListAt,
-    target: &Target,
+    sought: &Sought,
     spot: Spot,
     row: u32,
-) -> (Seek, Sought)
+) -> (Seek, Progress<SeekEnd>)
     requires of { IsPassOf table.now pass.old }
-    requires seek { (n : ℕ) × (x : Control) × IsSeeking n table.now x list.now target.now (Tagging spot row) (caller table.now pass.old) }
-    ensures { (n : ℕ) (x : Control) → IsSeeking n table.now x list.now target.now (Tagging spot row) (caller table.now pass.old) → SeekStepped n table.now x list.now target.now (Tagging spot row) result.0 pass.old pass.new result.1 }
+    requires seek { IsUnderWay (the_walk sought.now) table.now (Tagging spot row, pass.old) }
+    ensures { MakesStep (the_walk sought.now) table.now (Tagging spot row, pass.old) (result.0, pass.new) result.1 }
 {
     let epoch = epoch_step(table, pass);
-    (Seek::Retiring(spot, row, epoch), Sought::More)
+    (Seek::Retiring(spot, row, epoch), Progress::More)
 }
 
 /// Retires the row that was cut, and goes on behind the spot.
@@ -200,18 +209,17 @@ pub(crate) fn tag(
 pub(crate) fn retire(
     table: &Table,
     pass: &mut Pass,
-    list: &ListAt,
-    target: &Target,
+    sought: &Sought,
     spot: Spot,
     row: u32,
     epoch: u64,
-) -> (Seek, Sought)
+) -> (Seek, Progress<SeekEnd>)
     requires of { IsPassOf table.now pass.old }
-    requires seek { (n : ℕ) × (x : Control) × IsSeeking n table.now x list.now target.now (Retiring spot row epoch) (caller table.now pass.old) }
-    ensures { (n : ℕ) (x : Control) → IsSeeking n table.now x list.now target.now (Retiring spot row epoch) (caller table.now pass.old) → SeekStepped n table.now x list.now target.now (Retiring spot row epoch) result.0 pass.old pass.new result.1 }
+    requires seek { IsUnderWay (the_walk sought.now) table.now (Retiring spot row epoch, pass.old) }
+    ensures { MakesStep (the_walk sought.now) table.now (Retiring spot row epoch, pass.old) (result.0, pass.new) result.1 }
 {
     retire_step(table, pass, row, epoch);
-    (Seek::Load(spot), Sought::More)
+    (Seek::Load(spot), Progress::More)
 }
 
 impl Seek {
@@ -228,20 +236,19 @@ impl Seek {
         &mut self,
         table: &Table,
         pass: &mut Pass,
-        list: &ListAt,
-        target: &Target,
-    ) -> Sought
+        sought: &Sought,
+    ) -> Progress<SeekEnd>
         requires of { IsPassOf table.now pass.old }
-        requires seek { (n : ℕ) × (x : Control) × IsSeeking n table.now x list.now target.now self.old (caller table.now pass.old) }
-        ensures { (n : ℕ) (x : Control) → IsSeeking n table.now x list.now target.now self.old (caller table.now pass.old) → SeekStepped n table.now x list.now target.now self.old self.new pass.old pass.new result }
+        requires seek { IsUnderWay (the_walk sought.now) table.now (self.old, pass.old) }
+        ensures { MakesStep (the_walk sought.now) table.now (self.old, pass.old) (self.new, pass.new) result }
     {
         let (seek, answer) = match *self {
-            Seek::Load(spot) => load(table, pass, list, target, spot),
-            Seek::Reading(before, place) => read(table, pass, list, target, before, place),
-            Seek::Passing(before) => pass_row(table, pass, list, target, before),
-            Seek::Cutting(before, last) => cut_row(table, pass, list, target, before, last),
-            Seek::Tagging(spot, row) => tag(table, pass, list, target, spot, row),
-            Seek::Retiring(spot, row, epoch) => retire(table, pass, list, target, spot, row, epoch),
+            Seek::Load(spot) => load(table, pass, sought, spot),
+            Seek::Reading(before, place) => read(table, pass, sought, before, place),
+            Seek::Passing(before) => pass_row(table, pass, sought, before),
+            Seek::Cutting(before, last) => cut_row(table, pass, sought, before, last),
+            Seek::Tagging(spot, row) => tag(table, pass, sought, spot, row),
+            Seek::Retiring(spot, row, epoch) => retire(table, pass, sought, spot, row, epoch),
         };
         *self = seek;
         answer

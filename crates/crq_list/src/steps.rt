@@ -16,7 +16,7 @@ ghost use Rattle.crq_list.specs.Swaps.{Saw, LinkSwapped, MarkSwapped, CutSwapped
 use crate::parts::Spot;
 use crq_base::{Control, Event, Link, Mark};
 use crq_rows::{Pass, Table, exchange_as, exchange_seated, load_turning};
-use crq_rule::CutDebt;
+use crq_rule::{BANK, CutDebt};
 use std::collections::VecDeque;
 use std::marker::Brand;
 
@@ -139,7 +139,7 @@ pub fn head_of(control: &Control, event: &Event) -> u32
     requires { IsControl control.now }
     ensures { result ≡ head_of control.now event.now }
 {
-    control.generation % 2 * 32768 + (event.time >> control.shift) % (1 << control.log)
+    control.generation % 2 * BANK + (event.time >> control.shift) % (1 << control.log)
 }
 
 /// Cuts the dead row that the link names out of the list, where the spot's link is still that one, and answers whether it

@@ -1,16 +1,16 @@
 //! Several steps of a walk made in one go, as they mostly follow on one another: so the walk needn't be stored and taken up
 //! again after each of them.
 ghost use Rattle.std.specs.Prelude.{◌≡◌, ℕ};
-ghost use Rattle.crq_base.specs.declared.words.Control.{Control};
 ghost use Rattle.crq_rule.specs.declared.pass.Pass.{Pass};
-ghost use Rattle.crq_rows.specs.Passes.{caller, IsPassOf};
+ghost use Rattle.crq_rows.specs.Passes.{IsPassOf};
 ghost use Rattle.crq_list.specs.declared.seek.Seek.{Seek};
 ghost use Rattle.crq_list.specs.declared.seek.Seek.TheVariants.{Reading, Passing};
-ghost use Rattle.crq_list.specs.declared.seek.Sought.TheVariants.{More};
-ghost use Rattle.crq_list.specs.Seeking.{IsSeeking, SeekStretch};
+ghost use Rattle.crq_list.specs.declared.parts.Progress.TheVariants.{More};
+ghost use Rattle.crq_list.specs.Operations.{IsUnderWay, MayGoOn, MakesSteps, GoesOn};
+ghost use Rattle.crq_list.specs.Seeking.{the_walk};
 
-use crate::parts::{Before, ListAt};
-use crate::seek::{Seek, Sought, Target, load, pass_row, read, retire, tag};
+use crate::parts::{Before, Progress};
+use crate::seek::{Seek, SeekEnd, Sought, load, pass_row, read, retire, tag};
 use crq_rows::{Pass, Table};
 
 /// Reads words of the next row's event, from this one on, until it is known on which side of the target the row comes.
@@ -18,19 +18,18 @@ use crq_rows::{Pass, Table};
 fn compare(
     table: &Table,
     pass: &mut Pass,
-    list: &ListAt,
-    target: &Target,
+    sought: &Sought,
     before: Before,
     first: u32,
-) -> (Seek, Sought)
+) -> (Seek, Progress<SeekEnd>)
     requires of { IsPassOf table.now pass.old }
-    requires seek { (n : ℕ) × (x : Control) × IsSeeking n table.now x list.now target.now (Reading before first) (caller table.now pass.old) }
-    ensures { (n : ℕ) (x : Control) → IsSeeking n table.now x list.now target.now (Reading before first) (caller table.now pass.old) → SeekStretch n table.now x list.now target.now (Reading before first) result.0 pass.old pass.new result.1 }
+    requires seek { IsUnderWay (the_walk sought.now) table.now (Reading before first, pass.old) }
+    ensures { MakesSteps (the_walk sought.now) table.now (Reading before first, pass.old) (result.0, pass.new) result.1 }
 {
     let mut place = first;
     loop {
-        let told = read(table, pass, list, target, before, place);
-        let (Seek::Reading(_, next), Sought::More) = told else {
+        let told = read(table, pass, sought, before, place);
+        let (Seek::Reading(_, next), Progress::More) = told else {
             return told;
         };
         place = next;
@@ -43,22 +42,21 @@ fn compare(
 fn pass_rows(
     table: &Table,
     pass: &mut Pass,
-    list: &ListAt,
-    target: &Target,
+    sought: &Sought,
     before: Before,
-) -> (Seek, Sought)
+) -> (Seek, Progress<SeekEnd>)
     requires of { IsPassOf table.now pass.old }
-    requires seek { (n : ℕ) × (x : Control) × IsSeeking n table.now x list.now target.now (Passing before) (caller table.now pass.old) }
-    ensures { (n : ℕ) (x : Control) → IsSeeking n table.now x list.now target.now (Passing before) (caller table.now pass.old) → SeekStretch n table.now x list.now target.now (Passing before) result.0 pass.old pass.new result.1 }
+    requires seek { IsUnderWay (the_walk sought.now) table.now (Passing before, pass.old) }
+    ensures { MakesSteps (the_walk sought.now) table.now (Passing before, pass.old) (result.0, pass.new) result.1 }
 {
     let mut before = before;
     loop {
-        let told = pass_row(table, pass, list, target, before);
-        let (Seek::Reading(next, place), Sought::More) = told else {
+        let told = pass_row(table, pass, sought, before);
+        let (Seek::Reading(next, place), Progress::More) = told else {
             return told;
         };
-        let told = read(table, pass, list, target, next, place);
-        let (Seek::Passing(_), Sought::More) = told else {
+        let told = read(table, pass, sought, next, place);
+        let (Seek::Passing(_), Progress::More) = told else {
             return told;
         };
         before = next;
@@ -70,18 +68,17 @@ fn pass_rows(
 fn then_tag(
     table: &Table,
     pass: &mut Pass,
-    list: &ListAt,
-    target: &Target,
-    told: (Seek, Sought),
-) -> (Seek, Sought)
+    sought: &Sought,
+    told: (Seek, Progress<SeekEnd>),
+) -> (Seek, Progress<SeekEnd>)
     requires of { IsPassOf table.now pass.old }
-    requires seek { told.1 ≡ More → (n : ℕ) × (x : Control) × IsSeeking n table.now x list.now target.now told.0 (caller table.now pass.old) }
-    ensures { (n : ℕ) (x : Control) (first : Seek) (old : Pass) → SeekStretch n table.now x list.now target.now first told.0 old pass.old told.1 → SeekStretch n table.now x list.now target.now first result.0 old pass.new result.1 }
+    requires seek { MayGoOn (the_walk sought.now) table.now (told.0, pass.old) told.1 }
+    ensures { GoesOn (the_walk sought.now) table.now (told.0, pass.old) told.1 (result.0, pass.new) result.1 }
 {
-    let (Seek::Tagging(spot, row), Sought::More) = told else {
+    let (Seek::Tagging(spot, row), Progress::More) = told else {
         return told;
     };
-    tag(table, pass, list, target, spot, row)
+    tag(table, pass, sought, spot, row)
 }
 
 /// Retires a row that was cut, where its tag is loaded.
@@ -89,18 +86,17 @@ fn then_tag(
 fn then_retire(
     table: &Table,
     pass: &mut Pass,
-    list: &ListAt,
-    target: &Target,
-    told: (Seek, Sought),
-) -> (Seek, Sought)
+    sought: &Sought,
+    told: (Seek, Progress<SeekEnd>),
+) -> (Seek, Progress<SeekEnd>)
     requires of { IsPassOf table.now pass.old }
-    requires seek { told.1 ≡ More → (n : ℕ) × (x : Control) × IsSeeking n table.now x list.now target.now told.0 (caller table.now pass.old) }
-    ensures { (n : ℕ) (x : Control) (first : Seek) (old : Pass) → SeekStretch n table.now x list.now target.now first told.0 old pass.old told.1 → SeekStretch n table.now x list.now target.now first result.0 old pass.new result.1 }
+    requires seek { MayGoOn (the_walk sought.now) table.now (told.0, pass.old) told.1 }
+    ensures { GoesOn (the_walk sought.now) table.now (told.0, pass.old) told.1 (result.0, pass.new) result.1 }
 {
-    let (Seek::Retiring(spot, row, epoch), Sought::More) = told else {
+    let (Seek::Retiring(spot, row, epoch), Progress::More) = told else {
         return told;
     };
-    retire(table, pass, list, target, spot, row, epoch)
+    retire(table, pass, sought, spot, row, epoch)
 }
 
 /// Loads the link of a spot, where that is next.
@@ -108,18 +104,17 @@ fn then_retire(
 fn then_load(
     table: &Table,
     pass: &mut Pass,
-    list: &ListAt,
-    target: &Target,
-    told: (Seek, Sought),
-) -> (Seek, Sought)
+    sought: &Sought,
+    told: (Seek, Progress<SeekEnd>),
+) -> (Seek, Progress<SeekEnd>)
     requires of { IsPassOf table.now pass.old }
-    requires seek { told.1 ≡ More → (n : ℕ) × (x : Control) × IsSeeking n table.now x list.now target.now told.0 (caller table.now pass.old) }
-    ensures { (n : ℕ) (x : Control) (first : Seek) (old : Pass) → SeekStretch n table.now x list.now target.now first told.0 old pass.old told.1 → SeekStretch n table.now x list.now target.now first result.0 old pass.new result.1 }
+    requires seek { MayGoOn (the_walk sought.now) table.now (told.0, pass.old) told.1 }
+    ensures { GoesOn (the_walk sought.now) table.now (told.0, pass.old) told.1 (result.0, pass.new) result.1 }
 {
-    let (Seek::Load(spot), Sought::More) = told else {
+    let (Seek::Load(spot), Progress::More) = told else {
         return told;
     };
-    load(table, pass, list, target, spot)
+    load(table, pass, sought, spot)
 }
 
 /// Compares the next row with the target, where that is next.
@@ -127,18 +122,17 @@ fn then_load(
 fn then_compare(
     table: &Table,
     pass: &mut Pass,
-    list: &ListAt,
-    target: &Target,
-    told: (Seek, Sought),
-) -> (Seek, Sought)
+    sought: &Sought,
+    told: (Seek, Progress<SeekEnd>),
+) -> (Seek, Progress<SeekEnd>)
     requires of { IsPassOf table.now pass.old }
-    requires seek { told.1 ≡ More → (n : ℕ) × (x : Control) × IsSeeking n table.now x list.now target.now told.0 (caller table.now pass.old) }
-    ensures { (n : ℕ) (x : Control) (first : Seek) (old : Pass) → SeekStretch n table.now x list.now target.now first told.0 old pass.old told.1 → SeekStretch n table.now x list.now target.now first result.0 old pass.new result.1 }
+    requires seek { MayGoOn (the_walk sought.now) table.now (told.0, pass.old) told.1 }
+    ensures { GoesOn (the_walk sought.now) table.now (told.0, pass.old) told.1 (result.0, pass.new) result.1 }
 {
-    let (Seek::Reading(before, place), Sought::More) = told else {
+    let (Seek::Reading(before, place), Progress::More) = told else {
         return told;
     };
-    compare(table, pass, list, target, before, place)
+    compare(table, pass, sought, before, place)
 }
 
 /// Passes rows, where that is next.
@@ -146,18 +140,17 @@ fn then_compare(
 fn then_pass(
     table: &Table,
     pass: &mut Pass,
-    list: &ListAt,
-    target: &Target,
-    told: (Seek, Sought),
-) -> (Seek, Sought)
+    sought: &Sought,
+    told: (Seek, Progress<SeekEnd>),
+) -> (Seek, Progress<SeekEnd>)
     requires of { IsPassOf table.now pass.old }
-    requires seek { told.1 ≡ More → (n : ℕ) × (x : Control) × IsSeeking n table.now x list.now target.now told.0 (caller table.now pass.old) }
-    ensures { (n : ℕ) (x : Control) (first : Seek) (old : Pass) → SeekStretch n table.now x list.now target.now first told.0 old pass.old told.1 → SeekStretch n table.now x list.now target.now first result.0 old pass.new result.1 }
+    requires seek { MayGoOn (the_walk sought.now) table.now (told.0, pass.old) told.1 }
+    ensures { GoesOn (the_walk sought.now) table.now (told.0, pass.old) told.1 (result.0, pass.new) result.1 }
 {
-    let (Seek::Passing(before), Sought::More) = told else {
+    let (Seek::Passing(before), Progress::More) = told else {
         return told;
     };
-    pass_rows(table, pass, list, target, before)
+    pass_rows(table, pass, sought, before)
 }
 
 /// Makes one atomic step of the walk or more, of which only the first may be an exchange.
@@ -165,20 +158,19 @@ fn then_pass(
 pub(crate) fn run_seek(
     table: &Table,
     pass: &mut Pass,
-    list: &ListAt,
-    target: &Target,
+    sought: &Sought,
     seek: &mut Seek,
-) -> Sought
+) -> Progress<SeekEnd>
     requires of { IsPassOf table.now pass.old }
-    requires seek { (n : ℕ) × (x : Control) × IsSeeking n table.now x list.now target.now seek.old (caller table.now pass.old) }
-    ensures { (n : ℕ) (x : Control) → IsSeeking n table.now x list.now target.now seek.old (caller table.now pass.old) → SeekStretch n table.now x list.now target.now seek.old seek.new pass.old pass.new result }
+    requires seek { IsUnderWay (the_walk sought.now) table.now (seek.old, pass.old) }
+    ensures { MakesSteps (the_walk sought.now) table.now (seek.old, pass.old) (seek.new, pass.new) result }
 {
-    let answer = seek.step(table, pass, list, target);
-    let told = then_tag(table, pass, list, target, (*seek, answer));
-    let told = then_retire(table, pass, list, target, told);
-    let told = then_load(table, pass, list, target, told);
-    let told = then_compare(table, pass, list, target, told);
-    let (after, answer) = then_pass(table, pass, list, target, told);
+    let answer = seek.step(table, pass, sought);
+    let told = then_tag(table, pass, sought, (*seek, answer));
+    let told = then_retire(table, pass, sought, told);
+    let told = then_load(table, pass, sought, told);
+    let told = then_compare(table, pass, sought, told);
+    let (after, answer) = then_pass(table, pass, sought, told);
     *seek = after;
     answer
 }

@@ -1,27 +1,29 @@
 //! Taking the first present event of a list.
 ghost use Rattle.std.specs.Prelude.{◌≡◌, ◌⊎◌, ◌<◌, ◌≤◌, ◌+◌, ◌*◌, ◌%◌, ℕ, None};
 ghost use Rattle.crq_base.specs.declared.event.Event.{Event};
-ghost use Rattle.crq_base.specs.declared.words.Control.{Control};
 ghost use Rattle.crq_base.specs.declared.words.Link.{Link};
-ghost use Rattle.crq_rows.specs.Passes.{caller, IsPassOf};
+ghost use Rattle.crq_rows.specs.Passes.{IsPassOf};
 ghost use Rattle.crq_rule.specs.ListKinds.{event_word};
+ghost use Rattle.crq_rule.specs.Ranks.{first_head_of};
 ghost use Rattle.crq_rule.specs.Parts.{IsEvent};
 ghost use Rattle.crq_list.specs.declared.parts.Progress.TheVariants.{More, Done};
 ghost use Rattle.crq_list.specs.declared.take.MarkEnd.TheVariants.{Nothing};
 ghost use Rattle.crq_list.specs.declared.take.Taking.TheVariants.{Load, Walking, Reading, Marking};
-ghost use Rattle.crq_list.specs.Taking.{IsRead, IsTaking, TakeStepped, TakeStretch, taking_exchanges};
+ghost use Rattle.crq_list.specs.Operations.{IsUnderWay, MakesStep, MakesSteps};
+ghost use Rattle.crq_list.specs.Taking.{IsRead, the_take, take_at, taking_exchanges};
 
 use crate::parts::{Place, Progress, Spot};
 use crate::steps::{mark_step, walk_step};
 use crq_base::{Control, Event, Link, Mark};
 use crq_rows::{Pass, Table, read_step};
+use crq_rule::BANK;
 
 /// How a take from a list ends.
 #[derive(Clone, Copy, Debug, PartialEq, Eq)]
 pub enum MarkEnd {
     /// This row is marked dead: its event was taken.
     Marked(u32, Event),
-    /// The first present event isn't below the limit. It is this one.
+    /// The first present event isn't below the limit. It is this one, of the row at which the walk stopped.
     Beyond(Event),
     /// The list has no present event.
     Nothing,
@@ -57,9 +59,6 @@ pub struct TakeOp {
     /// How far it is.
     pub state: Taking,
 }
-
-/// How many heads a bank has.
-const BANK: u32 = 32768;
 
 /// An event of which no word was read.
 const UNREAD: Event = Event {
@@ -111,7 +110,7 @@ impl TakeOp {
     /// A take that has made no step, of the table that has this steady control word. Over one list, `place` names that
     /// list, whatever its number.
     pub fn new(found: Control, place: Place, limit: u64) -> TakeOp
-        ensures { result ≡ record { found = found; head = found.generation % 2 * 32768; limit = limit; state = Load } }
+        ensures { result ≡ record { found = found; head = first_head_of found.generation; limit = limit; state = Load } }
     {
         let _one_list = place;
         TakeOp {
@@ -133,8 +132,8 @@ impl TakeOp {
     #[inline(always)]
     fn load(&self, table: &Table, pass: &mut Pass) -> (Taking, Progress<MarkEnd>)
         requires of { IsPassOf table.now pass.old }
-        requires op { (n : ℕ) × (x : Control) × IsTaking n table.now x (record self.now { state = Load }) (caller table.now pass.old) }
-        ensures { (n : ℕ) (x : Control) → IsTaking n table.now x (record self.now { state = Load }) (caller table.now pass.old) → TakeStepped n table.now x (record self.now { state = Load }) (record self.now { state = result.0 }) pass.old pass.new result.1 }
+        requires op { IsUnderWay the_take table.now (take_at self.now Load, pass.old) }
+        ensures { MakesStep the_take table.now (take_at self.now Load, pass.old) (take_at self.now result.0, pass.new) result.1 }
     {
         let link = walk_step(table, pass, Spot::Head(self.head), true);
         match link.mark {
@@ -147,8 +146,8 @@ impl TakeOp {
     #[inline(always)]
     fn walk(&self, table: &Table, pass: &mut Pass, row: u32) -> (Taking, Progress<MarkEnd>)
         requires of { IsPassOf table.now pass.old }
-        requires op { (n : ℕ) × (x : Control) × IsTaking n table.now x (record self.now { state = Walking row }) (caller table.now pass.old) }
-        ensures { (n : ℕ) (x : Control) → IsTaking n table.now x (record self.now { state = Walking row }) (caller table.now pass.old) → TakeStepped n table.now x (record self.now { state = Walking row }) (record self.now { state = result.0 }) pass.old pass.new result.1 }
+        requires op { IsUnderWay the_take table.now (take_at self.now (Walking row), pass.old) }
+        ensures { MakesStep the_take table.now (take_at self.now (Walking row), pass.old) (take_at self.now result.0, pass.new) result.1 }
     {
         let link = walk_step(table, pass, Spot::Row(row), true);
         match link.mark {
@@ -170,8 +169,8 @@ impl TakeOp {
         event: Event,
     ) -> (Taking, Progress<MarkEnd>)
         requires of { IsPassOf table.now pass.old }
-        requires op { (n : ℕ) × (x : Control) × IsTaking n table.now x (record self.now { state = Reading row link place event }) (caller table.now pass.old) }
-        ensures stepped { (n : ℕ) (x : Control) → IsTaking n table.now x (record self.now { state = Reading row link place event }) (caller table.now pass.old) → TakeStepped n table.now x (record self.now { state = Reading row link place event }) (record self.now { state = result.0 }) pass.old pass.new result.1 }
+        requires op { IsUnderWay the_take table.now (take_at self.now (Reading row link place event), pass.old) }
+        ensures stepped { MakesStep the_take table.now (take_at self.now (Reading row link place event), pass.old) (take_at self.now result.0, pass.new) result.1 }
         ensures same { (other : ℕ) (found : Link) (next : ℕ) (read : Event) → result.0 ≡ Reading other found next read → (other ≡ row) × (found ≡ link) }
     {
         let word = read_step(table, pass, row, place);
@@ -197,8 +196,8 @@ impl TakeOp {
         unread: Event,
     ) -> (Taking, Progress<MarkEnd>)
         requires of { IsPassOf table.now pass.old }
-        requires op { (n : ℕ) × (x : Control) × IsTaking n table.now x (record self.now { state = Reading row link first unread }) (caller table.now pass.old) }
-        ensures { (n : ℕ) (x : Control) → IsTaking n table.now x (record self.now { state = Reading row link first unread }) (caller table.now pass.old) → TakeStretch n table.now x (record self.now { state = Reading row link first unread }) (record self.now { state = result.0 }) pass.old pass.new result.1 }
+        requires op { IsUnderWay the_take table.now (take_at self.now (Reading row link first unread), pass.old) }
+        ensures { MakesSteps the_take table.now (take_at self.now (Reading row link first unread), pass.old) (take_at self.now result.0, pass.new) result.1 }
     {
         let (mut place, mut event) = (first, unread);
         loop {
@@ -215,8 +214,8 @@ impl TakeOp {
     #[inline(always)]
     fn walk_rows(&self, table: &Table, pass: &mut Pass, first: u32) -> (Taking, Progress<MarkEnd>)
         requires of { IsPassOf table.now pass.old }
-        requires op { (n : ℕ) × (x : Control) × IsTaking n table.now x (record self.now { state = Walking first }) (caller table.now pass.old) }
-        ensures { (n : ℕ) (x : Control) → IsTaking n table.now x (record self.now { state = Walking first }) (caller table.now pass.old) → TakeStretch n table.now x (record self.now { state = Walking first }) (record self.now { state = result.0 }) pass.old pass.new result.1 }
+        requires op { IsUnderWay the_take table.now (take_at self.now (Walking first), pass.old) }
+        ensures { MakesSteps the_take table.now (take_at self.now (Walking first), pass.old) (take_at self.now result.0, pass.new) result.1 }
     {
         let mut row = first;
         loop {
@@ -232,8 +231,8 @@ impl TakeOp {
     #[inline(always)]
     fn from_walking(&self, table: &Table, pass: &mut Pass, row: u32) -> (Taking, Progress<MarkEnd>)
         requires of { IsPassOf table.now pass.old }
-        requires op { (n : ℕ) × (x : Control) × IsTaking n table.now x (record self.now { state = Walking row }) (caller table.now pass.old) }
-        ensures { (n : ℕ) (x : Control) → IsTaking n table.now x (record self.now { state = Walking row }) (caller table.now pass.old) → TakeStretch n table.now x (record self.now { state = Walking row }) (record self.now { state = result.0 }) pass.old pass.new result.1 }
+        requires op { IsUnderWay the_take table.now (take_at self.now (Walking row), pass.old) }
+        ensures { MakesSteps the_take table.now (take_at self.now (Walking row), pass.old) (take_at self.now result.0, pass.new) result.1 }
     {
         let told = self.walk_rows(table, pass, row);
         let (Taking::Reading(row, link, place, event), Progress::More) = told else {
@@ -246,8 +245,8 @@ impl TakeOp {
     #[inline(always)]
     fn from_load(&self, table: &Table, pass: &mut Pass) -> (Taking, Progress<MarkEnd>)
         requires of { IsPassOf table.now pass.old }
-        requires op { (n : ℕ) × (x : Control) × IsTaking n table.now x (record self.now { state = Load }) (caller table.now pass.old) }
-        ensures { (n : ℕ) (x : Control) → IsTaking n table.now x (record self.now { state = Load }) (caller table.now pass.old) → TakeStretch n table.now x (record self.now { state = Load }) (record self.now { state = result.0 }) pass.old pass.new result.1 }
+        requires op { IsUnderWay the_take table.now (take_at self.now Load, pass.old) }
+        ensures { MakesSteps the_take table.now (take_at self.now Load, pass.old) (take_at self.now result.0, pass.new) result.1 }
     {
         let told = self.load(table, pass);
         let (Taking::Walking(row), Progress::More) = told else {
@@ -268,8 +267,8 @@ impl TakeOp {
     ) -> (Taking, Progress<MarkEnd>)
         requires of { IsPassOf table.now pass.old }
         requires free { pass.old.debts.cut ≡ None }
-        requires op { (n : ℕ) × (x : Control) × IsTaking n table.now x (record self.now { state = Marking row link event }) (caller table.now pass.old) }
-        ensures { (n : ℕ) (x : Control) → IsTaking n table.now x (record self.now { state = Marking row link event }) (caller table.now pass.old) → TakeStepped n table.now x (record self.now { state = Marking row link event }) (record self.now { state = result.0 }) pass.old pass.new result.1 }
+        requires op { IsUnderWay the_take table.now (take_at self.now (Marking row link event), pass.old) }
+        ensures { MakesStep the_take table.now (take_at self.now (Marking row link event), pass.old) (take_at self.now result.0, pass.new) result.1 }
     {
         let end = if mark_step(table, pass, &self.found, row, link, &event) {
             MarkEnd::Marked(row, event)
@@ -284,8 +283,8 @@ impl TakeOp {
     pub fn step(&mut self, table: &Table, pass: &mut Pass) -> Progress<MarkEnd>
         requires of { IsPassOf table.now pass.old }
         requires free { pass.old.debts.cut ≡ None }
-        requires op { (n : ℕ) × (x : Control) × IsTaking n table.now x self.old (caller table.now pass.old) }
-        ensures { (n : ℕ) (x : Control) → IsTaking n table.now x self.old (caller table.now pass.old) → TakeStepped n table.now x self.old self.new pass.old pass.new result }
+        requires op { IsUnderWay the_take table.now (self.old, pass.old) }
+        ensures { MakesStep the_take table.now (self.old, pass.old) (self.new, pass.new) result }
     {
         let (state, answer) = match self.state {
             Taking::Load => self.load(table, pass),
@@ -304,8 +303,8 @@ impl TakeOp {
     pub fn run(&mut self, table: &Table, pass: &mut Pass) -> Progress<MarkEnd>
         requires of { IsPassOf table.now pass.old }
         requires free { pass.old.debts.cut ≡ None }
-        requires op { (n : ℕ) × (x : Control) × IsTaking n table.now x self.old (caller table.now pass.old) }
-        ensures { (n : ℕ) (x : Control) → IsTaking n table.now x self.old (caller table.now pass.old) → TakeStretch n table.now x self.old self.new pass.old pass.new result }
+        requires op { IsUnderWay the_take table.now (self.old, pass.old) }
+        ensures { MakesSteps the_take table.now (self.old, pass.old) (self.new, pass.new) result }
     {
         let (state, answer) = match self.state {
             Taking::Load => self.from_load(table, pass),

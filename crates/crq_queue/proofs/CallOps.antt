@@ -1,5 +1,5 @@
 -- The operations of a call: what they begin with, and what the stage made of one leaves.
-use Rattle.std.proofs.Common.{◌≡◌, ⊎_elim, ℕ, ◌*◌, ◌%◌, ◌≤◌, length, Some, None, Ok, Err, refl, sym, ap, ◌∙◌, subst, arith}
+use Rattle.std.proofs.Common.{◌≡◌, ⊎_elim, ℕ, ◌*◌, ◌%◌, ◌≤◌, length, drop, Some, None, Ok, Err, refl, sym, ap, ◌∙◌, subst, arith}
 use Rattle.crq_base.specs.declared.event.Event.{Event}
 use Rattle.crq_base.specs.declared.words.Control.{Control}
 use Rattle.crq_base.specs.declared.words.Link.{Link}
@@ -10,7 +10,7 @@ use Rattle.crq_rule.specs.declared.pass.Table.{Table}
 use Rattle.crq_rule.specs.Lists.{In}
 use Rattle.crq_rule.specs.Parts.{IsEvent}
 use Rattle.crq_rule.specs.Places.{IsHead}
-use Rattle.crq_rule.specs.Ranks.{head_of, IsOpen}
+use Rattle.crq_rule.specs.Ranks.{head_of, IsOpen, at_head}
 use Rattle.crq_rule.specs.HistoryParts.{EndsInBegin}
 use Rattle.crq_rule.specs.ListKinds.{IsFresh}
 use Rattle.crq_rows.specs.Passes.{caller, IsPassOf}
@@ -30,6 +30,7 @@ use Rattle.crq_queue.specs.declared.runs.Spent.{Spent}
 use Rattle.crq_queue.specs.Runs.{IsInside}
 use Rattle.crq_queue.specs.Parts.{CutRan, UptoNeeds}
 use Rattle.crq_queue.specs.Stages.{CutFinished}
+use Rattle.crq_list.proofs.SweepLaws.{sweep_begins}
 use Rattle.crq_queue.proofs.RunLaws.{used_for}
 use Rattle.crq_queue.proofs.CallSteps.{head_open, first_open, is_uncut, uncut_ran}
 
@@ -44,12 +45,13 @@ module _ {table : Table} {x : Control} {pass : Pass} (of : IsPassOf table pass) 
 
   -- a cut up to a row of an event
   pub may_cut : {n : ℕ} (op : CutOp) (list : ListAt) (e : Event) (r : ℕ) → n ≤ length (caller table pass).made → (list.generation ≡ x.generation) × (list.head ≡ head_of x e)
-      → op ≡ record { list = list; upto = Some (e, r); seek = Load (Head list.head) } → IsCutting n table x op (caller table pass)
+      → op ≡ record { sought = record { list = list; target = Some (e, r) }; seek = Load (Head list.head) } → IsCutting n table x op (caller table pass)
   may_cut {n} op list e r counted names is = subst (λ op. IsCutting n table x op (caller table pass)) (sym is) record {
     counted = counted;
     on = inside.on;
     list_is = event_list list e names.0 names.1;
     target_is = sym names.1;
+    swept = sweep_begins table.start.layout (at_head list.head) (drop n (caller table pass).made);
     at = (inside.uncut, refl);
   }
 
@@ -93,11 +95,11 @@ module _ {table : Table} {x : Control} {pass : Pass} (of : IsPassOf table pass) 
 
 module _ {table : Table} {n budget : ℕ} {x : Control} {op : CutOp} {old mid : Pass} (d : CutDebt) where
   -- it isn't known as owed any more
-  cut_known : CutRan table n budget x op old mid (Ok tt) → old.debts.cut ≡ Some d → op.upto ≡ Some (d.event, d.row) → op.list.head ≡ head_of x d.event → (caller table mid).debts.cut ≡ None
+  cut_known : CutRan table n budget x op old mid (Ok tt) → old.debts.cut ≡ Some d → op.sought.target ≡ Some (d.event, d.row) → op.sought.list.head ≡ head_of x d.event → (caller table mid).debts.cut ≡ None
   cut_known c owes upto head = ⊎_elim (λ q. q) (λ q. let known : (caller table mid).debts.cut ≡ Some d = q ∙ (ap (λ (d : Debts). d.cut) c.debts ∙ owes) in
       absurd (c.ended d upto (c.ran.is.lawful.owed_at d x known c.inside.control ∙ sym head) known)) c.ran.is.debts.cut
 
-  pub cut_finished : {u : Unit {0}} → CutRan table n budget x op old mid (Ok u) → old.debts.cut ≡ Some d → op.upto ≡ Some (d.event, d.row) → op.list.head ≡ head_of x d.event
+  pub cut_finished : {u : Unit {0}} → CutRan table n budget x op old mid (Ok u) → old.debts.cut ≡ Some d → op.sought.target ≡ Some (d.event, d.row) → op.sought.list.head ≡ head_of x d.event
       → CutFinished table n budget x old (record mid { debts = record mid.debts { cut = None } }) (Ok tt)
   cut_finished c owes upto head = let of = is_uncut c.ran.is (cut_known c owes upto head) in record {
     ran = uncut_ran c.ran of;
@@ -106,5 +108,5 @@ module _ {table : Table} {n budget : ℕ} {x : Control} {op : CutOp} {old mid : 
     finished = refl;
   }
 
-pub cut_unfinished : {table : Table} {n budget : ℕ} {x : Control} {op : CutOp} {old new : Pass} {s t : Spent} (d : CutDebt) → CutRan table n budget x op old new (Err s) → old.debts.cut ≡ Some d → op.upto ≡ Some (d.event, d.row) → CutFinished table n budget x old new (Err t)
-cut_unfinished {table} {n} d c owes upto = record { ran = c.ran; inside = c.inside; free = c.free; finished = used_for (λ p needs. record { debt = d; owes = owes; cuts = subst (λ u. UptoNeeds n table u p) upto needs }) c.ended }
+pub cut_unfinished : {table : Table} {n budget : ℕ} {x : Control} {op : CutOp} {old new : Pass} {s t : Spent} (d : CutDebt) → CutRan table n budget x op old new (Err s) → old.debts.cut ≡ Some d → op.sought.target ≡ Some (d.event, d.row) → CutFinished table n budget x old new (Err t)
+cut_unfinished {table} {n} d c owes upto = record { ran = c.ran; inside = c.inside; free = c.free; finished = (ap (λ (d : Debts). d.cut) c.debts, used_for (λ p needs. record { debt = d; owes = owes; cuts = subst (λ u. UptoNeeds n table u p) upto needs }) c.ended) }

@@ -36,7 +36,10 @@ use Rattle.crq_list.specs.Taking.{IsTaking}
 use Rattle.crq_list.specs.Swaps.{Controlled}
 use Rattle.crq_queue.specs.declared.runs.Spent.{Spent}
 use Rattle.crq_queue.specs.Wholes.{IsResting}
-use Rattle.crq_queue.specs.Runs.{Ran, RanTicks, MayRun, IsInside}
+use Rattle.crq_rows.specs.declared.recover.RecoverOp.TheVariants.{Ticking}
+use Rattle.crq_rows.specs.declared.tick.TickOp.TheVariants.{Load}
+use Rattle.crq_queue.specs.Runs.{Ran, RanTicks, MayRun, IsInside, Recovered}
+use Rattle.crq_queue.specs.Calls.{NoRow}
 use Rattle.crq_queue.specs.Parts.{Entered, Left, InsertNeeds, TakeNeeds, CutNeeds, IsUsedUp, InsertRan, OwnRan, RecoverRan, TakeRan}
 use Rattle.crq_queue.specs.Stages.{CutFinished, DebtSettled, EventInserted, EventTaken, IsFinished, RowAnswers, RowFound}
 use Rattle.crq_queue.proofs.RunLaws.{ran_none, ran_trans, ran_both, ran_ticks, used_on}
@@ -56,7 +59,7 @@ owes_some None e is = false≢true e
 -- what a cut leaves may also be said from an earlier pass on, which owed the same, and of a later one, whose guard is off
 still_finished : (table : Table) (n budget : ℕ) (old start end new : Pass) (result : Result (Unit {0}) Spent) → start.debts.cut ≡ old.debts.cut → Left table n budget end new → IsFinished table n budget start end result → IsFinished table n budget old new result
 still_finished table n budget old start end new (Ok u) same l f = ap (λ (d : Debts). d.cut) l.keeps.debts ∙ f
-still_finished table n budget old start end new (Err s) same l f = used_on (subst (λ owed. IsUsedUp table n budget (CutNeeds n table owed) end) same f) l.ran l.turns
+still_finished table n budget old start end new (Err s) same l f = (ap (λ (d : Debts). d.cut) l.keeps.debts ∙ (f.0 ∙ same), used_on (subst (λ owed. IsUsedUp table n budget (CutNeeds n table owed) end) same f.1) l.ran l.turns)
 
 module _ {table : Table} {budget : ℕ} {a b c : Pass} {x : Control} (r : IsResting table a) (load : Controlled ControlLoad table a b loads_control x) (enter : (n budget : ℕ) → MayRun table n budget b → Entered table n budget b c) where
   -- inside, after a load of the control word
@@ -107,14 +110,14 @@ module _ {table : Table} {budget : ℕ} {a b : Pass} {x : Control} (r : IsRestin
       pub enter_linked : {n : ℕ} → MayRun table n budget a → IsAtWork table x c
       enter_linked {n} may = inserted_inside n budget op result (enter_inside may).1 (insert n x (enter_insert may))
 
-    inserted : (n : ℕ) (c d : Pass) (answer : Result (Unit {0}) Spent) → Ran table n budget a b [] × IsAtWork table x b → InsertRan table n budget x op b c answer → (MayRun table n budget c → Left table n budget c d) → MayRun table n budget a → EventInserted table n budget event a d answer
-    inserted n c d (Ok u) one i leave may = let ran = one.0 in let l = leave (may_go (may_go may ran) i.0) in
-        (subst (λ (p : ℕ × Event). Ran table n budget a d (put_entries p.0 p.1)) (λ k. (ran.number k, ap (λ (o : InsertOp). o.event) is k)) (ran_trans ran (ran_trans i.0 l.ran)), comes_to_rest (works_on one.1 i.0 i.1) l)
-    inserted n c d (Err s) one i leave may = let ran = one.0 in let l = leave (may_go (may_go may ran) i.0) in (ran_trans ran (ran_trans i.0 l.ran), comes_to_rest (works_on one.1 i.0 i.1) l, subst (λ (o : InsertOp). IsUsedUp table n budget (InsertNeeds n table o.event) d) is (used_on i.3 l.ran l.turns))
+    inserted : (n : ℕ) (c d : Pass) (answer : Result (Unit {0}) Spent) → Ran table n budget a b [] × IsAtWork table x b → b.debts ≡ a.debts → InsertRan table n budget x op b c answer → (MayRun table n budget c → Left table n budget c d) → MayRun table n budget a → EventInserted table n budget event a d answer
+    inserted n c d (Ok u) one kept i leave may = let ran = one.0 in let l = leave (may_go (may_go may ran) i.0) in
+        (subst (λ (p : ℕ × Event). Ran table n budget a d (put_entries p.0 p.1)) (λ k. (ran.number k, ap (λ (o : InsertOp). o.event) is k)) (ran_trans ran (ran_trans i.0 l.ran)), comes_to_rest (works_on one.1 i.0 i.1) l, ap (λ (d : Debts). d.cut) (l.keeps.debts ∙ (i.2 ∙ kept)))
+    inserted n c d (Err s) one kept i leave may = let ran = one.0 in let l = leave (may_go (may_go may ran) i.0) in (ran_trans ran (ran_trans i.0 l.ran), comes_to_rest (works_on one.1 i.0 i.1) l, ap (λ (d : Debts). d.cut) (l.keeps.debts ∙ (i.2 ∙ kept)), subst (λ (o : InsertOp). IsUsedUp table n budget (InsertNeeds n table o.event) d) is (used_on i.3 l.ran l.turns))
 
     pub event_inserted : (c d : Pass) (result : Result (Unit {0}) Spent) → ((n : ℕ) (y : Control) → IsInserting n table y op (caller table b) → InsertRan table n budget y op b c result) → ((n budget : ℕ) → MayRun table n budget c → Left table n budget c d)
         → {n : ℕ} → MayRun table n budget a → EventInserted table n budget event a d result
-    event_inserted c d result insert leave {n} may = inserted n c d result (enter_inside may) (insert n x (enter_insert may)) (leave n budget) may
+    event_inserted c d result insert leave {n} may = inserted n c d result (enter_inside may) (enter n budget may).keeps.debts (insert n x (enter_insert may)) (leave n budget) may
 
 -- A row to put an event into
 
@@ -133,15 +136,19 @@ module _ {table : Table} {n budget : ℕ} {a b : Pass} (r : IsResting table a) w
   own_found o = record { ran = ran_ticks o.ran (let none = o.ran.ticks in omega arith); rests = own_rests o; found = o.found; debts = o.debts; answers = o.ended }
 
   -- after a recovery
-  recovered : {c : Pass} {result : Result Recover Spent} (answer : Result ℕ Refusal) → OwnRan table n budget a b None → RecoverRan table n budget b c result → RowAnswers table n budget c answer → RowFound table n budget a c answer
+  recovered : {c : Pass} {result : Result Recover Spent} (answer : Result ℕ Refusal) → OwnRan table n budget a b None → RecoverRan table n budget b c result → RowAnswers table n budget a c answer → RowFound table n budget a c answer
   recovered answer o v answers = record { ran = ran_both o.ran v.ran; rests = stays_at_rest (own_rests o) v.ran v.guard v.uncut; found = v.found ∙ o.found; debts = v.debts ∙ o.debts; answers = answers }
+
+  -- it recovered no row, after none was found
+  no_row : {c : Pass} {answer : Recover} {result : Result Recover Spent} → OwnRan table n budget a b None → RecoverRan table n budget b c result → Recovered table (Ticking 0 Load) b c answer → NoRow table a c answer
+  no_row {c} o v recovers = record { looked = b; looks = o.ended.0; look_follows = (o.ran.since, o.ran.made); none = o.ended.1; recovers = recovers; recovery_follows = (v.ran.since, v.ran.made) }
 
   module _ {c : Pass} (o : OwnRan table n budget a b None) where
     pub recovered_held : {holder : Holder} → RecoverRan table n budget b c (Ok (IsHeld holder)) → RowFound table n budget a c (Err (Held holder))
-    recovered_held {holder} v = recovered (Err (Held holder)) o v (b, o.ended, v.ended)
+    recovered_held {holder} v = recovered (Err (Held holder)) o v (no_row o v v.ended)
 
     pub recovered_none : RecoverRan table n budget b c (Ok NoRows) → RowFound table n budget a c (Err Rows)
-    recovered_none v = recovered (Err Rows) o v (b, o.ended, v.ended)
+    recovered_none v = recovered (Err Rows) o v (no_row o v v.ended)
 
     pub recovered_late : {s : Spent} → RecoverRan table n budget b c (Err s) → RowFound table n budget a c (Err (Again budget))
     recovered_late v = recovered (Err (Again budget)) o v (refl, v.ended)
@@ -183,7 +190,7 @@ module _ {table : Table} {budget : ℕ} {x : Control} {start a : Pass} {op : Tak
   module _ (b : Pass) (end : MarkEnd) (take : (n : ℕ) (y : Control) → IsTaking n table y op (caller table a) → TakeRan table n budget y op a b (Ok end)) where
     pub take_marked : {row : ℕ} {e : Event} → end ≡ Marked row e → {n : ℕ} → MayRun table n budget start → EventTaken table n budget x limit start b (Ok (Some e))
     take_marked {row} {e} at {n} may = let t = subst (λ z. TakeRan table n budget x op a b (Ok z)) at (taken b (Ok end) take may) in let r = m.ran n may in
-        (subst (λ j. Ran table n budget start b (Take j e ∷ [])) r.number (ran_trans r t.0), t.1, subst (λ (o : TakeOp). e.time < o.limit) is t.2)
+        (subst (λ j. Ran table n budget start b (Take j e ∷ [])) r.number (ran_trans r t.0), t.1, subst (λ (o : TakeOp). e.time < o.limit) is t.2, (row, t.3))
 
     pub take_lost : end ≡ Lost → IsMarking table budget x start b × (a.turns < b.turns)
     take_lost at = let t = subst (λ z. TakeRan table 0 budget x op a b (Ok z)) at (taken_first b (Ok end) take) in (
@@ -207,4 +214,4 @@ module _ {table : Table} {budget : ℕ} {x : Control} {start a : Pass} {op : Tak
           (subst (λ j. Ran table n budget start d (Miss j limit ∷ [])) both.number (ran_trans both miss), (y, miss_inside c t.1), ap (λ (p : Pass). p.debts.cut) c.same ∙ (ap (λ (d : Debts). d.cut) t.2 ∙ m.free))
 
   pub take_late : (b : Pass) (s s' : Spent) → ((n : ℕ) (y : Control) → IsTaking n table y op (caller table a) → TakeRan table n budget y op a b (Err s)) → {n : ℕ} → MayRun table n budget start → EventTaken table n budget x limit start b (Err s')
-  take_late b s s' take {n} may = let t = taken b (Err s) take may in (ran_trans (m.ran n may) t.0, t.1, subst (λ (o : TakeOp). IsUsedUp table n budget (TakeNeeds n table o.limit) b) is t.3)
+  take_late b s s' take {n} may = let t = taken b (Err s) take may in (ran_trans (m.ran n may) t.0, t.1, ap (λ (d : Debts). d.cut) t.2 ∙ m.free, subst (λ (o : TakeOp). IsUsedUp table n budget (TakeNeeds n table o.limit) b) is t.3)

@@ -23,7 +23,8 @@ use Rattle.crq_list.specs.Swaps.{Controlled}
 use Rattle.crq_queue.specs.Wholes.{IsResting}
 use Rattle.crq_queue.specs.Runs.{Ran, RanTicks, MayRun, IsInside}
 use Rattle.crq_queue.specs.Parts.{Entered, Left}
-use Rattle.crq_queue.specs.Calls.{Called}
+use Rattle.crq_queue.specs.Calls.{Called, call}
+use Rattle.crq_queue.specs.Stages.{anew}
 use Rattle.crq_queue.proofs.RunLaws.{ran_ticks, ran_quiet, may_run_on}
 
 -- The heads of the open table
@@ -117,7 +118,7 @@ seated_anew debts turns s = record { seated = s.seated; bare = s.bare; one = s.o
 
 module _ {table : Table} {old : Pass} where
   -- the exchanges are counted from none on
-  pub rests_anew : IsResting table old → IsResting table (record old { turns = 0 })
+  pub rests_anew : IsResting table old → IsResting table (anew old)
   rests_anew r = record {
     is = record { sits = seated_anew old.debts 0 r.is.sits; lawful = r.is.lawful; free = r.is.free; room = r.is.room; debts = r.is.debts };
     guard = r.guard;
@@ -127,10 +128,10 @@ module _ {table : Table} {old : Pass} where
     second_cut = r.second_cut;
   }
 
-  pub called_ticks : {budget : ℕ} {new : Pass} {es : List Entry} → RanTicks table (length (caller table old).made) budget 3 (record old { turns = 0 }) new es → IsResting table new → Called table budget old new es
+  pub called_ticks : {budget : ℕ} {new : Pass} {es : List Entry} → RanTicks table (length (caller table old).made) budget 3 (anew old) new es → IsResting table new → Called (call table budget old) new es
   called_ticks ran rests = record { rests = rests; number = ran.number; deal = ran.deal; own = ran.own; since = ran.since; made = ran.made; fair = ran.fair; turns = let t = ran.turns in omega arith; within = let t = ran.turns in let w = ran.within in omega arith; ticks = ran.ticks }
 
-  pub called : {budget : ℕ} {new : Pass} {es : List Entry} → Ran table (length (caller table old).made) budget (record old { turns = 0 }) new es → IsResting table new → Called table budget old new es
+  pub called : {budget : ℕ} {new : Pass} {es : List Entry} → Ran table (length (caller table old).made) budget (anew old) new es → IsResting table new → Called (call table budget old) new es
   called ran rests = called_ticks (ran_ticks ran (let none = ran.ticks in omega arith)) rests
 
   -- the row that was to be cut isn't owed any more
@@ -140,7 +141,7 @@ module _ {table : Table} {old : Pass} where
   pub uncut_ran : {n budget : ℕ} {start : Pass} {es : List Entry} → Ran table n budget start old es → IsPassOf table (record old { debts = record old.debts { cut = None } }) → Ran table n budget start (record old { debts = record old.debts { cut = None } }) es
   uncut_ran r of = record { is = of; number = r.number; deal = r.deal; own = r.own; settle = r.settle; copy = r.copy; second_cut = r.second_cut; since = r.since; made = r.made; fair = r.fair; turns = r.turns; ticks = r.ticks; within = r.within; counted = r.counted }
 
-pub may_anew : (table : Table) (old : Pass) {budget : ℕ} → budget < 4294967296 → MayRun table (length (caller table old).made) budget (record old { turns = 0 })
+pub may_anew : (table : Table) (old : Pass) {budget : ℕ} → budget < 4294967296 → MayRun table (length (caller table old).made) budget (anew old)
 may_anew table old low = record { counted = le_refl (length (caller table old).made); within = omega arith; low = low }
 
 -- a part may also be looked at as if its call had begun before all steps

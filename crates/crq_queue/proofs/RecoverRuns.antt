@@ -28,7 +28,7 @@ use Rattle.crq_rows.specs.Owning.{IsOwning, OwnFacts, OwnStepped}
 use Rattle.crq_rows.specs.Recovering.{IsRecovering, RecoverMakes, RecoverNext, RecoverAnswer, MovesOn, RecoverKnows, RecoverStepped, recover_exchanges, recover_left}
 use Rattle.crq_rows.proofs.Working.{plain_no_tick, own_works, recover_works}
 use Rattle.crq_queue.specs.declared.runs.Spent.{Spent}
-use Rattle.crq_queue.specs.Runs.{RanTicks, MayRun, Recovered, ends, goes_on, ticks_of}
+use Rattle.crq_queue.specs.Runs.{RanTicks, MayRun, Looked, looks_last, looks_on, Recovered, ends, goes_on, ticks_of}
 use Rattle.crq_queue.specs.Parts.{OwnEnded, OwnRan, RecoverEnded, RecoverRan}
 use Rattle.crq_queue.proofs.RunLaws.{ran_none, ran_both, ran_ticks, ran_step, none_ticks, may_run_on, used_up, ticks_append}
 
@@ -66,6 +66,13 @@ pub record OwnGoes (table : Table) (n budget : ℕ) (old new : Pass) : Type 0 wh
   pub quiet : kept.most ≡ 0
   pub turns : new.turns ≡ old.turns
 
+-- how a look goes on from here is how it went on from the beginning
+abbrev pub LooksFrom : Table → OwnOp → Pass → Pass → Type 0
+LooksFrom table op old new = (last : Pass) (answer : Own) → Looked table op new last answer → Looked table Load old last answer
+
+pub looks_from_more : (table : Table) (op op' : OwnOp) (old mid new : Pass) → LooksFrom table op old mid → OwnStepped table op op' mid new More → LooksFrom table op' old new
+looks_from_more table op op' old mid new goes s last answer r = goes last answer (looks_on op op' mid new last answer s r)
+
 pub own_begins : {table : Table} {n budget : ℕ} {pass : Pass} → IsPassOf table pass → MayRun table n budget pass → OwnGoes table n budget pass pass
 unfolding kept_none
 own_begins of may = record { kept = kept_none of may; quiet = refl; turns = refl }
@@ -92,7 +99,7 @@ module _ (table : Table) (n budget : ℕ) (old : Pass) (low : budget < 429496729
     turns = turns ∙ g.turns;
   }
 
-  own_ran : OwnGoes table n budget old new → (result : Option ℕ) → OwnEnded table new result → OwnRan table n budget old new result
+  own_ran : OwnGoes table n budget old new → (result : Option ℕ) → OwnEnded table old new result → OwnRan table n budget old new result
   own_ran h result ended = let k = h.kept in record { ran = ran_ticks k.ran (let most = k.ran.ticks in let none = h.quiet in omega arith); found = k.found; guard = k.guard; owed = k.owed; uncut = k.uncut; debts = k.debts; turns = h.turns; ended = ended }
 
   pub own_more : OwnStepped table op op' mid new More → OwnGoes table n budget old new
@@ -111,9 +118,12 @@ module _ (table : Table) (n budget : ℕ) (old : Pass) (low : budget < 429496729
       row_same : (a b : ℕ) → Row a ≡ Row b → a ≡ b
       row_same a b e = cc
 
-  pub own_empty : OwnStepped table op op' mid new Empty → OwnRan table n budget old new None
-  own_empty s = ⊎_elim (λ (h : HasFirst mid new Empty). absurd (row_no_empty h.1.0 h.1.3)) (λ f. own_ran (own_on Empty s f) None f.answer) (own_split table op op' mid new Empty s)
+  pub own_empty : LooksFrom table op old mid → OwnStepped table op op' mid new Empty → OwnRan table n budget old new None
+  own_empty goes s = ⊎_elim (λ (h : HasFirst mid new Empty). absurd (row_no_empty h.1.0 h.1.3)) (λ f. own_ran (own_on Empty s f) None (goes new Empty (looks_last op op' mid new Empty empty_no_more s), f.answer)) (own_split table op op' mid new Empty s)
     where
+      empty_no_more : Empty ≡ More → ⊥
+      empty_no_more e = cc
+
       row_no_empty : (row : ℕ) → Empty ≡ Row row → ⊥
       row_no_empty row e = cc
 

@@ -16,7 +16,7 @@ use Rattle.crq_rows.specs.Known.{Stays, turns_after}
 use Rattle.crq_list.specs.declared.cut.CutOp.{CutOp}
 use Rattle.crq_list.specs.declared.seek.Seek.{Seek}
 use Rattle.crq_list.specs.declared.seek.Seek.TheVariants.{Load, Reading, Passing, Cutting, Tagging, Retiring}
-use Rattle.crq_list.specs.declared.parts.ListAt.{ListAt}
+use Rattle.crq_list.specs.declared.seek.Sought.{Sought}
 use Rattle.crq_list.specs.declared.parts.Spot.TheVariants.{Head, Row}
 use Rattle.crq_list.specs.declared.insert.InsertOp.{InsertOp}
 use Rattle.crq_list.specs.declared.insert.Inserting.{Inserting}
@@ -32,10 +32,9 @@ use Rattle.crq_list.specs.declared.parts.Progress.{Progress}
 use Rattle.crq_list.specs.declared.parts.Progress.TheVariants.{More, Done}
 use Rattle.crq_list.specs.declared.cut.CutEnd.{CutEnd}
 use Rattle.crq_list.specs.declared.cut.CutEnd.TheVariants.{Clean}
-use Rattle.crq_list.specs.Spots.{Target}
 use Rattle.crq_list.specs.Seeking.{IsSeeking, seek_exchanges, seek_left}
 use Rattle.crq_list.specs.Cutting.{IsCutting, CutStepped}
-use Rattle.crq_list.specs.Inserting.{target_of, IsInsertingAt, IsInserting, state_exchanges, insert_exchanges, state_left, InsertStepped}
+use Rattle.crq_list.specs.Inserting.{sought_by, IsInsertingAt, IsInserting, state_exchanges, insert_exchanges, state_left, InsertStepped}
 use Rattle.crq_list.specs.Taking.{IsTaking, taking_exchanges, taking_left, TakeStepped}
 use Rattle.crq_queue.specs.declared.runs.Spent.{Spent}
 use Rattle.crq_queue.specs.Runs.{Ran, IsInside}
@@ -73,13 +72,13 @@ seek_small (Tagging spot row) p = omega arith
 seek_small (Retiring spot row tag) p = omega arith
 
 -- where the next step of a walk is an exchange, it has no cut row
-seek_uncut : (n : ℕ) (table : Table) (x : Control) (list : ListAt) (target : Target) (seek : Seek) (p : Caller) → IsSeeking n table x list target seek p → seek_exchanges seek ≡ true → p.cut ≡ None
-seek_uncut n table x list target (Cutting b last) p i e = i.at.0
-seek_uncut n table x list target (Load spot) p i e = i.at.0
-seek_uncut n table x list target (Reading b place) p i e = i.at.0
-seek_uncut n table x list target (Passing b) p i e = i.at.0
-seek_uncut n table x list target (Tagging spot row) p i e = absurd (false≢true e)
-seek_uncut n table x list target (Retiring spot row tag) p i e = absurd (false≢true e)
+seek_uncut : (n : ℕ) (table : Table) (x : Control) (sought : Sought) (seek : Seek) (p : Caller) → IsSeeking n table x sought seek p → seek_exchanges seek ≡ true → p.cut ≡ None
+seek_uncut n table x sought (Cutting b last) p i e = i.at.0
+seek_uncut n table x sought (Load spot) p i e = i.at.0
+seek_uncut n table x sought (Reading b place) p i e = i.at.0
+seek_uncut n table x sought (Passing b) p i e = i.at.0
+seek_uncut n table x sought (Tagging spot row) p i e = absurd (false≢true e)
+seek_uncut n table x sought (Retiring spot row tag) p i e = absurd (false≢true e)
 
 state_small : (state : Inserting) (p : Caller) → state_left state p < big
 state_small (Writing place) p = omega arith
@@ -95,7 +94,7 @@ taking_small (Marking r l e) p = omega arith
 
 state_uncut : (n : ℕ) (table : Table) (x : Control) (op : InsertOp) (state : Inserting) (p : Caller) → IsInsertingAt n table x op state p → state_exchanges state ≡ true → p.cut ≡ None
 state_uncut n table x op (Writing place) p at e = at.0
-state_uncut n table x op (Seeking seek) p at e = seek_uncut n table x op.list (target_of op) seek p at.0 e
+state_uncut n table x op (Seeking seek) p at e = seek_uncut n table x (sought_by op) seek p at.0 e
 state_uncut n table x op (Placing b) p at e = at.0.none
 state_uncut n table x op (Linking b) p at e = at.0.none
 
@@ -153,17 +152,17 @@ module _ (table : Table) (n budget : ℕ) (x : Control) (op : CutOp) (old : Pass
       free = s.free ∙ g.free;
       debts = s.debts ∙ g.debts;
       owed = owed_on g.owed s.owed;
-      ended = λ d upto head. s.answers.1 d (ap (λ (o : CutOp). o.upto) g.op_is ∙ upto) (head ∙ sym (ap (λ (o : CutOp). o.list.head) g.op_is));
+      ended = λ d upto head. s.answers.1 d (ap (λ (o : CutOp). o.sought.target) g.op_is ∙ upto) (head ∙ sym (ap (λ (o : CutOp). o.sought.list.head) g.op_is));
     }
 
   pub cut_spent : (now : CutOp) (new : Pass) (s : Spent) → CutGoes table n budget x op now old new → seek_exchanges now.seek ≡ true → budget ≤ new.turns → CutRan table n budget x op old new (Err s)
   cut_spent now new s g exchanges used = record {
     ran = g.ran;
-    inside = record { on = g.at.on; uncut = seek_uncut n table x now.list now.upto now.seek (caller table new) g.at exchanges; control = g.at.list_is.control };
+    inside = record { on = g.at.on; uncut = seek_uncut n table x now.sought now.seek (caller table new) g.at exchanges; control = g.at.list_is.control };
     free = g.free;
     debts = g.debts;
     owed = g.owed;
-    ended = used_up g.ran.is g.ran.within used (record { control = x; op = now; at = g.at; upto_is = ap (λ (o : CutOp). o.upto) g.op_is; exchanges = exchanges });
+    ended = used_up g.ran.is g.ran.within used (record { control = x; op = now; at = g.at; upto_is = ap (λ (o : CutOp). o.sought.target) g.op_is; exchanges = exchanges });
   }
 
 -- An insertion

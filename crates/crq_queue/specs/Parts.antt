@@ -15,6 +15,8 @@ use Rattle.crq_rule.specs.ListKinds.{MayMiss, put_entries, cut_debt}
 use Rattle.crq_rows.specs.Passes.{caller, IsPassOf}
 use Rattle.crq_rows.specs.Owning.{FoundNone}
 use Rattle.crq_rows.specs.Recovering.{IsRecovering, RecoverKnows, recover_exchanges}
+use Rattle.crq_rows.specs.declared.own.OwnOp.TheVariants.{Load as FirstLook}
+use Rattle.crq_rows.specs.declared.own.Own.TheVariants.{Empty}
 use Rattle.crq_rows.specs.declared.recover.RecoverOp.{RecoverOp}
 use Rattle.crq_rows.specs.declared.recover.RecoverOp.TheVariants.{Ticking}
 use Rattle.crq_rows.specs.declared.tick.TickOp.TheVariants.{Load}
@@ -31,7 +33,7 @@ use Rattle.crq_list.specs.Cutting.{IsCutting}
 use Rattle.crq_list.specs.Inserting.{IsInserting, insert_exchanges}
 use Rattle.crq_list.specs.Taking.{IsTaking, taking_exchanges}
 use Rattle.crq_queue.specs.declared.runs.Spent.{Spent}
-use Rattle.crq_queue.specs.Runs.{Ran, RanTicks, IsInside, Recovered, exchanges_of}
+use Rattle.crq_queue.specs.Runs.{Ran, RanTicks, IsInside, Looked, Recovered, exchanges_of}
 
 -- the control word that was found, and the debts to cut that are known, stay; so does a row that was cut, if there is none
 pub record Keeps (table : Table) (old new : Pass) : Type 0 where
@@ -76,7 +78,7 @@ pub record UptoNeeds (n : ℕ) (table : Table) (upto : Target) (p : Caller) : Ty
   pub control : Control
   pub op : CutOp
   pub at : IsCutting n table control op p
-  pub upto_is : op.upto ≡ upto
+  pub upto_is : op.sought.target ≡ upto
   pub exchanges : seek_exchanges op.seek ≡ true
 
 -- for the cut of the dead row that was owed; where none was, there is no such need
@@ -105,8 +107,8 @@ pub record IsUsedUp (table : Table) (n budget : ℕ) (Needs : Caller → Type 0)
   pub quiet : exchanges_of rest ≡ 0
 
 abbrev pub CutEnded : ℕ → ℕ → Table → CutOp → Pass → Result (Unit {0}) Spent → Type 0
-CutEnded n budget table op new (Ok u) = (d : CutDebt) → op.upto ≡ Some (d.event, d.row) → d.head ≡ op.list.head → (caller table new).debts.cut ≡ Some d → ⊥
-CutEnded n budget table op new (Err s) = IsUsedUp table n budget (UptoNeeds n table op.upto) new
+CutEnded n budget table op new (Ok u) = (d : CutDebt) → op.sought.target ≡ Some (d.event, d.row) → d.head ≡ op.sought.list.head → (caller table new).debts.cut ≡ Some d → ⊥
+CutEnded n budget table op new (Err s) = IsUsedUp table n budget (UptoNeeds n table op.sought.target) new
 
 pub record CutRan (table : Table) (n budget : ℕ) (x : Control) (op : CutOp) (old new : Pass) (result : Result (Unit {0}) Spent) : Type 0 where
   pub ran : Ran table n budget old new []
@@ -128,9 +130,9 @@ TakeRan table n budget x op old new (Ok Lost) = Ran table n budget old new [] ×
 TakeRan table n budget x op old new (Ok Frozen) = ⊥
 TakeRan table n budget x op old new (Err s) = Ran table n budget old new [] × IsInside table x new × (new.debts ≡ old.debts) × IsUsedUp table n budget (TakeNeeds n table op.limit) new
 
-abbrev pub OwnEnded : Table → Pass → Option ℕ → Type 0
-OwnEnded table new (Some r) = In r (caller table new).hand
-OwnEnded table new None = FoundNone table.start.layout (caller table new)
+abbrev pub OwnEnded : Table → Pass → Pass → Option ℕ → Type 0
+OwnEnded table old new (Some r) = In r (caller table new).hand
+OwnEnded table old new None = Looked table FirstLook old new Empty × FoundNone table.start.layout (caller table new)
 
 pub record OwnRan (table : Table) (n budget : ℕ) (old new : Pass) (result : Option ℕ) : Type 0 where
   pub ran : Ran table n budget old new []
@@ -140,7 +142,7 @@ pub record OwnRan (table : Table) (n budget : ℕ) (old new : Pass) (result : Op
   pub uncut : (caller table old).cut ≡ None → (caller table new).cut ≡ None
   pub debts : new.debts ≡ old.debts
   pub turns : new.turns ≡ old.turns
-  pub ended : OwnEnded table new result
+  pub ended : OwnEnded table old new result
 
 abbrev pub RecoverEnded : Table → ℕ → ℕ → Pass → Pass → Result Recover Spent → Type 0
 RecoverEnded table n budget old new (Ok More) = ⊥

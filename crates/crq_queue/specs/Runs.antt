@@ -10,6 +10,10 @@ use Rattle.crq_rule.specs.declared.view.Made.{Made}
 use Rattle.crq_rule.specs.Parts.{IsOn}
 use Rattle.crq_rows.specs.Passes.{caller, IsPassOf}
 use Rattle.crq_rows.specs.Known.{is_exchange, is_tick, Expects}
+use Rattle.crq_rows.specs.declared.own.OwnOp.{OwnOp}
+use Rattle.crq_rows.specs.declared.own.Own.{Own}
+use Rattle.crq_rows.specs.declared.own.Own.TheVariants.{More as LooksOn}
+use Rattle.crq_rows.specs.Owning.{OwnStepped}
 use Rattle.crq_rows.specs.declared.recover.RecoverOp.{RecoverOp}
 use Rattle.crq_rows.specs.declared.recover.Recover.{Recover}
 use Rattle.crq_rows.specs.declared.recover.Recover.TheVariants.{More}
@@ -70,6 +74,15 @@ pub record IsInside (table : Table) (x : Control) (pass : Pass) : Type 0 where
   pub on : IsOn (caller table pass).guard
   pub uncut : (caller table pass).cut ≡ None
   pub control : (caller table pass).found.control ≡ Some x
+
+-- the second pass made its steps after those of the first
+abbrev pub Follows : Table → Pass → Pass → Type 0
+Follows table old new = (since : List Made) × ((caller table new).made ≡ (caller table old).made ++ since)
+
+-- A look for a free row from this state of it on ended with this answer: a list of steps of the operation
+pub data Looked (table : Table) : OwnOp → Pass → Pass → Own → Type 0 where
+  looks_last : (op op' : OwnOp) (old new : Pass) (answer : Own) → (answer ≡ LooksOn → ⊥) → OwnStepped table op op' old new answer → Looked table op old new answer
+  looks_on : (op op' : OwnOp) (old mid new : Pass) (answer : Own) → OwnStepped table op op' old mid LooksOn → Looked table op' mid new answer → Looked table op old new answer
 
 -- A recovery from this state of it on ended with this answer: a list of steps of the operation
 pub data Recovered (table : Table) : RecoverOp → Pass → Pass → Recover → Type 0 where

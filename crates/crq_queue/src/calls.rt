@@ -10,8 +10,8 @@ ghost use Rattle.crq_rule.specs.ListKinds.{IsFresh};
 ghost use Rattle.crq_rows.specs.Passes.{caller, IsPassOf};
 ghost use Rattle.crq_queue.specs.Wholes.{IsResting};
 ghost use Rattle.crq_queue.specs.Runs.{MayRun, IsInside};
-ghost use Rattle.crq_queue.specs.Calls.{PutAnswers, TakeAnswers, SettleAnswers};
-ghost use Rattle.crq_queue.specs.Stages.{CutFinished, DebtSettled, RowFound, EventInserted, EventTaken};
+ghost use Rattle.crq_queue.specs.Calls.{PutAnswers, TakeAnswers, SettleAnswers, call};
+ghost use Rattle.crq_queue.specs.Stages.{BeginAnswers, CutFinished, DebtSettled, RowFound, EventInserted, EventTaken};
 
 use crate::calendar::Calendar;
 use crate::runs::{
@@ -89,6 +89,17 @@ impl Calendar {
         end
     }
 
+    /// Begins a call: finishes what the pass owes, and only then loads the control word for the call's Begin.
+    #[inline(always)]
+    fn begin(&self, pass: &mut Pass, budget: u32) -> Result<Control, Spent>
+        requires rests { IsResting self.now.table pass.old }
+        ensures { BeginAnswers (call self.now.table budget pass.old) pass.new result }
+    {
+        pass.turns = 0;
+        self.settle(pass, budget)?;
+        Ok(begin_step(&self.table, pass))
+    }
+
     /// A row that the pass may use: a free one, a ripe one, or one that a recovery makes free.
     fn free_row(&self, pass: &mut Pass, budget: u32) -> Result<u32, Refusal>
         requires rests { IsResting self.now.table pass.old }
@@ -133,23 +144,23 @@ impl Calendar {
         end
     }
 
-    /// Puts an event within a budget of exchanges. It first cuts a dead row that the pass owes. The entries that it adds are
-    /// a Begin, the Put and its Settled; after a refusal nothing was put, and at most a Begin was added.
+    /// Puts an event within a budget of exchanges. It first cuts a dead row that the pass owes, and only then begins. The
+    /// entries that it adds are a Begin, the Put and its Settled, and the pass owes nothing afterwards.
     ///
-    /// Again comes where the budget is used up and one more exchange is needed, Held where no row is free or ripe and a caller
-    /// keeps the epoch, Rows where none is free or ripe after the epoch rose three times.
+    /// Where the budget ends before the row that was owed is cut, Again comes, nothing was added, and the pass still owes
+    /// that row. After any other refusal the Begin alone was added, and the pass owes nothing: Again comes where the budget is
+    /// used up and one more exchange is needed to recover a row or to insert the event, Held where this call found no row free
+    /// or ripe and then a caller that keeps the epoch, Rows where it found none after the epoch rose three times.
     pub fn try_put(&self, pass: &mut Pass, event: &Event, budget: u32) -> Result<PutEnd, Refusal>
         requires rests { IsResting self.now.table pass.old }
         requires budget { 1 ≤ budget }
         requires fresh { IsFresh self.now.table.start.layout.workers (caller self.now.table pass.old).deal.history (caller self.now.table pass.old).own (caller self.now.table pass.old).deal.span pass.old.number event.now }
-        ensures { PutAnswers self.now.table budget pass.old pass.new event.now result }
+        ensures { PutAnswers (call self.now.table budget pass.old) event.now pass.new result }
     {
-        pass.turns = 0;
         let again = Refusal::Again { turns: budget };
-        if self.settle(pass, budget).is_err() {
+        let Ok(control) = self.begin(pass, budget) else {
             return Err(again);
-        }
-        let control = begin_step(&self.table, pass);
+        };
         let row = self.free_row(pass, budget)?;
         match self.insert(pass, &control, row, event, budget) {
             Ok(()) => Ok(PutEnd::Settled),
@@ -188,22 +199,21 @@ impl Calendar {
         }
     }
 
-    /// Takes the least event below the limit within a budget of exchanges. It first cuts a dead row that the pass owes. The
-    /// entries that it adds are a Begin, and the Take or the Miss; after a refusal nothing was taken, and at most a Begin was
-    /// added. Where the budget ends after the event's row was marked, the pass owes the cut of that row.
+    /// Takes the least event below the limit within a budget of exchanges. It first cuts a dead row that the pass owes, and
+    /// only then begins. The entries that it adds are a Begin, and the Take or the Miss. The pass owes nothing afterwards, but
+    /// where the budget ended between the mark of the event's row and its cut: then it owes the cut of that row.
     ///
-    /// Its one refusal is Again, where the budget is used up and one more exchange is needed.
+    /// Its one refusal is Again, where the budget is used up and one more exchange is needed. Where that is for the row that
+    /// was owed, nothing was added, and the pass still owes that row; else the Begin alone was added, and it owes nothing.
     pub fn try_take(&self, pass: &mut Pass, limit: u64, budget: u32) -> Result<TakeEnd, Refusal>
         requires rests { IsResting self.now.table pass.old }
         requires budget { 1 ≤ budget }
-        ensures { TakeAnswers self.now.table budget pass.old pass.new limit result }
+        ensures { TakeAnswers (call self.now.table budget pass.old) limit pass.new result }
     {
-        pass.turns = 0;
         let again = Refusal::Again { turns: budget };
-        if self.settle(pass, budget).is_err() {
+        let Ok(control) = self.begin(pass, budget) else {
             return Err(again);
-        }
-        let control = begin_step(&self.table, pass);
+        };
         enter(&self.table, pass);
         let end = match self.mark(pass, &control, limit, budget) {
             Ok(Some(event)) => {
@@ -218,11 +228,12 @@ impl Calendar {
     }
 
     /// Finishes what the pass owes within a budget of exchanges, and nothing else. It adds no entry. Where the pass owes
-    /// nothing it makes no step. Its one refusal is Again, as under `try_take`.
+    /// nothing it makes no step. Its one refusal is Again, where the budget ends before the row that is owed is cut: the pass
+    /// still owes it.
     pub fn try_settle(&self, pass: &mut Pass, budget: u32) -> Result<(), Refusal>
         requires rests { IsResting self.now.table pass.old }
         requires budget { 1 ≤ budget }
-        ensures answers { SettleAnswers self.now.table budget pass.old pass.new result }
+        ensures answers { SettleAnswers (call self.now.table budget pass.old) pass.new result }
         ensures idle { pass.old.debts.cut ≡ None → caller self.now.table pass.new ≡ caller self.now.table pass.old }
     {
         pass.turns = 0;

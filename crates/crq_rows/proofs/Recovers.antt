@@ -86,6 +86,7 @@ module _ (table : Table) (old new : Pass) (moved : ℕ) (tick : TickOp) (op : Is
       grows = f.grows;
       uncut = f.uncut;
       next = next;
+      claims = tt;
       answer = answer;
       exchanges = f.exchanges;
       expects = f.expects;
@@ -160,6 +161,7 @@ recover_claimed table old new e row op' result s a = let l = table.start.layout 
     grows = λ x i. subst (λ q. In x q.epochs) (sym s.part) i;
     uncut = λ none. ap (λ (q : Caller). q.cut) s.part ∙ none;
     next = (after_next l e row m p q op' result (ap (λ (q : Caller). q.number) s.part) a).1;
+    claims = tt;
     answer = after_answer l e row q op' result a;
     exchanges = refl;
     expects = λ n k swaps. absurd (false≢true swaps);
@@ -171,10 +173,10 @@ recover_claimed table old new e row op' result s a = let l = table.start.layout 
 
 -- a look, that an answer follows
 recover_looked : (table : Table) (old new : Pass) (e row w : ℕ) (op' : RecoverOp) (result : Recover) → Stepped table old new (load_made Look (index table.start.layout (stamp row)) w) (looks row w)
-    → RecoverNext table.start.layout (Visiting e row) op' (load_made Look (index table.start.layout (stamp row)) w) (caller table old) (caller table new) result
+    → RecoverNext table.start.layout (Visiting e row) op' (load_made Look (index table.start.layout (stamp row)) w) (caller table old) (caller table new) result → (IsRipeWord e w → (result ≡ More) × (op' ≡ Taking e row))
     → RecoverAnswer table.start.layout op' (caller table new) result → ((n : ℕ) → n ≤ length (caller table new).made → RecoverKnows n table.start.layout op' (caller table new))
     → (result ≡ More → recover_left table.start.layout op' < 2 * (table.start.layout.all - row) + 1) → RecoverStepped table (Visiting e row) op' old new result
-recover_looked table old new e row w op' result s next answer knows shrinks = let l = table.start.layout in let p = caller table old in let m : Made = load_made Look (index l (stamp row)) w in let one = ap (λ (q : Caller). q.made) s.part in record {
+recover_looked table old new e row w op' result s next claims answer knows shrinks = let l = table.start.layout in let p = caller table old in let m : Made = load_made Look (index l (stamp row)) w in let one = ap (λ (q : Caller). q.made) s.part in record {
   is = s.is;
   same = s.same ∙ (λ i. record old { seat = new.seat; free = sym (ap (λ (p : Pass). p.free) s.same) i; turns = sym (ap (λ (p : Pass). p.turns) s.same) i });
   turns = ap (λ (p : Pass). p.turns) s.same;
@@ -186,6 +188,7 @@ recover_looked table old new e row w op' result s next answer knows shrinks = le
     grows = λ x i. subst (λ q. In x q.epochs) (sym s.part) i;
     uncut = λ none. ap (λ (q : Caller). q.cut) s.part ∙ none;
     next = next;
+    claims = claims;
     answer = answer;
     exchanges = refl;
     expects = λ n k swaps. absurd (false≢true swaps);
@@ -197,12 +200,12 @@ recover_looked table old new e row w op' result s next answer knows shrinks = le
 -- the row was found ripe
 pub recover_ripe : (table : Table) (old new : Pass) (e row w : ℕ) → IsRecovering table.start.layout (Visiting e row) (caller table old) → Stepped table old new (load_made Look (index table.start.layout (stamp row)) w) (looks row w)
     → IsRipeWord e w → RecoverStepped table (Visiting e row) (Taking e row) old new More
-recover_ripe table old new e row w op s ripe = recover_looked table old new e row w (Taking e row) More s (inr refl)
+recover_ripe table old new e row w op s ripe = recover_looked table old new e row w (Taking e row) More s (inr refl) (λ _. (refl, refl))
     (subst (IsRecovering table.start.layout (Taking e row)) (sym s.part) (op.0, op.1, ripe_seen row w e (caller table old).ripening ripe)) (λ n k. k) (λ _. omega arith)
 
 -- it was not
 pub recover_unripe : (table : Table) (old new : Pass) (e row w : ℕ) (op' : RecoverOp) (result : Recover) → Stepped table old new (load_made Look (index table.start.layout (stamp row)) w) (looks row w)
-    → IsAfterRow table.start.layout e row (caller table new) op' result → RecoverStepped table (Visiting e row) op' old new result
-recover_unripe table old new e row w op' result s a = let l = table.start.layout in let q = caller table new in
-    recover_looked table old new e row w op' result s (after_next l e row (load_made Look (index l (stamp row)) w) (caller table old) q op' result (ap (λ (q : Caller). q.number) s.part) a).0 (after_answer l e row q op' result a)
+    → (IsRipeWord e w → ⊥) → IsAfterRow table.start.layout e row (caller table new) op' result → RecoverStepped table (Visiting e row) op' old new result
+recover_unripe table old new e row w op' result s unripe a = let l = table.start.layout in let q = caller table new in
+    recover_looked table old new e row w op' result s (after_next l e row (load_made Look (index l (stamp row)) w) (caller table old) q op' result (ap (λ (q : Caller). q.number) s.part) a).0 (λ ripe. absurd (unripe ripe)) (after_answer l e row q op' result a)
     (λ n k. after_knows n l e row q op' result a k) (λ more. let less = after_left l e row q op' result (is_inside table new s.is) a more in omega arith)

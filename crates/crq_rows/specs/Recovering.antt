@@ -18,7 +18,7 @@ use Rattle.crq_rows.specs.declared.recover.Recover.TheVariants.{More, Ready, Hel
 use Rattle.crq_rows.specs.Passes.{caller, IsPassOf}
 use Rattle.crq_rows.specs.Known.{is_exchange, Expects, turns_after}
 use Rattle.crq_rows.specs.Ticking.{IsTicking, TickMakes, tick_exchanges, tick_left, KnowsEpoch, HasLoaded, IsHeldBy, FindsEpoch}
-use Rattle.crq_rows.specs.Owning.{NoneRipe}
+use Rattle.crq_rows.specs.Owning.{IsRipeWord, NoneRipe}
 
 -- since a step that found or made the epoch e, the caller looked at its home rows before `next`, in order, and found none ripe under it
 pub record LookedSince (l : Layout) (e next : ℕ) (p : Caller) : Type 0 where
@@ -78,6 +78,12 @@ RecoverNext l (Taking e row) op' m p q More = op' ≡ Visiting e (row + 1)
 RecoverNext l (Taking e row) op' m p q (Held h) = ⊥
 RecoverNext l (Taking e row) op' m p q _ = row ≡ p.number * l.home + l.home
 
+-- a home row that the step found ripe is the next to be claimed
+abbrev pub ClaimsRipe : RecoverOp → RecoverOp → Made → Recover → Type 0
+ClaimsRipe (Ticking n tick) op' m result = Unit {0}
+ClaimsRipe (Visiting e row) op' m result = IsRipeWord e m.found → (result ≡ More) × (op' ≡ Taking e row)
+ClaimsRipe (Taking e row) op' m result = Unit {0}
+
 -- what an answer means: there is a free row; or the epoch is held; or there is no free row, and no home row was found ripe
 abbrev pub RecoverAnswer : Layout → RecoverOp → Caller → Recover → Type 0
 RecoverAnswer l op q More = IsRecovering l op q
@@ -94,6 +100,7 @@ pub record RecoverFacts (l : Layout) (op op' : RecoverOp) (p q : Caller) (result
   pub grows : (e : ℕ) → In e p.epochs → In e q.epochs
   pub uncut : p.cut ≡ None → q.cut ≡ None
   pub next : RecoverNext l op op' made p q result
+  pub claims : ClaimsRipe op op' made result
   pub answer : RecoverAnswer l op' q result
   pub exchanges : is_exchange made.kind ≡ recover_exchanges l op
   pub expects : (n : ℕ) → RecoverKnows n l op p → Expects n p.made made

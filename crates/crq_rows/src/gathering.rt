@@ -41,7 +41,8 @@ pub fn gather_step(table: &Table, seat: &mut Seat<(), View>)
     table.inner.shared.load::<Gather>(seat, 0);
 }
 
-/// Deals the span that is picked where it is called.
+/// Deals the span that is picked where it is called. The pick is made from the argument `span`, which isn't read when the
+/// program runs: how many sources a caller has is known of it, and stands in no word.
 fn span_as<S: Spanning>(table: &Table, seat: &mut Seat<(), View>, span: u32)
     requires of { seat.old.table_id ≡ table.now.inner.shared.table_id }
     requires all { HasAll table.now.start.layout.workers seat.old.me.0 }
@@ -54,7 +55,8 @@ fn span_as<S: Spanning>(table: &Table, seat: &mut Seat<(), View>, span: u32)
     table.inner.shared.load::<Spans<S>>(seat, 0);
 }
 
-/// Deals so many sources in a row to each caller, where none has made an entry since the last deal.
+/// Deals so many sources in a row to each caller, where none has made an entry since the last deal. It is one load of the
+/// spare word, and `span` is known of the callers alone.
 pub fn span_step(table: &Table, seat: &mut Seat<(), View>, span: u32)
     requires of { seat.old.table_id ≡ table.now.inner.shared.table_id }
     requires all { HasAll table.now.start.layout.workers seat.old.me.0 }

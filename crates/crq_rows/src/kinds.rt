@@ -1,4 +1,7 @@
 //! One atomic step of any kind. Its kind, and what it does to what is known of its caller, are picked where it is called.
+//!
+//! The argument `_said` isn't read when the program runs. It hands in the values that the pick names, as the row and the
+//! place of a write do: a pick is made in the caller's proof from the arguments of the call, and can name nothing else.
 ghost use Rattle.std.specs.Prelude.{◌≡◌, ◌<◌, ℕ, ◌==◌};
 ghost use prog.Atomic.{either};
 ghost use Rattle.crq_base.specs.declared.kinds.StepKind.{StepKind};
@@ -61,7 +64,7 @@ impl<F: Turn> Play<(), View> for TurnsBy<F> {
     ghost then = { λ st m r n. FirstTurns (F.turns r) (step_made F.kind st.word st.first st.second r) m.0.parts n.0 × (n.1 ≡ m.1) };
 }
 
-/// Loads a word. What is said is for the proof alone.
+/// Loads a word.
 pub fn load_as<F: Change, T>(table: &Table, pass: &mut Pass, word: usize, _said: &T) -> u64
     requires of { IsPassOf table.now pass.old }
     requires word { word < table.now.inner.shared.table_id.words }
@@ -73,7 +76,7 @@ pub fn load_as<F: Change, T>(table: &Table, pass: &mut Pass, word: usize, _said:
     table.inner.shared.load::<Does<F>>(&mut pass.seat, word)
 }
 
-/// Loads a word by a kind of step that tells more than the word found. What is said is for the proof alone.
+/// Loads a word by a kind of step that tells more than the word found.
 pub fn load_turning<F: Turn, T>(table: &Table, pass: &mut Pass, word: usize, _said: &T) -> u64
     requires of { IsPassOf table.now pass.old }
     requires word { word < table.now.inner.shared.table_id.words }

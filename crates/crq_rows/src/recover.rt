@@ -18,8 +18,9 @@ use crq_rule::{Pass, Table};
 /// How many ticks make a row ripe that was retired before the first one: two, and one that may have begun before.
 const TICKS: u32 = 3;
 
-/// Recovers rows, one atomic step at a time: it raises the epoch three times, and then looks at each home row, and claims
-/// those that are ripe. After it has ended it begins anew. The guard of its pass has to be off.
+/// Recovers rows, one atomic step at a time: it raises the epoch three times, and then looks at each home row in order,
+/// and claims each that it finds ripe, right after the look. After it has ended it begins anew. The guard of its pass has
+/// to be off.
 #[derive(Clone, Copy, Debug, PartialEq, Eq)]
 pub enum RecoverOp {
     /// So many ticks have moved, fewer than three, and this one is made.
@@ -35,7 +36,7 @@ pub enum RecoverOp {
 pub enum Recover {
     /// There is more to do.
     More,
-    /// The pass has a free row.
+    /// All home rows were looked at, each that was found ripe is claimed, and the pass has a free row.
     Ready,
     /// The epoch can't rise.
     Held(Holder),

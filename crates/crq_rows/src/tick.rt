@@ -81,7 +81,7 @@ fn scan(table: &Table, pass: &mut Pass, epoch: u64, next: u32) -> (TickOp, Tick)
     )
 }
 
-/// Exchanges the epoch for the next one.
+/// Exchanges the epoch for the next one. `_next` says at which state the attempt is, for the clauses: after the last caller.
 fn raise(table: &Table, pass: &mut Pass, epoch: u64, _next: u32) -> (TickOp, Tick)
     requires of { IsPassOf table.now pass.old }
     requires op { IsTicking table.now.start.layout (Scanning epoch _next) (caller table.now pass.old) }
@@ -94,7 +94,8 @@ fn raise(table: &Table, pass: &mut Pass, epoch: u64, _next: u32) -> (TickOp, Tic
     }
 }
 
-/// Loads the epoch again, which an announcement above it has shown to have moved.
+/// Loads the epoch again, which an announcement above it has shown to have moved. `_epoch` says at which state the attempt
+/// is, for the clauses.
 fn reload(table: &Table, pass: &mut Pass, _epoch: u64) -> (TickOp, Tick)
     requires of { IsPassOf table.now pass.old }
     requires op { IsTicking table.now.start.layout (Passed _epoch) (caller table.now pass.old) }

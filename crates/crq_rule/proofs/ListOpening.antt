@@ -10,10 +10,10 @@ use Rattle.crq_rule.specs.declared.layout.Start.{Start}
 use Rattle.crq_rule.specs.declared.view.Guard.TheVariants.{Off, On}
 use Rattle.crq_rule.specs.declared.view.Walk.{Walk}
 use Rattle.crq_rule.specs.Core.{in_hand, listed}
-use Rattle.crq_rule.specs.Ranks.{IsOpen}
+use Rattle.crq_rule.specs.Ranks.{first_head_of, IsOpen}
 use Rattle.crq_rule.specs.ListParts.{Heads, Sorted, Marks, Standing, Lanes, Writing, Naming, IsOpenHead, IsShutHead}
 use Rattle.crq_rule.specs.HistoryParts.{Carriers, Told, Walkers, IsLive}
-use Rattle.crq_rule.specs.Opening.{opening_core, opening_head, first_head_of, open_head, shut_head}
+use Rattle.crq_rule.specs.Opening.{opening_core, opening_head, open_head, shut_head}
 use Rattle.crq_rule.proofs.PartLaws.{sort}
 
 hand_listed : (j q : ℕ) → in_hand j ≡ listed q → ⊥

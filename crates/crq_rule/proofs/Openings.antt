@@ -29,7 +29,8 @@ use Rattle.crq_rule.specs.Core.{in_hand}
 use Rattle.crq_rule.specs.Parts.{Holders}
 use Rattle.crq_rule.specs.Invariant.{Inv}
 use Rattle.crq_rule.specs.Rule.{Carries, Stands, fresh, fresh_from, first_view, rows_from}
-use Rattle.crq_rule.specs.Opening.{opening_words, opening_head, first_head_of, open_head, shut_head, headed, opening_core, home_of, IsFresh, AreFresh}
+use Rattle.crq_rule.specs.Ranks.{first_head_of}
+use Rattle.crq_rule.specs.Opening.{opening_words, opening_head, open_head, shut_head, headed, opening_core, home_of, IsFresh, AreFresh}
 use Rattle.crq_rule.proofs.Placing.{shows_set, within, epoch_set, control_set, current_set}
 use Rattle.crq_rule.proofs.PartLaws.{one_home, sort, of_whom}
 use Rattle.crq_rule.proofs.HolderLaws.{none_some}

@@ -1,5 +1,5 @@
 -- A new table: its words, and the core state that they stand for.
-use Rattle.std.specs.Prelude.{◌≡◌, ℕ, ◌+◌, ◌-◌, ◌*◌, ◌/◌, ◌%◌, ◌<◌, ◌≤◌, ◌&&◌, cond, nat_lt, nat_le, List, [], Some, None, false, slice_get, length}
+use Rattle.std.specs.Prelude.{◌≡◌, ℕ, ◌+◌, ◌-◌, ◌*◌, ◌/◌, ◌<◌, ◌≤◌, ◌&&◌, cond, nat_lt, nat_le, List, [], Some, None, false, slice_get, length}
 use Rattle.std.specs.VecDeque.{deque_capacity}
 use Rattle.crq_base.specs.declared.words.Link.{Link}
 use Rattle.crq_base.specs.declared.words.Mark.TheVariants.{Val, Mov}
@@ -13,12 +13,9 @@ use Rattle.atomic_table.specs.declared.shared.Seat.{Seat}
 use Rattle.crq_rule.specs.declared.pass.Table.{Table}
 use Rattle.crq_rule.specs.declared.view.View.{View}
 use Rattle.crq_rule.specs.Places.{Words}
+use Rattle.crq_rule.specs.Ranks.{first_head_of}
 use Rattle.crq_rule.specs.Core.{Core, in_hand}
 use Rattle.crq_rule.specs.Rule.{fresh, first_view, rows_from}
-
--- the first of the heads that a table of this generation uses
-abbrev pub first_head_of : ℕ → ℕ
-first_head_of g = g % 2 * 32768
 
 abbrev pub open_head : ℕ → Link
 open_head g = record { generation = g; row = 0; mark = Val }

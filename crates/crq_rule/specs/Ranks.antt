@@ -10,13 +10,17 @@ use Rattle.crq_rule.specs.Places.{Place, head, link}
 unfoldable pub rank : Event → ℕ → ℕ
 rank e r = ((e.time * 2 ^ 32 + e.src) * 2 ^ 64 + e.seq) * 2 ^ 24 + r
 
+-- the first of the heads that a table of this generation uses: its bank's
+abbrev pub first_head_of : ℕ → ℕ
+first_head_of g = g % 2 * 32768
+
 -- the list of the event e in the open table: the bucket of its time, and the head of that bucket in the table's bank
 unfoldable pub head_of : Control → Event → ℕ
-head_of c e = c.generation % 2 * 32768 + e.time / 2 ^ c.shift % 2 ^ c.log
+head_of c e = first_head_of c.generation + e.time / 2 ^ c.shift % 2 ^ c.log
 
 -- the head q is one of the open table
 abbrev pub IsOpen : Control → ℕ → Type 0
-IsOpen c q = (c.generation % 2 * 32768 ≤ q) × (q < c.generation % 2 * 32768 + 2 ^ c.log)
+IsOpen c q = (first_head_of c.generation ≤ q) × (q < first_head_of c.generation + 2 ^ c.log)
 
 -- where a link stands: in a head, or in a row
 pub data Cell : Type 0 where

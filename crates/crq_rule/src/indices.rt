@@ -5,7 +5,7 @@ ghost use Rattle.crq_rule.specs.Places.{index, IsRow, epoch, announced, control,
 ghost use Rattle.crq_rule.specs.ListKinds.{row_place};
 ghost use Rattle.crq_rule.specs.Widths.{width};
 
-use crate::layout::Layout;
+use crate::layout::{Layout, MOST_ROWS};
 
 /// The number of the first word of row 0, which there isn't, in a table of no callers.
 const ROWS: usize = 65534;
@@ -17,7 +17,7 @@ impl Layout {
     /// The layout for this many callers, and so many rows for each.
     pub fn of(workers: u32, rows: u32) -> Layout
         requires workers { (1 ≤ workers) × (workers ≤ 16) }
-        requires rows { (4 ≤ rows) × (rows ≤ 131072) }
+        requires rows { (4 ≤ rows) × (rows ≤ MOST_ROWS) }
         ensures { (result.workers ≡ workers) × (result.rows ≡ rows) }
     {
         let home = rows + 2 * workers;

@@ -19,7 +19,7 @@ pub use debts::{CopyDebt, CutDebt, Debts, SettleDebt};
 pub use laws::{
     claim_law, gather_law, guard_law, opening_law, parts_law, seat_law, step_law, witness_law,
 };
-pub use layout::{Layout, Start};
+pub use layout::{BANK, Layout, MOST_ROWS, Start};
 pub use opening::{Opened, open_table};
 pub use pass::{Owes, Pass, Rest, Seating, Table};
 pub use rule::{FirstPart, JoinedParts, TableLaw};

@@ -6,7 +6,7 @@ ghost use Rattle.crq_rule.specs.Opening.{IsOpening, IsFresh, AreFresh, headed, o
 ghost use Rattle.crq_rule.specs.Places.{Shows};
 
 use crate::debts::Debts;
-use crate::layout::{Layout, Start};
+use crate::layout::{BANK, Layout, Start};
 use crate::pass::{Rest, Seating, Table};
 use crate::view::View;
 use atomic_table::Seat;
@@ -28,9 +28,6 @@ pub struct Opened {
 
 /// The number of lists of a new table.
 const LISTS: usize = 1;
-
-/// The heads of each bank.
-const BANK: usize = 32768;
 
 /// As many zeros.
 fn zeros(alloc: Global, count: usize) -> Result<Vec<u64>, AllocError>
@@ -57,7 +54,7 @@ fn first_link(generation: u32, head: usize) -> Link
     ensures link { result ≡ opening_head generation head }
     ensures bits { IsLink result }
 {
-    let first = (generation % 2) as usize * BANK;
+    let first = (generation % 2 * BANK) as usize;
     if first <= head && head < first + LISTS {
         Link {
             generation,
@@ -79,7 +76,7 @@ fn set_heads(start: &Start, words: &mut Vec<u64>)
     requires words { Shows start.now.layout (headed start.now 0) words.old.items }
     ensures { Shows start.now.layout (headed start.now 65536) words.new.items }
 {
-    for head in 0..2 * BANK {
+    for head in 0..2 * BANK as usize {
         let link = first_link(start.first.generation, head);
         set_word(words, start.layout.head(head), link.pack());
     }

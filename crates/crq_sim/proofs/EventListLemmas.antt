@@ -9,12 +9,21 @@ use Rattle.std.specs.Ordering.{is_eq, is_lt, nat_cmp, ordering_then}
 use Rattle.crq_base.specs.declared.event.Event.{Event}
 use Rattle.crq_base.specs.Keys.{event_cmp, IsBefore}
 use Rattle.crq_base.proofs.KeyOrder.{before_trans, before_else}
-use Rattle.crq_sim.specs.EventLists.{with_event, with_events, AreInOrder, IsAbsent, AreAbsent}
+use Rattle.crq_sim.specs.EventLists.{with_event, with_events, without_event, without_events, AreInOrder}
 
-pub nat_equal : (a b : ℕ) → nat_cmp a b ≡ Equal → a ≡ b
+-- no event of the list has all fields of this one
+abbrev pub IsAbsent : Event → List Event → Type 0
+IsAbsent e pending = list_any (λ f. is_eq (event_cmp e f)) pending ≡ false
+
+-- each of the events is absent when its turn comes
+abbrev pub AreAbsent : List Event → List Event → Type 0
+AreAbsent [] pending = Unit {0}
+AreAbsent (e ∷ es) pending = IsAbsent e pending × AreAbsent es (with_event e pending)
+
+nat_equal : (a b : ℕ) → nat_cmp a b ≡ Equal → a ≡ b
 nat_equal a b h = grind (arith, nat_tests)
 
-pub then_equal : (p q : Ordering) → ordering_then p q ≡ Equal → (p ≡ Equal) × (q ≡ Equal)
+then_equal : (p q : Ordering) → ordering_then p q ≡ Equal → (p ≡ Equal) × (q ≡ Equal)
 then_equal Less q h = absurd (cc)
 then_equal Equal q h = (refl, h)
 then_equal Greater q h = absurd (cc)
@@ -26,6 +35,25 @@ alike a b h =
     let two = then_equal _ _ one.1 in
     let three = then_equal _ _ two.1 in
     (nat_equal _ _ two.0, nat_equal _ _ three.0)
+
+-- events that are alike are one
+pub same_event : (a b : Event) → event_cmp a b ≡ Equal → a ≡ b
+same_event a b h =
+    let one = then_equal _ _ h in
+    let two = then_equal _ _ one.1 in
+    let three = then_equal _ _ two.1 in
+    let four = then_equal _ _ three.1 in
+    let time = nat_equal a.time b.time one.0 in
+    let src = nat_equal a.src b.src two.0 in
+    let seq = nat_equal a.seq b.seq three.0 in
+    let dst = nat_equal a.dst b.dst four.0 in
+    let load = nat_equal a.load b.load four.1 in
+    λ i. record { time = time i; src = src i; seq = seq i; dst = dst i; load = load i }
+
+pub equal_is : (o : Ordering) → is_eq o ≡ true → o ≡ Equal
+equal_is Less h = absurd (cc)
+equal_is Equal h = refl
+equal_is Greater h = absurd (cc)
 
 not_equal : (o : Ordering) → (o ≡ Equal → ⊥) → is_eq o ≡ false
 not_equal Less h = refl
@@ -57,6 +85,19 @@ pub All-with_events : (P : Event → Type 0) (es pending : List Event) → AllBy
 All-with_events P [] pending h k = k
 All-with_events P (e ∷ es) pending h k = All-with_events P es (with_event e pending) h.1 (All-with_event P e pending h.0 k)
 
+-- and without one
+pub All-without_event : (P : Event → Type 0) (e : Event) (es : List Event) → AllByRecursion P es → AllByRecursion P (without_event e es)
+All-without_event P e [] h = tt
+All-without_event P e (f ∷ fs) h =
+    elim (is_eq (event_cmp e f)) as (λ b. AllByRecursion P (cond b (without_event e fs) (f ∷ without_event e fs))) [
+      | true ↦ All-without_event P e fs h.1
+      | false ↦ (h.0, All-without_event P e fs h.1)
+    ]
+
+pub All-without_events : (P : Event → Type 0) (es pending : List Event) → AllByRecursion P pending → AllByRecursion P (without_events es pending)
+All-without_events P [] pending h = h
+All-without_events P (e ∷ es) pending h = All-without_events P es (without_event e pending) (All-without_event P e pending h)
+
 pub All-weaker : {X : Type 0} (P Q : X → Type 0) → ((x : X) → P x → Q x) → (xs : List X) → AllByRecursion P xs → AllByRecursion Q xs
 All-weaker P Q f [] h = tt
 All-weaker P Q f (x ∷ xs) h = (f x h.0, All-weaker P Q f xs h.1)
@@ -82,6 +123,19 @@ in_order-with_event e (f ∷ fs) new h =
 pub in_order-with_events : (es pending : List Event) → AreAbsent es pending → AreInOrder pending → AreInOrder (with_events es pending)
 in_order-with_events [] pending new h = h
 in_order-with_events (e ∷ es) pending new h = in_order-with_events es (with_event e pending) new.1 (in_order-with_event e pending new.0 h)
+
+-- what stays is in order
+in_order-without_event : (e : Event) (es : List Event) → AreInOrder es → AreInOrder (without_event e es)
+in_order-without_event e [] h = tt
+in_order-without_event e (f ∷ fs) h =
+    elim (is_eq (event_cmp e f)) as (λ b. AreInOrder (cond b (without_event e fs) (f ∷ without_event e fs))) [
+      | true ↦ in_order-without_event e fs h.1
+      | false ↦ (All-without_event (IsBefore f) e fs h.0, in_order-without_event e fs h.1)
+    ]
+
+pub in_order-without_events : (es pending : List Event) → AreInOrder pending → AreInOrder (without_events es pending)
+in_order-without_events [] pending h = h
+in_order-without_events (e ∷ es) pending h = in_order-without_events es (without_event e pending) (in_order-without_event e pending h)
 
 -- the events from the i-th on, one by one
 pub inserted_next : (events pending : List Event) (i : ℕ) (now : List Event) (e : Event) → i < length events → with_events (drop i events) now ≡ with_events events pending

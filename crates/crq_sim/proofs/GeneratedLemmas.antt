@@ -7,6 +7,7 @@ use Rattle.std.proofs.lemmas.List.Elements.{All-from_recursion, All-contains}
 use Rattle.std.proofs.lemmas.List.Folds.{list_all-append}
 use Rattle.std.proofs.lemmas.List.FromFn.{length-map-range_with_len, get_or-map-range_with_len, map-range_with_len_more}
 use Rattle.crq_sim.specs.declared.model.Behaviour.TheVariants.{Phold}
+use Rattle.crq_sim.specs.declared.model.TheConstants.{MOST_OBJECTS, MOST_STARTS}
 use Rattle.crq_sim.specs.declared.model.Object.{Object}
 use Rattle.crq_sim.specs.declared.model.Start.{Start}
 use Rattle.crq_sim.specs.Draws.{drawn, next_state}
@@ -55,7 +56,7 @@ digits_named n lt =
     (λ n ds many front. rw (list_all-append name_byte ds ((48 + n % 10) ∷ []), front, digit_named (n % 10) (omega arith)) refl)
     n lt
 
-pub named : (n : ℕ) → n < 65536 → is_name (codes "p" ++ decimal n) ≡ true
+pub named : (n : ℕ) → n ≤ MOST_OBJECTS → is_name (codes "p" ++ decimal n) ≡ true
 named n lt =
     let short : length (decimal n) ≤ 5 = length-decimal-le 5 n (omega arith) (omega arith) (omega arith) in
     let digits : list_all name_byte (decimal n) ≡ true = digits_named n (omega arith) in
@@ -72,17 +73,17 @@ abbrev name_at : ℕ → ℕ → List ℕ
 name_at seed i = (generated_object seed i).name
 
 -- numbers apart have names apart
-other_name : (seed i j : ℕ) → i < j → j < 65535 → name_at seed j ≡ name_at seed i → ⊥
+other_name : (seed i j : ℕ) → i < j → j < MOST_OBJECTS → name_at seed j ≡ name_at seed i → ⊥
 other_name seed i j lt few same =
     let digits : decimal (j + 1) ≡ decimal (i + 1) = cc in
     let number : j + 1 ≡ i + 1 = decimal_injective (j + 1) (i + 1) (omega arith) (omega arith) digits in
     omega arith
 
-later_names : (seed i a n : ℕ) → i < a → a + n < 65536 → AllByRecursion (λ (name : List ℕ). name ≡ name_at seed i → ⊥) (map (λ (o : Object). o.name) (map (generated_object seed) (range_with_len a n)))
+later_names : (seed i a n : ℕ) → i < a → a + n ≤ MOST_OBJECTS → AllByRecursion (λ (name : List ℕ). name ≡ name_at seed i → ⊥) (map (λ (o : Object). o.name) (map (generated_object seed) (range_with_len a n)))
 later_names seed i a zero lt few = tt
 later_names seed i a (suc n) lt few = (other_name seed i a lt (omega arith), later_names seed i (a + 1) n (omega arith) (omega arith))
 
-names_apart : (seed a n : ℕ) → a + n < 65536 → AreApart (map (λ (o : Object). o.name) (map (generated_object seed) (range_with_len a n)))
+names_apart : (seed a n : ℕ) → a + n ≤ MOST_OBJECTS → AreApart (map (λ (o : Object). o.name) (map (generated_object seed) (range_with_len a n)))
 names_apart seed a zero few = tt
 names_apart seed a (suc n) few =
     let names : List (List ℕ) = map (λ (o : Object). o.name) (map (generated_object seed) (range_with_len (a + 1) n)) in (
@@ -94,7 +95,7 @@ names_apart seed a (suc n) few =
 drawn_there : (n d : ℕ) → 0 < n → IsObject n (1 + d % n)
 drawn_there n d some = (let lt : d % n < n = omega arith in omega arith, let lt : d % n < n = omega arith in omega arith)
 
-pub generated_known : (seed objects population : ℕ) → 0 < objects → objects < 65536 → population < 65536 → IsModel (generated seed objects population)
+pub generated_known : (seed objects population : ℕ) → 0 < objects → objects ≤ MOST_OBJECTS → population ≤ MOST_STARTS → IsModel (generated seed objects population)
 generated_known seed objects population some few few_starts =
     let m : ModelData = generated seed objects population in
     let many : length m.objects ≡ objects = length-map-range_with_len (generated_object seed) 0 objects in

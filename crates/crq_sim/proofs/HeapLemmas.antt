@@ -1,8 +1,6 @@
 -- An event list doesn't depend on the order in which its events come.
 use Rattle.std.proofs.Common.{◌≡◌, ◌⊎◌, ℕ, zero, suc, ◌<◌, List, [], ◌∷◌, true, false, length, map, get_or, set, refl, arith, ap, sym, ◌∙◌, subst, inl, inr}
 use Rattle.std.specs.declared.cmp.Reverse.{Reverse}
-use Rattle.std.specs.declared.cmp.Ordering.{Ordering}
-use Rattle.std.specs.declared.cmp.Ordering.TheVariants.{Less, Equal, Greater}
 use Rattle.std.specs.Ordering.{is_eq, is_lt}
 use Rattle.std.specs.List.{AllByRecursion, swap}
 use Rattle.std.specs.List.Sorted.{IsPermutation}
@@ -12,26 +10,7 @@ use Rattle.crq_base.specs.Keys.{event_cmp, IsBefore}
 use Rattle.crq_base.proofs.KeyOrder.{before_trans, before_else, before_not_itself}
 use Rattle.crq_sim.specs.EventLists.{with_event, with_events, IsFirst}
 use Rattle.crq_sim.specs.Heaps.{listed}
-use Rattle.crq_sim.proofs.EventListLemmas.{nat_equal, then_equal, bool_cases, All-with_events}
-
--- events that are alike are one
-same_event : (a b : Event) → event_cmp a b ≡ Equal → a ≡ b
-same_event a b h =
-    let one = then_equal _ _ h in
-    let two = then_equal _ _ one.1 in
-    let three = then_equal _ _ two.1 in
-    let four = then_equal _ _ three.1 in
-    let time = nat_equal a.time b.time one.0 in
-    let src = nat_equal a.src b.src two.0 in
-    let seq = nat_equal a.seq b.seq three.0 in
-    let dst = nat_equal a.dst b.dst four.0 in
-    let load = nat_equal a.load b.load four.1 in
-    λ i. record { time = time i; src = src i; seq = seq i; dst = dst i; load = load i }
-
-equal_is : (o : Ordering) → is_eq o ≡ true → o ≡ Equal
-equal_is Less h = absurd (cc)
-equal_is Equal h = refl
-equal_is Greater h = absurd (cc)
+use Rattle.crq_sim.proofs.EventListLemmas.{same_event, equal_is, bool_cases, All-with_events}
 
 -- of two events one is before the other, or they are one
 one_before : (a b : Event) → IsBefore a b ⊎ (IsBefore b a ⊎ (a ≡ b))

@@ -1,6 +1,8 @@
+pub mod AfterLemmas
 pub mod EventListLemmas
 pub mod GeneratedLemmas
 pub mod HeapLemmas
+pub mod Members
 pub mod NextWindow
 pub mod OrderLemmas
 pub mod ReactionLemmas

@@ -1,5 +1,5 @@
 -- The next window of a run, from any point of it.
-use Rattle.std.proofs.Common.{◌≡◌, ℕ, zero, suc, ◌+◌, ◌-◌, ◌<◌, ◌≤◌, List, [], ◌∷◌, ◌++◌, length, inl, inr, arith, ap, sym, ◌∙◌, refl, subst, add-zero}
+use Rattle.std.proofs.Common.{◌≡◌, ℕ, ◌+◌, ◌<◌, ◌≤◌, List, [], ◌∷◌, ◌++◌, length, inl, inr, arith, ap, sym, refl, subst}
 use Rattle.std.proofs.lemmas.Bool.{cases_lt}
 use Rattle.std.specs.List.{AllByRecursion}
 use Rattle.crq_base.specs.declared.event.Event.{Event}
@@ -7,11 +7,10 @@ use Rattle.crq_base.specs.Keys.{IsBefore}
 use Rattle.crq_sim.specs.EventLists.{AreInOrder, IsFirst}
 use Rattle.crq_sim.specs.Models.{ModelData, IsModel}
 use Rattle.crq_sim.specs.Runs.{Simulation, after_events}
-use Rattle.crq_sim.specs.Windows.{IsNextBelow, edge_at, AreBelowEdge, EndsWindow}
-use Rattle.crq_sim.specs.WindowRuns.{events_later, AreBelow, AreFrom, CanRun, RunsWindow}
+use Rattle.crq_sim.specs.Simulations.{IsDue, IsSimulation}
+use Rattle.crq_sim.specs.Windows.{IsNextBelow, edge_of, AreBelowEdge, EndsWindow}
+use Rattle.crq_sim.specs.WindowRuns.{AreBelow, AreFrom, CanRun, RunsWindow}
 use Rattle.crq_sim.proofs.EventListLemmas.{All-weaker}
-use Rattle.crq_sim.proofs.OrderLemmas.{ordered}
-use Rattle.crq_sim.proofs.Sound.{IsDue, sound}
 use Rattle.crq_sim.proofs.WindowLemmas.{first_edge}
 use Rattle.crq_sim.proofs.WindowRunLemmas.{later_cmp, window_run, inside_window, below_edge}
 
@@ -44,12 +43,6 @@ split_at_edge P edge (e ∷ es) h all =
       | inr ge ↦ record { below = []; rest = e ∷ es; whole = refl; before = tt; after = (ge, all_from edge e es ge h.0) }
     ]
 
--- events after a point of the run lead to points of it
-later_on_run : (m : ModelData) (n i : ℕ) → events_later m n (after_events m i) ≡ after_events m (i + n)
-unfolding events_later after_events
-later_on_run m zero i = rw add-zero refl
-later_on_run m (suc n) i = later_on_run m n (suc i) ∙ ap (after_events m) (let k : suc i + n ≡ i + suc n = omega arith in k)
-
 both : (P Q : Event → Type 0) (xs : List Event) → AllByRecursion P xs → AllByRecursion Q xs → AllByRecursion (λ (f : Event). P f × Q f) xs
 both P Q [] h k = tt
 both P Q (x ∷ xs) h k = ((h.0, k.0), both P Q xs h.1 k.1)
@@ -72,29 +65,22 @@ some_below edge e [] (x ∷ rest) first lt from = (let same : e.time ≡ x.time 
 some_below edge e (b ∷ below) rest first lt from = omega arith
 
 -- the window ends after the events below its edge
-ends_there : (m : ModelData) (i edge : ℕ) (below rest : List Event) → IsModel m → edge_at m i ≡ edge → (after_events m i).pending ≡ below ++ rest
-    → AllByRecursion (CanRun m edge) below → AreFrom edge rest → 0 < length below → AreFrom edge (after_events m (i + length below)).pending → EndsWindow m i (i + length below)
-ends_there m i edge below rest is edge_is whole can from some end =
-    let inside : AreBelowEdge m i (i + length below) = λ k after before.
-    (let next = inside_window m edge (k - i) below rest (after_events m i) is whole can from (omega arith) in
-    let at : events_later m (k - i) (after_events m i) ≡ after_events m k = later_on_run m (k - i) i ∙ ap (after_events m) (let q : i + (k - i) ≡ k = omega arith in q) in
-    subst (λ z. IsNextBelow z (after_events m k).pending) (sym edge_is) (subst (λ (w : Simulation). IsNextBelow edge w.pending) at next)) in
-    (omega arith, inside, (λ next. none_below edge (after_events m (i + length below)).pending end (subst (λ z. IsNextBelow z (after_events m (i + length below)).pending) edge_is next)))
+ends_there : (m : ModelData) (w : Simulation) (edge : ℕ) (below rest : List Event) → IsModel m → edge_of m.lookahead w.pending ≡ edge → w.pending ≡ below ++ rest
+    → AllByRecursion (CanRun m edge) below → AreFrom edge rest → 0 < length below → AreFrom edge (after_events m w (length below)).pending → EndsWindow m w (length below)
+ends_there m w edge below rest is edge_is whole can from some end =
+    let inside : AreBelowEdge m w (length below) = λ k before. subst (λ z. IsNextBelow z (after_events m w k).pending) (sym edge_is) (inside_window m edge k below rest w is whole can from before) in
+    (some, inside, (λ next. none_below edge (after_events m w (length below)).pending end (subst (λ z. IsNextBelow z (after_events m w (length below)).pending) edge_is next)))
 
 -- the events below the edge are the window's, and running them is the run's next part
-pub next_window : (m : ModelData) (i : ℕ) (e : Event) → IsModel m → IsFirst e (after_events m i).pending
-    → (below : List Event) × (rest : List Event) × ((after_events m i).pending ≡ below ++ rest) × AreBelow (e.time + m.lookahead) below × AreFrom (e.time + m.lookahead) rest
-    × EndsWindow m i (i + length below) × RunsWindow m (e.time + m.lookahead) (after_events m i) below rest (after_events m (i + length below))
-next_window m i e is first =
-    let w : Simulation = after_events m i in
+pub next_window : (m : ModelData) (w : Simulation) (e : Event) → IsModel m → IsSimulation m w → IsFirst e w.pending
+    → (below : List Event) × (rest : List Event) × (w.pending ≡ below ++ rest) × AreBelow (e.time + m.lookahead) below × AreFrom (e.time + m.lookahead) rest
+    × EndsWindow m w (length below) × RunsWindow m (e.time + m.lookahead) w below rest
+next_window m w e is known first =
     let edge : ℕ = e.time + m.lookahead in
-    let known = sound m i is in
-    let in_order = ordered m i is in
-    let earliest : AreFrom e.time w.pending = first_earliest w.pending e in_order first in
-    let s = split_at_edge (λ (f : Event). IsDue m w.states f × (e.time ≤ f.time)) edge w.pending in_order (both (IsDue m w.states) (λ (f : Event). e.time ≤ f.time) w.pending known.events earliest) in
+    let earliest : AreFrom e.time w.pending = first_earliest w.pending e known.in_order first in
+    let s = split_at_edge (λ (f : Event). IsDue m w.states f × (e.time ≤ f.time)) edge w.pending known.in_order (both (IsDue m w.states) (λ (f : Event). e.time ≤ f.time) w.pending known.events earliest) in
     let can : AllByRecursion (CanRun m edge) s.below = All-weaker _ (CanRun m edge) (λ f k. (k.0, (let t = k.1.1 in omega arith), k.1.0.there)) s.below s.before in
-    let run : RunsWindow m edge w s.below s.rest (after_events m (i + length s.below)) =
-    subst (RunsWindow m edge w s.below s.rest) (later_on_run m (length s.below) i) (window_run m edge s.below s.rest w is known.many s.whole can s.after) in
+    let run : RunsWindow m edge w s.below s.rest = window_run m edge s.below s.rest w is known.many s.whole can s.after in
     let ahead = is.ahead in
     let some : 0 < length s.below = some_below edge e s.below s.rest (subst (IsFirst e) s.whole first) (omega arith) s.after in (
       s.below,
@@ -102,6 +88,6 @@ next_window m i e is first =
       s.whole,
       below_edge m edge s.below can,
       s.after,
-      ends_there m i edge s.below s.rest is (first_edge m.lookahead w.pending e first) s.whole can s.after some run.pending,
+      ends_there m w edge s.below s.rest is (first_edge m.lookahead w.pending e first) s.whole can s.after some run.pending,
       run,
     )

@@ -1,5 +1,5 @@
 -- The variables of a run, and its steps.
-use Rattle.std.proofs.Common.{◌≡◌, ℕ, suc, ◌+◌, ◌-◌, ◌*◌, ◌≤◌, List, [], ◌∷◌, ◌++◌, length, get_or, set, refl, arith, ap, sym, ◌∙◌, subst, add-one, add-zero, add-suc, zero, All}
+use Rattle.std.proofs.Common.{◌≡◌, ℕ, suc, ◌+◌, ◌-◌, ◌*◌, ◌≤◌, List, [], ◌∷◌, ◌++◌, length, get_or, set, arith, ap, sym, ◌∙◌, subst, zero, All}
 use Rattle.std.proofs.lemmas.List.{get_or_read}
 use Rattle.std.proofs.lemmas.List.Elements.{All-from_recursion}
 use Rattle.std.specs.List.{AllByRecursion}
@@ -8,12 +8,14 @@ use Rattle.crq_sim.specs.declared.reaction.ObjectState.{ObjectState}
 use Rattle.crq_sim.specs.declared.run.Run.{Run}
 use Rattle.crq_sim.specs.declared.traces.ObjectTrace.{ObjectTrace}
 use Rattle.crq_sim.specs.declared.traces.Step.{Step}
-use Rattle.crq_sim.specs.EventLists.{with_events, IsFirst}
+use Rattle.crq_sim.specs.EventLists.{with_events, without_events, IsFirst}
 use Rattle.crq_sim.specs.Models.{ModelData, IsModel, IsObject}
 use Rattle.crq_sim.specs.Reactions.{behaviour_at, sends_of, state_after, IsWordOf}
-use Rattle.crq_sim.specs.Runs.{Simulation, state_of, step_of, run_first, after_events, traces_of, IsOverWithin, traces_within}
+use Rattle.crq_sim.specs.Runs.{Simulation, state_of, step_of, run_first, run_next, after_events, beginning, simulation_at, traces_of, IsOverWithin, traces_within}
+use Rattle.crq_sim.specs.Simulations.{IsDue, IsSimulation}
 use Rattle.crq_sim.specs.Shown.{Shows, IsNext}
-use Rattle.crq_sim.proofs.Sound.{IsDue, sound, no_state}
+use Rattle.crq_sim.proofs.AfterLemmas.{after_one, kept}
+use Rattle.crq_sim.proofs.Sound.{sound, begins, simulation_step, nothing_withdrawn, no_state}
 
 -- what is known of a run whose least pending event was taken
 pub record Known (m : ModelData) (r : Run) (e : Event) : Type 0 where
@@ -26,16 +28,16 @@ pub record Known (m : ModelData) (r : Run) (e : Event) : Type 0 where
 
 pub next_known : (m : ModelData) (r : Run) (e : Event) → IsModel m → IsNext m r e → Known m r e
 next_known m r e is h =
-    let w : Simulation = after_events m r.made in
+    let w : Simulation = simulation_at m r.made in
     let all = sound m r.made is in
-    let events : AllByRecursion (IsDue m w.states) (e ∷ r.pending) = subst (λ (es : List Event). AllByRecursion (IsDue m w.states) es) h.pending all.events in
+    let events : AllByRecursion (IsDue m w.states) (e ∷ r.pending) = subst (λ (es : List Event). AllByRecursion (IsDue m w.states) es) h.pending all.simulation.events in
     let mine : AllByRecursion (IsDue m r.states.items) (e ∷ r.pending) = subst (λ (xs : List ObjectState). AllByRecursion (IsDue m xs) (e ∷ r.pending)) (sym h.states) events in
     record {
-      all_states = ap length h.states ∙ all.many;
+      all_states = ap length h.states ∙ all.simulation.many;
       due = mine.0;
       count = (let k = all.counts e.dst in rw h.states k);
       sent = (let k = all.sents e.dst in rw h.states k);
-      word = subst (λ (xs : List ObjectState). IsWordOf (behaviour_at m e.dst) (state_of xs e.dst).word) (sym h.states) (all.words e.dst events.0.there);
+      word = subst (λ (xs : List ObjectState). IsWordOf (behaviour_at m e.dst) (state_of xs e.dst).word) (sym h.states) (all.simulation.words e.dst events.0.there);
       others = mine.1;
     }
 
@@ -49,11 +51,13 @@ run_first_at : (m : ModelData) (states : List ObjectState) (pending rest : List 
       log = log ++ step_of m (state_of states e.dst) e ∷ [];
     })
 unfolding run_first
-run_first_at m states pending rest log e h = rw h refl
-
-pub next_events : (m : ModelData) (n : ℕ) → after_events m (n + 1) ≡ run_first m (after_events m n).states (after_events m n).pending (after_events m n).log
-unfolding after_events
-next_events m n = rw add-one refl
+run_first_at m states pending rest log e h =
+    let s : ObjectState = state_of states e.dst in
+    rw h (ap (λ (gone : List Event). record {
+      states = set states (e.dst - 1) (state_after m e.dst s e);
+      pending = with_events (sends_of m e.dst s e) (without_events gone rest);
+      log = log ++ step_of m s e ∷ [];
+    }) (nothing_withdrawn m e.dst s e))
 
 -- what the variables hold after the event was run
 pub record Ran (m : ModelData) (r : Run) (e : Event) (s : ObjectState) (states : List ObjectState) (pending : List Event) (log : List Step) : Type 0 where
@@ -64,10 +68,10 @@ pub record Ran (m : ModelData) (r : Run) (e : Event) (s : ObjectState) (states :
 
 pub ran_shows : (m : ModelData) (r r' : Run) (e : Event) (s : ObjectState) → IsModel m → IsNext m r e → Ran m r e s r'.states.items r'.pending r'.log.items → r'.made ≡ r.made + 1 → Shows m r'
 ran_shows m r r' e s is h ran made =
-    let w : Simulation = after_events m r.made in
+    let w : Simulation = simulation_at m r.made in
     let known = next_known m r e is h in
     let there = known.due.there in
-    let now : after_events m r'.made ≡ run_first m w.states w.pending w.log = ap (after_events m) made ∙ next_events m r.made in
+    let now : simulation_at m r'.made ≡ run_next m w = ap (simulation_at m) made ∙ after_one m (beginning m) r.made in
     let next = now ∙ run_first_at m w.states w.pending r.pending w.log e h.pending in
     let here : state_of r.states.items e.dst ≡ state_of w.states e.dst = ap (λ (xs : List ObjectState). state_of xs e.dst) h.states in
     let step : Step = record { event = e; count = s.count; word = s.word } in
@@ -90,57 +94,30 @@ unfolding run_first
 step_there m states [] log due all = all
 step_there m states (e ∷ es) log due all = All-push (λ (s : Step). IsObject (length m.objects) s.event.dst) log (step_of m (state_of states e.dst) e) all due.0.there
 
-steps_there : (m : ModelData) (n : ℕ) → IsModel m → AllByRecursion (λ (s : Step). IsObject (length m.objects) s.event.dst) (after_events m n).log
+steps_there : (m : ModelData) (w : Simulation) (n : ℕ) → IsModel m → IsSimulation m w → AllByRecursion (λ (s : Step). IsObject (length m.objects) s.event.dst) w.log
+    → AllByRecursion (λ (s : Step). IsObject (length m.objects) s.event.dst) (after_events m w n).log
 unfolding after_events
-steps_there m zero is = tt
-steps_there m (suc n) is = let w = after_events m n in step_there m w.states w.pending w.log (sound m n is).events (steps_there m n is)
+steps_there m w zero is h all = all
+steps_there m w (suc n) is h all =
+    let next : IsSimulation m (run_next m w) = simulation_step m w.states w.pending w.log is h in
+    steps_there m (run_next m w) n is next (step_there m w.states w.pending w.log h.events all)
 
 pub log_there : (m : ModelData) (r : Run) → IsModel m → Shows m r → All (λ (s : Step). IsObject (length m.objects) s.event.dst) r.log.items
 log_there m r is h =
     subst (λ (xs : List Step). All (λ (s : Step). IsObject (length m.objects) s.event.dst) xs) (sym h.log)
-    (All-from_recursion (λ (s : Step). IsObject (length m.objects) s.event.dst) (after_events m r.made).log (steps_there m r.made is))
-
-stays_once : (m : ModelData) (states : List ObjectState) (pending : List Event) (log : List Step) → pending ≡ [] → ((run_first m states pending log).pending ≡ []) × ((run_first m states pending log).log ≡ log)
-unfolding run_first
-stays_once m states pending log h = rw h (refl, refl)
-
--- after the last event nothing changes
-pub stays : (m : ModelData) (n k : ℕ) → (after_events m n).pending ≡ [] → ((after_events m (n + k)).pending ≡ []) × ((after_events m (n + k)).log ≡ (after_events m n).log)
-unfolding after_events
-stays m n zero h = rw add-zero (h, refl)
-stays m n (suc k) h =
-    let before = stays m n k h in
-    let w = after_events m (n + k) in
-    let once = stays_once m w.states w.pending w.log before.0 in
-    rw add-suc (once.0, once.1 ∙ before.1)
-
-empty_kept : (m : ModelData) (states : List ObjectState) (pending : List Event) (log : List Step) → pending ≡ [] → run_first m states pending log ≡ (record { states = states; pending = pending; log = log })
-unfolding run_first
-empty_kept m states pending log h = rw h refl
-
--- nor do the states
-pub kept : (m : ModelData) (n k : ℕ) → (after_events m n).pending ≡ [] → after_events m (n + k) ≡ after_events m n
-unfolding after_events
-kept m n zero h = rw add-zero refl
-kept m n (suc k) h =
-    let w = after_events m (n + k) in
-    let before : w ≡ after_events m n = kept m n k h in
-    let none : w.pending ≡ [] = ap (λ (x : Simulation). x.pending) before ∙ h in
-    rw add-suc (empty_kept m w.states w.pending w.log none ∙ before)
+    (All-from_recursion (λ (s : Step). IsObject (length m.objects) s.event.dst) (simulation_at m r.made).log (steps_there m (beginning m) r.made is (begins m is) tt))
 
 -- where nothing is pending the run is over, and stays so up to the cap
-pub over_within : (m : ModelData) (made cap : ℕ) (traces : List ObjectTrace) → made ≤ cap → (after_events m made).pending ≡ [] → traces ≡ traces_of m.objects (after_events m made).log
+pub over_within : (m : ModelData) (made cap : ℕ) (traces : List ObjectTrace) → made ≤ cap → (simulation_at m made).pending ≡ [] → traces ≡ traces_of m.objects (simulation_at m made).log
     → IsOverWithin m cap × (traces ≡ traces_within m cap)
 over_within m made cap traces le none is =
-    let rest = stays m made (cap - made) none in
     let all : made + (cap - made) ≡ cap = omega arith in
-    let at_cap : (after_events m cap).pending ≡ [] = ap (λ n. (after_events m n).pending) (sym all) ∙ rest.0 in
-    let log : (after_events m cap).log ≡ (after_events m made).log = ap (λ n. (after_events m n).log) (sym all) ∙ rest.1 in
-    (at_cap, is ∙ ap (traces_of m.objects) (sym log))
+    let same : simulation_at m cap ≡ simulation_at m made = ap (simulation_at m) (sym all) ∙ kept m (beginning m) made (cap - made) none in
+    (ap (λ (w : Simulation). w.pending) same ∙ none, is ∙ ap (λ (w : Simulation). traces_of m.objects w.log) (sym same))
 
 not_over : (e : Event) (pending : List Event) → IsFirst e pending → pending ≡ [] → ⊥
 not_over e pending first none = subst (IsFirst e) none first
 
 -- where an event is pending after as many events as the cap allows, the run has more
-pub more_than : (m : ModelData) (cap : ℕ) (pending : List Event) (e : Event) → pending ≡ (after_events m cap).pending → IsFirst e pending → IsOverWithin m cap → ⊥
+pub more_than : (m : ModelData) (cap : ℕ) (pending : List Event) (e : Event) → pending ≡ (simulation_at m cap).pending → IsFirst e pending → IsOverWithin m cap → ⊥
 more_than m cap pending e is first none = not_over e pending first (is ∙ none)

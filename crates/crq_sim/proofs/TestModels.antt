@@ -4,6 +4,7 @@ use Rattle.std.specs.List.{AllByRecursion}
 use Rattle.std.proofs.lemmas.List.Elements.{All-from_recursion, All-contains}
 use Rattle.crq_sim.specs.declared.model.Behaviour.{Behaviour}
 use Rattle.crq_sim.specs.declared.model.Behaviour.TheVariants.{Relay, Phold, Station, Fan, Sink}
+use Rattle.crq_sim.specs.declared.model.TheConstants.{MOST_STARTS}
 use Rattle.crq_sim.specs.declared.model.Object.{Object}
 use Rattle.crq_sim.specs.declared.model.Start.{Start}
 use Rattle.crq_sim.specs.Models.{IsModel, IsObject, IsBehaviour}
@@ -19,7 +20,7 @@ none_there n at = let lt = at.1 in omega arith
 other : (names : List (List ℕ)) (n : List ℕ) → AllByRecursion (λ (m : List ℕ). m ≡ n → ⊥) names → Contains names n → ⊥
 other names n all at = All-contains (λ (m : List ℕ). m ≡ n → ⊥) names n (All-from_recursion (λ (m : List ℕ). m ≡ n → ⊥) names all) at refl
 
-pub one_known : (lookahead until : ℕ) (b : Behaviour) (starts : List Start) → 0 < lookahead → until < 2 ^ 32 → length starts < 65536 → IsBehaviour lookahead 1 b
+pub one_known : (lookahead until : ℕ) (b : Behaviour) (starts : List Start) → 0 < lookahead → until < 2 ^ 32 → length starts ≤ MOST_STARTS → IsBehaviour lookahead 1 b
     → AllByRecursion (λ (s : Start). IsObject 1 s.object) starts
     → IsModel (record { lookahead = lookahead; until = until; objects = object_of (codes "p") b ∷ []; starts = starts })
 one_known lookahead until b starts ahead within few is started =
@@ -38,7 +39,7 @@ one_known lookahead until b starts ahead within few is started =
 apart_at : (a b : List ℕ) → (get_or a 0 0 ≡ get_or b 0 0 → ⊥) → a ≡ b → ⊥
 apart_at a b apart same = apart (ap (λ (xs : List ℕ). get_or xs 0 0) same)
 
-pub three_known : (lookahead until : ℕ) (a b : Behaviour) (starts : List Start) → 0 < lookahead → until < 2 ^ 32 → length starts < 65536 → IsBehaviour lookahead 3 a → IsBehaviour lookahead 3 b
+pub three_known : (lookahead until : ℕ) (a b : Behaviour) (starts : List Start) → 0 < lookahead → until < 2 ^ 32 → length starts ≤ MOST_STARTS → IsBehaviour lookahead 3 a → IsBehaviour lookahead 3 b
     → AllByRecursion (λ (s : Start). IsObject 3 s.object) starts
     → IsModel (record { lookahead = lookahead; until = until; objects = object_of (codes "a") a ∷ object_of (codes "b") b ∷ object_of (codes "z") Sink ∷ []; starts = starts })
 three_known lookahead until a b starts ahead within few a_is b_is started =

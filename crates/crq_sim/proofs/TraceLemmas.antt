@@ -6,7 +6,8 @@ use Rattle.crq_sim.specs.declared.model.Object.{Object}
 use Rattle.crq_sim.specs.declared.traces.ObjectTrace.{ObjectTrace}
 use Rattle.crq_sim.specs.declared.traces.Step.{Step}
 use Rattle.crq_sim.specs.Models.{IsObject}
-use Rattle.crq_sim.specs.Runs.{kind_of, steps_of, traces_from, traces_of}
+use Rattle.crq_sim.specs.Kinds.{kind_of}
+use Rattle.crq_sim.specs.Runs.{steps_of, traces_from, traces_of}
 use Rattle.crq_sim.specs.Shown.{with_step}
 
 pub filter_push_in : {X : Type 0} (p : X → Bool) (xs : List X) (x : X) → p x ≡ true → filter p (xs ++ x ∷ []) ≡ filter p xs ++ x ∷ []

@@ -1,6 +1,6 @@
 -- Event lists: pending events in the order in which they are taken.
-use Rattle.std.specs.Prelude.{◌≡◌, ◌⊎◌, List, [], ◌∷◌, false, if◌then◌else◌}
-use Rattle.std.specs.List.{AllByRecursion, list_any}
+use Rattle.std.specs.Prelude.{◌≡◌, List, [], ◌∷◌, if◌then◌else◌}
+use Rattle.std.specs.List.{AllByRecursion}
 use Rattle.std.specs.Ordering.{is_eq, is_lt}
 use Rattle.crq_base.specs.declared.event.Event.{Event}
 use Rattle.crq_base.specs.Keys.{event_cmp, IsBefore}
@@ -15,26 +15,31 @@ abbrev pub with_events : List Event → List Event → List Event
 with_events [] pending = pending
 with_events (e ∷ es) pending = with_events es (with_event e pending)
 
+-- without an event
+abbrev pub without_event : Event → List Event → List Event
+without_event e [] = []
+without_event e (f ∷ fs) = if is_eq (event_cmp e f) then without_event e fs else f ∷ without_event e fs
+
+-- without any of several events
+abbrev pub without_events : List Event → List Event → List Event
+without_events [] pending = pending
+without_events (e ∷ es) pending = without_events es (without_event e pending)
+
 -- each event is before all that follow
 abbrev pub AreInOrder : List Event → Type 0
 AreInOrder [] = Unit {0}
 AreInOrder (e ∷ es) = AllByRecursion (IsBefore e) es × AreInOrder es
 
--- an event stands in the list
-abbrev pub IsIn : Event → List Event → Type 0
-IsIn x [] = ⊥
-IsIn x (y ∷ ys) = (y ≡ x) ⊎ IsIn x ys
-
--- no event of the list has all fields of this one
-abbrev pub IsAbsent : Event → List Event → Type 0
-IsAbsent e pending = list_any (λ f. is_eq (event_cmp e f)) pending ≡ false
-
--- each of the events is absent when its turn comes
-abbrev pub AreAbsent : List Event → List Event → Type 0
-AreAbsent [] pending = Unit {0}
-AreAbsent (e ∷ es) pending = IsAbsent e pending × AreAbsent es (with_event e pending)
-
 -- an event is the first of the list
 abbrev pub IsFirst : Event → List Event → Type 0
 IsFirst x [] = ⊥
 IsFirst x (y ∷ ys) = x ≡ y
+
+-- the key of an event: its time, its source, and the source's number for it
+abbrev pub HaveOneKey : Event → Event → Type 0
+HaveOneKey e f = (e.time ≡ f.time) × (e.src ≡ f.src) × (e.seq ≡ f.seq)
+
+-- no two events of a list, at whatever places, have one key
+abbrev pub HaveKeysApart : List Event → Type 0
+HaveKeysApart [] = Unit {0}
+HaveKeysApart (e ∷ es) = AllByRecursion (λ (f : Event). HaveOneKey e f → ⊥) es × HaveKeysApart es

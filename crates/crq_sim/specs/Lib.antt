@@ -1,12 +1,16 @@
+-- What public contracts and laws cite: whoever believes them has to read these.
 pub mod Names
 pub mod Models
+pub mod Kinds
 pub mod Draws
-pub mod EventLists
-pub mod Reactions
-pub mod Runs
-pub mod Windows
-pub mod Shown
-pub mod Ends
 pub mod Generated
+pub mod Reactions
+pub mod EventLists
+pub mod Runs
+pub mod Simulations
+pub mod Windows
 pub mod WindowRuns
+pub mod Ends
+-- What only contracts inside the crate cite.
+pub mod Shown
 pub mod Heaps

@@ -1,6 +1,7 @@
 -- A simulation model as contracts see it.
 use Rattle.std.specs.Prelude.{◌≡◌, true, ℕ, ◌<◌, ◌≤◌, ◌^◌, List, [], ◌∷◌, length, map, All, Contains}
 use Rattle.crq_sim.specs.Names.{is_name}
+use Rattle.crq_sim.specs.declared.model.TheConstants.{MOST_OBJECTS, MOST_STARTS}
 use Rattle.crq_sim.specs.declared.model.Object.{Object}
 use Rattle.crq_sim.specs.declared.model.Start.{Start}
 use Rattle.crq_sim.specs.declared.model.Behaviour.{Behaviour}
@@ -32,8 +33,8 @@ AreApart (n ∷ ns) = (Contains ns n → ⊥) × AreApart ns
 pub record IsModel (m : ModelData) : Type 0 where
   pub ahead : 0 < m.lookahead
   pub within : m.until < 2 ^ 32
-  pub few_objects : length m.objects < 65536
-  pub few_starts : length m.starts < 65536
+  pub few_objects : length m.objects ≤ MOST_OBJECTS
+  pub few_starts : length m.starts ≤ MOST_STARTS
   pub named : All (λ (o : Object). is_name o.name ≡ true) m.objects
   pub apart : AreApart (map (λ (o : Object). o.name) m.objects)
   pub behaviours : All (λ (o : Object). IsBehaviour m.lookahead (length m.objects) o.behaviour) m.objects

@@ -31,14 +31,6 @@ first_state behaviour = record { count = 0; word = first_word behaviour; sent = 
 abbrev pub served : ℕ → ℕ → ℕ → ℕ
 served service word time = min (max time word + service) (2 ^ 32)
 
--- the word after an event
-abbrev pub word_after : Behaviour → ℕ → Event → ℕ
-word_after (Relay delay next) word e = e.load
-word_after (Phold seed spread) word e = next_state (next_state word)
-word_after (Station service next) word e = served service word e.time
-word_after (Fan delay targets) word e = e.load
-word_after Sink word e = (word + e.load) % 2 ^ 64
-
 -- the object and the delay that a PHOLD object draws for an event
 abbrev pub drawn_object : ℕ → ℕ → ℕ
 drawn_object objects word = 1 + drawn word % objects
@@ -46,29 +38,67 @@ drawn_object objects word = 1 + drawn word % objects
 abbrev pub drawn_delay : ℕ → ℕ → ℕ
 drawn_delay spread word = drawn (next_state word) % (spread + 1)
 
--- what an object would send, in order: when, to which object, and with which load
-abbrev pub posts_of : ModelData → Behaviour → ℕ → Event → List Post
-posts_of m (Relay delay next) word e = record { time = e.time + delay; dst = next; load = (e.load + 1) % 2 ^ 64 } ∷ []
-posts_of m (Phold seed spread) word e =
-    record { time = e.time + m.lookahead + drawn_delay spread word; dst = drawn_object (length m.objects) word; load = e.load } ∷ []
-posts_of m (Station service next) word e = record { time = served service word e.time; dst = next; load = e.load } ∷ []
-posts_of m (Fan delay targets) word e = map (λ target. record { time = e.time + delay; dst = target; load = e.load }) targets
-posts_of m Sink word e = []
+-- what a behaviour makes of an event: the object's word after it, what the object would send, in order, and which pending events it withdraws
+pub record Action : Type 0 where
+  pub word : ℕ
+  pub posts : List Post
+  pub withdrawn : List Event
 
--- of these the ones that are due by the end are scheduled, and numbered on from what the source has sent
+-- by the behaviour, from the model, the object's state before the event, and the event; the object is the one that the event goes to
+abbrev pub action_of : ModelData → Behaviour → ObjectState → Event → Action
+action_of m (Relay delay next) s e = record {
+  word = e.load;
+  posts = record { time = e.time + delay; dst = next; load = (e.load + 1) % 2 ^ 64 } ∷ [];
+  withdrawn = [];
+}
+action_of m (Phold seed spread) s e = record {
+  word = next_state (next_state s.word);
+  posts = record { time = e.time + m.lookahead + drawn_delay spread s.word; dst = drawn_object (length m.objects) s.word; load = e.load } ∷ [];
+  withdrawn = [];
+}
+action_of m (Station service next) s e = record {
+  word = served service s.word e.time;
+  posts = record { time = served service s.word e.time; dst = next; load = e.load } ∷ [];
+  withdrawn = [];
+}
+action_of m (Fan delay targets) s e = record {
+  word = e.load;
+  posts = map (λ target. record { time = e.time + delay; dst = target; load = e.load }) targets;
+  withdrawn = [];
+}
+action_of m Sink s e = record { word = (s.word + e.load) % 2 ^ 64; posts = []; withdrawn = [] }
+
+-- of what an object would send, what is due by the end is scheduled, and numbered on from what the source has sent
 unfoldable pub scheduled : ℕ → ℕ → ℕ → List Post → List Event
 scheduled until src sent [] = []
 scheduled until src sent (p ∷ ps) =
     if nat_le p.time until then record { time = p.time; src = src; seq = sent; dst = p.dst; load = p.load } ∷ scheduled until src (sent + 1) ps
     else scheduled until src sent ps
 
--- what an object sends at an event
-unfoldable pub sends_of : ModelData → ℕ → ObjectState → Event → List Event
-sends_of m o s e = scheduled m.until o s.sent (posts_of m (behaviour_at m o) s.word e)
+-- what an object does at an event: its state after it, the events that it sends, in order, and the pending events that it withdraws
+pub record Reaction : Type 0 where
+  pub state : ObjectState
+  pub sends : List Event
+  pub withdrawn : List Event
 
--- its state after the event
-unfoldable pub state_after : ModelData → ℕ → ObjectState → Event → ObjectState
-state_after m o s e = record { count = s.count + 1; word = word_after (behaviour_at m o) s.word e; sent = s.sent + length (sends_of m o s e) }
+unfoldable pub reaction_of : ModelData → ℕ → ObjectState → Event → Reaction
+reaction_of m o s e =
+    let action = action_of m (behaviour_at m o) s e in
+    let sends = scheduled m.until o s.sent action.posts in
+    record {
+      state = record { count = s.count + 1; word = action.word; sent = s.sent + length sends };
+      sends = sends;
+      withdrawn = action.withdrawn;
+    }
+
+abbrev pub state_after : ModelData → ℕ → ObjectState → Event → ObjectState
+state_after m o s e = (reaction_of m o s e).state
+
+abbrev pub sends_of : ModelData → ℕ → ObjectState → Event → List Event
+sends_of m o s e = (reaction_of m o s e).sends
+
+abbrev pub withdrawn_by : ModelData → ℕ → ObjectState → Event → List Event
+withdrawn_by m o s e = (reaction_of m o s e).withdrawn
 
 -- a station is busy until tick 2 ^ 32 at the latest
 abbrev pub IsWordOf : Behaviour → ℕ → Type 0

@@ -1,20 +1,17 @@
--- The serial run of a model: one event list, from which the least event is taken again and again.
+-- The serial run: one event list, from which the least event is taken again and again.
 use Rattle.std.specs.Prelude.{◌≡◌, ℕ, zero, suc, ◌+◌, ◌-◌, List, [], ◌∷◌, ◌++◌, map, filter, slice_index_or, slice_set, if◌then◌else◌, nat_le, ◌==◌}
 use Rattle.crq_base.specs.declared.event.Event.{Event}
-use Rattle.crq_sim.specs.declared.model.Behaviour.{Behaviour}
-use Rattle.crq_sim.specs.declared.model.Behaviour.TheVariants.{Relay, Phold, Station, Fan, Sink}
-use Rattle.crq_sim.specs.declared.model.BehaviourName.{BehaviourName}
-use Rattle.crq_sim.specs.declared.model.BehaviourName.TheVariants as names
 use Rattle.crq_sim.specs.declared.model.Object.{Object}
 use Rattle.crq_sim.specs.declared.model.Start.{Start}
 use Rattle.crq_sim.specs.declared.reaction.ObjectState.{ObjectState}
 use Rattle.crq_sim.specs.declared.traces.ObjectTrace.{ObjectTrace}
 use Rattle.crq_sim.specs.declared.traces.Step.{Step}
-use Rattle.crq_sim.specs.EventLists.{with_events}
+use Rattle.crq_sim.specs.EventLists.{with_events, without_events}
+use Rattle.crq_sim.specs.Kinds.{kind_of}
 use Rattle.crq_sim.specs.Models.{ModelData}
-use Rattle.crq_sim.specs.Reactions.{first_state, sends_of, state_after}
+use Rattle.crq_sim.specs.Reactions.{first_state, state_after, sends_of, withdrawn_by}
 
--- the objects' states, the pending events in order, and the steps that were made
+-- where a run stands: the objects' states, the pending events in order, and the steps that were made
 pub record Simulation : Type 0 where
   pub states : List ObjectState
   pub pending : List Event
@@ -28,14 +25,42 @@ state_of states o = slice_index_or states (o - 1) (record { count = 0; word = 0;
 abbrev pub step_of : ModelData → ObjectState → Event → Step
 step_of m s e = record { event = e; count = (state_after m e.dst s e).count; word = (state_after m e.dst s e).word }
 
--- the least pending event is run at its object, and what that sends becomes pending
+-- the least pending event is run at its object; what that withdraws is removed from the pending events, and what it sends is added
 unfoldable pub run_first : ModelData → List ObjectState → List Event → List Step → Simulation
 run_first m states [] log = record { states = states; pending = []; log = log }
 run_first m states (e ∷ es) log = record {
   states = slice_set states (e.dst - 1) (state_after m e.dst (state_of states e.dst) e);
-  pending = with_events (sends_of m e.dst (state_of states e.dst) e) es;
+  pending = with_events (sends_of m e.dst (state_of states e.dst) e) (without_events (withdrawn_by m e.dst (state_of states e.dst) e) es);
   log = log ++ step_of m (state_of states e.dst) e ∷ [];
 }
+
+abbrev pub run_next : ModelData → Simulation → Simulation
+run_next m w = run_first m w.states w.pending w.log
+
+-- a simulation after so many more events; where nothing is pending any more nothing changes
+unfoldable pub after_events : ModelData → Simulation → ℕ → Simulation
+after_events m w zero = w
+after_events m w (suc n) = after_events m (run_next m w) n
+
+-- the least pending event, where one is pending
+abbrev pub first_event : List Event → List Event
+first_event [] = []
+first_event (e ∷ es) = e ∷ []
+
+-- what it sends
+abbrev pub first_sends : ModelData → List ObjectState → List Event → List Event
+first_sends m states [] = []
+first_sends m states (e ∷ es) = sends_of m e.dst (state_of states e.dst) e
+
+-- the next so many events that are run from a simulation, in the order of the run
+unfoldable pub events_run : ModelData → Simulation → ℕ → List Event
+events_run m w zero = []
+events_run m w (suc n) = first_event w.pending ++ events_run m (run_next m w) n
+
+-- what they send, in the order of the run
+unfoldable pub events_sent : ModelData → Simulation → ℕ → List Event
+events_sent m w zero = []
+events_sent m w (suc n) = first_sends m w.states w.pending ++ events_sent m (run_next m w) n
 
 -- the starts up to the end, numbered in their order; their source is 0
 unfoldable pub scheduled_starts : ℕ → ℕ → List Start → List Event
@@ -47,22 +72,13 @@ scheduled_starts until n (s ∷ ss) =
 abbrev pub first_states : List Object → List ObjectState
 first_states objects = map (λ (o : Object). first_state o.behaviour) objects
 
--- before the first event
+-- a model before its first event
 abbrev pub beginning : ModelData → Simulation
 beginning m = record { states = first_states m.objects; pending = with_events (scheduled_starts m.until 0 m.starts) []; log = [] }
 
--- after so many events, or after the last one
-unfoldable pub after_events : ModelData → ℕ → Simulation
-after_events m zero = beginning m
-after_events m (suc n) = run_first m (after_events m n).states (after_events m n).pending (after_events m n).log
-
--- a behaviour without its numbers
-abbrev pub kind_of : Behaviour → BehaviourName
-kind_of (Relay delay next) = names.Relay
-kind_of (Phold seed spread) = names.Phold
-kind_of (Station service next) = names.Station
-kind_of (Fan delay targets) = names.Fan
-kind_of Sink = names.Sink
+-- the serial run of a model, after so many events
+abbrev pub simulation_at : ModelData → ℕ → Simulation
+simulation_at m n = after_events m (beginning m) n
 
 -- the steps of one object
 abbrev pub steps_of : ℕ → List Step → List Step
@@ -78,8 +94,8 @@ traces_of objects log = traces_from 1 objects log
 
 -- the run is over after at most so many events
 abbrev pub IsOverWithin : ModelData → ℕ → Type 0
-IsOverWithin m cap = (after_events m cap).pending ≡ []
+IsOverWithin m cap = (simulation_at m cap).pending ≡ []
 
 -- the traces of the run, where it is over after at most so many events
 abbrev pub traces_within : ModelData → ℕ → List ObjectTrace
-traces_within m cap = traces_of m.objects (after_events m cap).log
+traces_within m cap = traces_of m.objects (simulation_at m cap).log

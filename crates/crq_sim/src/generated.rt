@@ -1,6 +1,6 @@
 //! PHOLD models (Fujimoto, "Performance of Time Warp under synthetic workloads", 1990) whose seeds and starts are drawn.
 
-ghost use Rattle.std.specs.Prelude.{◌≡◌, ℕ, ◌+◌, ◌%◌, ◌<◌, ◌++◌, IfOk, map, codes};
+ghost use Rattle.std.specs.Prelude.{◌≡◌, ℕ, ◌+◌, ◌%◌, ◌<◌, ◌≤◌, ◌++◌, IfOk, map, codes};
 ghost use Rattle.std.specs.Fmt.{decimal};
 ghost use Rattle.std.specs.List.{range_with_len};
 ghost use Rattle.crq_sim.specs.declared.model.Behaviour.TheVariants.{Phold};
@@ -8,7 +8,7 @@ ghost use Rattle.crq_sim.specs.Draws.{drawn, next_state};
 ghost use Rattle.crq_sim.specs.Generated.{state_after_draws, generated_object, generated_start, generated};
 
 use crate::draws::draw;
-use crate::model::{Behaviour, Model, Object, Objects, Start, Starts};
+use crate::model::{Behaviour, MOST_OBJECTS, MOST_STARTS, Model, Object, Objects, Start, Starts};
 use crate::name::Name;
 use crate::sequence::Sequence;
 use crq_base::Memory;
@@ -28,7 +28,7 @@ const STARTED: u64 = 256;
 
 /// The object with a number, and with a seed that was drawn for it.
 fn phold_object(alloc: Global, number: u32, seed: u64) -> Result<Object, Memory>
-    requires { number < 65536 }
+    requires { number ≤ MOST_OBJECTS }
     ensures { IfOk result (λ o. o ≡ record { name = codes "p" ++ decimal number; behaviour = Phold seed 240 }) }
 {
     let text = format!(in alloc; "p{number}")?;
@@ -43,7 +43,7 @@ fn phold_object(alloc: Global, number: u32, seed: u64) -> Result<Object, Memory>
 
 /// The objects, and the state of the generator after their draws.
 fn phold_objects(alloc: Global, seed: u64, count: u32) -> Result<(Objects, u64), Memory>
-    requires { count < 65536 }
+    requires { count ≤ MOST_OBJECTS }
     ensures objects { IfOk result (λ r. r.0 ≡ map (generated_object seed) (range_with_len 0 count)) }
     ensures state { IfOk result (λ r. r.1 ≡ state_after_draws seed count) }
 {
@@ -60,7 +60,7 @@ fn phold_objects(alloc: Global, seed: u64, count: u32) -> Result<(Objects, u64),
 /// A start with this load, and the state of the generator after its draws.
 fn drawn_start(state: u64, objects: u32, load: u64) -> (Start, u64)
     requires some { 0 < objects }
-    requires few { objects < 65536 }
+    requires few { objects ≤ MOST_OBJECTS }
     ensures start { result.0 ≡ record { time = drawn (next_state state) % 256; object = 1 + drawn state % objects; load = load } }
     ensures state { result.1 ≡ next_state (next_state state) }
 {
@@ -77,7 +77,7 @@ fn drawn_start(state: u64, objects: u32, load: u64) -> (Start, u64)
 /// The starts that are drawn after the seeds of so many objects.
 fn drawn_starts(alloc: Global, state: u64, objects: u32, count: u32) -> Result<Starts, Memory>
     requires some { 0 < objects }
-    requires few { objects < 65536 }
+    requires few { objects ≤ MOST_OBJECTS }
     ensures { IfOk result (λ s. (seed : ℕ) → state ≡ state_after_draws seed objects → s ≡ map (generated_start seed objects) (range_with_len 0 count)) }
 {
     let mut starts = Sequence::from_vec(Vec::new(alloc));
@@ -96,8 +96,8 @@ fn drawn_starts(alloc: Global, state: u64, objects: u32, count: u32) -> Result<S
 /// starts lie in the first 256 of 2,000 ticks. Answers `Memory` where memory is refused.
 pub fn generate(alloc: Global, seed: u64, objects: u32, population: u32) -> Result<Model, Memory>
     requires some { 0 < objects }
-    requires few_objects { objects < 65536 }
-    requires few_starts { population < 65536 }
+    requires few_objects { objects ≤ MOST_OBJECTS }
+    requires few_starts { population ≤ MOST_STARTS }
     ensures { IfOk result (λ m. m ≡ generated seed objects population) }
 {
     let (all, state) = phold_objects(alloc, seed, objects)?;

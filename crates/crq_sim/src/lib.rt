@@ -3,6 +3,7 @@
 
 mod draws;
 mod generated;
+mod kind;
 mod laws;
 mod model;
 mod name;
@@ -19,11 +20,14 @@ mod traces;
 pub use crq_base::Memory;
 pub use draws::draw;
 pub use generated::generate;
-pub use laws::{end_law, next_window_law, one_window_law, order_law, window_law};
-pub use model::{Behaviour, BehaviourName, Model, Object, Objects, Start, Starts};
+pub use laws::{end_law, next_window_law, one_window_law, order_law, simulation_law, window_law};
+pub use model::{
+    Behaviour, BehaviourName, MOST_OBJECTS, MOST_STARTS, Model, Object, Objects, Start, Starts,
+};
 pub use name::Name;
 pub use outcome::{Outcome, Size, Sizes};
 pub use reaction::{ObjectState, react};
+pub use run::MOST_EVENTS;
 pub use sends::Sends;
 pub use sequence::Sequence;
 pub use serial_run::{SimEnd, serial};

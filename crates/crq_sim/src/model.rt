@@ -8,6 +8,12 @@ use crate::sequence::Sequence;
 use crate::targets::Targets;
 use std::marker;
 
+/// How many objects a model has at most.
+pub const MOST_OBJECTS: usize = 65_535;
+
+/// How many starts a model has at most.
+pub const MOST_STARTS: usize = 65_535;
+
 /// What an object does at each of its events. Delays and services are in ticks, objects are numbered from 1.
 #[derive(Debug, Drop)]
 pub enum Behaviour {

@@ -3,11 +3,11 @@
 ghost use Rattle.std.specs.Prelude.{◌≡◌, ◌+◌, ◌<◌, ◌≤◌, ◌^◌, length};
 ghost use Rattle.crq_sim.specs.Draws.{next_state};
 ghost use Rattle.crq_sim.specs.Models.{ModelData, IsObject};
-ghost use Rattle.crq_sim.specs.Reactions.{behaviour_at, object_at, first_word, first_state, served, drawn_object, drawn_delay, posts_of, word_after, scheduled, sends_of, state_after, IsWordOf};
+ghost use Rattle.crq_sim.specs.Reactions.{behaviour_at, object_at, first_word, first_state, served, drawn_object, drawn_delay, action_of, scheduled, reaction_of, IsWordOf};
 ghost use Rattle.crq_sim.specs.declared.reaction.ObjectState.{ObjectState};
 
 use crate::draws::draw;
-use crate::model::{Behaviour, Model, Object};
+use crate::model::{Behaviour, MOST_OBJECTS, Model, Object};
 use crate::sends::{Post, Sends, Source};
 use crq_base::Event;
 
@@ -62,7 +62,7 @@ fn served(service: u32, word: u64, time: u32) -> u64
 /// What a PHOLD object sends an event on as, and its generator's state after both draws.
 fn hold(model: &Model, spread: u32, word: u64, event: &Event) -> (u64, Post)
     requires some { 0 < length model.now.objects }
-    requires few { length model.now.objects < 65536 }
+    requires few { length model.now.objects ≤ MOST_OBJECTS }
     ensures { result ≡ (next_state (next_state word), record { time = event.now.time + model.now.lookahead + drawn_delay spread word; dst = drawn_object (length model.now.objects) word; load = event.now.load }) }
 {
     let (first, after_first) = draw(word);
@@ -82,15 +82,15 @@ fn act(
     model: &Model,
     behaviour: &Behaviour,
     source: &Source,
-    word: u64,
+    state: &ObjectState,
     event: &Event,
 ) -> (u64, Sends)
     requires some { 0 < length model.now.objects }
-    requires few { length model.now.objects < 65536 }
+    requires few { length model.now.objects ≤ MOST_OBJECTS }
     requires sent { source.now.sent < 2 ^ 62 }
-    requires word { IsWordOf behaviour.now word }
-    ensures word { result.0 ≡ word_after behaviour.now word event.now }
-    ensures sends { result.1 ≡ scheduled source.now.until source.now.object source.now.sent (posts_of model.now behaviour.now word event.now) }
+    requires word { IsWordOf behaviour.now state.now.word }
+    ensures word { result.0 ≡ (action_of model.now behaviour.now state.now event.now).word }
+    ensures sends { result.1 ≡ scheduled source.now.until source.now.object source.now.sent (action_of model.now behaviour.now state.now event.now).posts }
 {
     let time = u64::from(event.time);
     match behaviour {
@@ -103,11 +103,11 @@ fn act(
             (event.load, source.schedule_one(post))
         }
         Behaviour::Phold { spread, .. } => {
-            let (after, post) = hold(model, *spread, word, event);
+            let (after, post) = hold(model, *spread, state.word, event);
             (after, source.schedule_one(post))
         }
         Behaviour::Station { service, next } => {
-            let ready = served(*service, word, event.time);
+            let ready = served(*service, state.word, event.time);
             let post = Post {
                 time: ready,
                 dst: *next,
@@ -122,7 +122,7 @@ fn act(
                 source.schedule_each(due, event.load, targets.as_slice()),
             )
         }
-        Behaviour::Sink => (word.wrapping_add(event.load), Sends::none()),
+        Behaviour::Sink => (state.word.wrapping_add(event.load), Sends::none()),
     }
 }
 
@@ -134,8 +134,8 @@ pub fn react(model: &Model, object: u32, state: &mut ObjectState, event: &Event)
     requires count { state.old.count < 2 ^ 62 }
     requires sent { state.old.sent < 2 ^ 62 }
     requires word { IsWordOf (behaviour_at model.now object) state.old.word }
-    ensures state { state.new ≡ state_after model.now object state.old event.now }
-    ensures sends { result ≡ sends_of model.now object state.old event.now }
+    ensures state { state.new ≡ (reaction_of model.now object state.old event.now).state }
+    ensures sends { result ≡ (reaction_of model.now object state.old event.now).sends }
 {
     model.is_model();
     let acting = &model.objects()[object as usize - 1];
@@ -144,7 +144,7 @@ pub fn react(model: &Model, object: u32, state: &mut ObjectState, event: &Event)
         sent: state.sent,
         until: model.until(),
     };
-    let (word, sends) = act(model, &acting.behaviour, &source, state.word, event);
+    let (word, sends) = act(model, &acting.behaviour, &source, state, event);
     *state = ObjectState {
         count: state.count + 1,
         word,

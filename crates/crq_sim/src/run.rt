@@ -4,20 +4,24 @@ ghost use Rattle.std.specs.Prelude.{◌≡◌, ℕ, ◌+◌, ◌-◌, ◌<◌, �
 ghost use Rattle.crq_base.specs.declared.event.Event.{Event};
 ghost use Rattle.crq_sim.specs.EventLists.{with_events, IsFirst};
 ghost use Rattle.crq_sim.specs.Models.{ModelData, IsModel, IsObject};
-ghost use Rattle.crq_sim.specs.Runs.{kind_of, after_events, first_states, scheduled_starts, traces_of};
+ghost use Rattle.crq_sim.specs.Kinds.{kind_of};
+ghost use Rattle.crq_sim.specs.Runs.{simulation_at, first_states, scheduled_starts, traces_of};
 ghost use Rattle.crq_sim.specs.Shown.{Shows, IsNext, Advances, with_step};
 ghost use Rattle.crq_sim.specs.declared.model.Object.{Object};
 ghost use Rattle.crq_sim.specs.declared.run.Run.{Run};
 ghost use Rattle.crq_sim.specs.declared.traces.ObjectTrace.{ObjectTrace};
 ghost use Rattle.crq_sim.specs.declared.traces.Step.{Step};
 
-use crate::model::{Behaviour, BehaviourName, Model, Object, Start};
+use crate::model::{MOST_STARTS, Model, Object, Start};
 use crate::pending::Pending;
 use crate::reaction::{ObjectState, react};
 use crate::sequence::Sequence;
 use crate::traces::{ObjectTrace, Step, Traces};
 use crq_base::Event;
 use std::alloc::{AllocError, Global};
+
+/// How many events a run has at most.
+pub const MOST_EVENTS: u32 = 4_194_304;
 
 /// A serial run after `made` events.
 #[derive(Drop)]
@@ -27,21 +31,6 @@ pub struct Run {
     pub pending: Pending,
     /// The steps of all objects, in the order in which they were made.
     pub log: Vec<Step>,
-}
-
-impl Behaviour {
-    /// The behaviour without its numbers.
-    pub fn kind(&self) -> BehaviourName
-        ensures { result ≡ kind_of self.now }
-    {
-        match self {
-            Behaviour::Relay { .. } => BehaviourName::Relay,
-            Behaviour::Phold { .. } => BehaviourName::Phold,
-            Behaviour::Station { .. } => BehaviourName::Station,
-            Behaviour::Fan { .. } => BehaviourName::Fan,
-            Behaviour::Sink => BehaviourName::Sink,
-        }
-    }
 }
 
 /// The states of the objects before the first event.
@@ -79,7 +68,7 @@ fn traces_without_steps(alloc: Global, objects: &[Object]) -> Result<Vec<ObjectT
 
 /// The starts up to the end as pending events.
 fn pending_of(alloc: Global, until: u32, starts: &[Start]) -> Result<Pending, AllocError>
-    requires { length starts.now < 65536 }
+    requires { length starts.now ≤ MOST_STARTS }
     ensures { IfOk result (λ p. p ≡ with_events (scheduled_starts until 0 starts.now) []) }
 {
     let mut pending = Pending::new(alloc);
@@ -139,7 +128,7 @@ impl Run {
     /// Runs the least pending event and answers its time, or answers None where nothing is pending.
     pub fn step(&mut self, model: &Model) -> Result<Option<u32>, AllocError>
         requires shows { Shows model.now self.old }
-        requires few { self.old.made < 4194304 }
+        requires few { self.old.made < MOST_EVENTS }
         ensures { IfOk result (λ time. Advances model.now self.old self.new time) }
     {
         let Some(event) = self.pending.pop_first() else {
@@ -160,7 +149,7 @@ impl Run {
     /// The traces of the steps that were made.
     pub fn into_traces(self, alloc: Global, model: &Model) -> Result<Traces, AllocError>
         requires { Shows model.now self }
-        ensures { IfOk result (λ t. t ≡ traces_of model.now.objects (after_events model.now self.made).log) }
+        ensures { IfOk result (λ t. t ≡ traces_of model.now.objects (simulation_at model.now self.made).log) }
     {
         model.is_model();
         gathered(alloc, model.objects(), self.log.as_slice())
@@ -169,7 +158,7 @@ impl Run {
     /// Runs an event that was taken from the pending ones.
     fn run(&mut self, model: &Model, event: Event) -> Result<(), AllocError>
         requires next { IsNext model.now self.old event }
-        requires few { self.old.made < 4194304 }
+        requires few { self.old.made < MOST_EVENTS }
         ensures { OnOk result (Shows model.now self.new × (self.new.made ≡ self.old.made + 1)) }
     {
         model.is_model();

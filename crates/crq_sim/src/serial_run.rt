@@ -5,11 +5,11 @@ ghost use Rattle.crq_base.specs.declared.event.Event.{Event};
 ghost use Rattle.crq_sim.specs.Ends.{IsEndOf};
 ghost use Rattle.crq_sim.specs.EventLists.{IsFirst};
 ghost use Rattle.crq_sim.specs.Models.{IsModel};
-ghost use Rattle.crq_sim.specs.Runs.{after_events, IsOverWithin, traces_within};
-ghost use Rattle.crq_sim.specs.Windows.{Tracks};
+ghost use Rattle.crq_sim.specs.Runs.{simulation_at, IsOverWithin, traces_within};
+ghost use Rattle.crq_sim.specs.Shown.{Tracks};
 
 use crate::model::Model;
-use crate::run::Run;
+use crate::run::{MOST_EVENTS, Run};
 use crate::sequence::Sequence;
 use crate::traces::Traces;
 use std::alloc::{AllocError, Global};
@@ -62,8 +62,8 @@ impl Window {
     /// Passes the next event, which has this time.
     fn pass(&mut self, model: &Model, time: u32)
         requires tracks { Tracks model.now self.old.events self.old.number self.old.edge }
-        requires next { (e : Event) × IsFirst e (after_events model.now self.old.events).pending × (e.time ≡ time) }
-        requires few { self.old.events ≤ 4194304 }
+        requires next { (e : Event) × IsFirst e (simulation_at model.now self.old.events).pending × (e.time ≡ time) }
+        requires few { self.old.events ≤ MOST_EVENTS }
         ensures tracks { Tracks model.now self.new.events self.new.number self.new.edge }
         ensures passed { self.new.events ≡ self.old.events + 1 }
     {
@@ -80,7 +80,7 @@ impl Window {
 ///
 /// Answers `SimEnd::Events` exactly where the run has more than `cap` events.
 pub fn serial(alloc: Global, model: &Model, cap: u32) -> Result<Traces, SimEnd>
-    requires { cap ≤ 4194304 }
+    requires { cap ≤ MOST_EVENTS }
     ensures traces { IfOk result (λ t. IsOverWithin model.now cap × (t ≡ traces_within model.now cap)) }
     ensures ends { IfErr result (λ e. IsEndOf model.now cap e) }
 {

@@ -98,7 +98,7 @@ fn one(
 ) -> Result<Model, Memory>
     requires ahead { 0 < lookahead }
     requires behaviour { IsBehaviour lookahead 1 behaviour }
-    requires few { vec_len starts < 65536 }
+    requires few { vec_len starts ≤ MOST_STARTS }
     requires started { AllByRecursion (λ (s : Start). IsObject 1 s.object) starts.items }
     ensures objects { IfOk result (λ m. m.objects ≡ record { name = codes "p"; behaviour = behaviour } ∷ []) }
     ensures until { IfOk result (λ m. m.until ≡ until) }
@@ -120,7 +120,7 @@ fn three(
     requires ahead { 0 < lookahead }
     requires a { IsBehaviour lookahead 3 a }
     requires b { IsBehaviour lookahead 3 b }
-    requires few { vec_len starts < 65536 }
+    requires few { vec_len starts ≤ MOST_STARTS }
     requires started { AllByRecursion (λ (s : Start). IsObject 3 s.object) starts.items }
 {
     let objects = three_objects(alloc, a, b)?;

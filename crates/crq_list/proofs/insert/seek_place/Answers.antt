@@ -8,5 +8,5 @@ use Rattle.crq_list.proofs.Stretching.{seek_told}
 use Rattle.crq_list.proofs.insert.seek_place.Goals as goal
 
 pub returns : goal.returns
-returns c n x i = let op = c.args.op.now in let told = seek_told n c.args.table.now x op c.args.seek c.step-sought.new.self c.args.pass.now c.step-sought.new.pass c.step-sought.result c.requires.of i (c.step-sought.ensures n x i.at.0) in
-    subst (λ (z : Inserting × Progress InsertEnd). InsertStepped n c.args.table.now x (record op { state = Seeking c.args.seek }) (record op { state = z.0 }) c.args.pass.now c.step-sought.new.pass z.1) (sym c.after_seek.ensures) told
+returns c n x i = let op = c.args.op.now in let told = seek_told n c.args.table.now x op c.args.seek c.step-walked.new.self c.args.pass.now c.step-walked.new.pass c.step-walked.result c.requires.of i (c.step-walked.ensures n x i.at.0) in
+    subst (λ (z : Inserting × Progress InsertEnd). InsertStepped n c.args.table.now x (record op { state = Seeking c.args.seek }) (record op { state = z.0 }) c.args.pass.now c.step-walked.new.pass z.1) (sym c.after_seek.ensures) told

@@ -14,4 +14,4 @@ after_row-requires-clause-looked c = let r = c.look.ensures in let t = c.args.ta
     subst (LookedSince t.start.layout c.args.epoch (c.args.row + 1)) (sym r.1.part) (since_more t.start.layout c.args.epoch c.args.row r.0 p (λ ripe. false≢true (sym c.if-look.false ∙ r.2.1 ripe)) (c.requires.op.2 (sym (ap (λ (q : Caller). q.hand) r.1.part) ∙ none)))
 
 pub returns : goal.returns
-returns c = let r = c.look.ensures in recover_unripe c.args.table.now c.args.pass.now _ c.args.epoch c.args.row r.0 _ _ r.1 c.after_row.ensures
+returns c = let r = c.look.ensures in recover_unripe c.args.table.now c.args.pass.now _ c.args.epoch c.args.row r.0 _ _ r.1 (λ ripe. false≢true (sym c.if-look.false ∙ r.2.1 ripe)) c.after_row.ensures

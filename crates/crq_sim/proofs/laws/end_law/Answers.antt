@@ -1,4 +1,4 @@
-use Rattle.crq_sim.proofs.RunLemmas.{kept}
+use Rattle.crq_sim.proofs.AfterLemmas.{kept}
 use Rattle.crq_sim.proofs.laws.end_law.Goals as goal
 
 pub returns : goal.returns

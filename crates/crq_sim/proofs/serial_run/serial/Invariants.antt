@@ -1,6 +1,5 @@
 use Rattle.std.proofs.Common.{◌≡◌}
-use Rattle.crq_sim.specs.Shown.{Shows}
-use Rattle.crq_sim.specs.Windows.{Tracks}
+use Rattle.crq_sim.specs.Shown.{Shows, Tracks}
 use Rattle.crq_sim.proofs.serial_run.serial.Given as goal
 
 abbrev pub invariant-loop-event : goal.invariant-loop-event

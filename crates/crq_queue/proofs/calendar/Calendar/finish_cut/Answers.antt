@@ -10,9 +10,9 @@ cut_within-requires-clause-op c = let d = c.in-Some.debt in (0, c.args.control.n
 pub returns-in_err-cut_within : goal.returns-in_err-cut_within
 returns-in_err-cut_within c = λ n may. let d = c.in-Some.debt in let x = c.args.control.now in
     let start = may_cut c.requires.of c.requires.inside c.new.result c.list_of-list.result d.event d.row may.counted c.list_of-list.ensures c.new.ensures in
-    let p = err_from_is_err_and c.from_residual.result c.from_residual.ensures.1 in rw (p.1) (cut_unfinished d (c.in_err-cut_within.ensures n x start) c.in-Some.is (ap (λ (o : CutOp). o.upto) c.new.ensures))
+    let p = err_from_is_err_and c.from_residual.result c.from_residual.ensures.1 in rw (p.1) (cut_unfinished d (c.in_err-cut_within.ensures n x start) c.in-Some.is (ap (λ (o : CutOp). o.sought.target) c.new.ensures))
 
 pub returns : goal.returns
 returns c = λ n may. let d = c.in-Some.debt in let x = c.args.control.now in
     let start = may_cut c.requires.of c.requires.inside c.new.result c.list_of-list.result d.event d.row may.counted c.list_of-list.ensures c.new.ensures in
-    cut_finished d (c.in_ok-cut_within.ensures n x start) c.in-Some.is (ap (λ (o : CutOp). o.upto) c.new.ensures) (ap (λ (o : CutOp). o.list.head) c.new.ensures ∙ c.list_of-list.ensures.1)
+    cut_finished d (c.in_ok-cut_within.ensures n x start) c.in-Some.is (ap (λ (o : CutOp). o.sought.target) c.new.ensures) (ap (λ (o : CutOp). o.sought.list.head) c.new.ensures ∙ c.list_of-list.ensures.1)
