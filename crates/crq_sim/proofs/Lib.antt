@@ -2,6 +2,7 @@ pub mod AfterLemmas
 pub mod EventListLemmas
 pub mod GeneratedLemmas
 pub mod HeapLemmas
+pub mod KeyLemmas
 pub mod Members
 pub mod NextWindow
 pub mod OrderLemmas
@@ -13,5 +14,6 @@ pub mod StartLemmas
 pub mod TestModels
 pub mod TraceLemmas
 pub mod WindowCounts
+pub mod WindowFacts
 pub mod WindowLemmas
 pub mod WindowRunLemmas

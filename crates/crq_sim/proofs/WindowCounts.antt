@@ -66,7 +66,7 @@ one_window m w (suc k) (suc k') n h g =
     ]
 
 -- an event list has a first event or none
-first_or_none : (es : List Event) → (es ≡ []) ⊎ ((e : Event) × IsFirst e es)
+pub first_or_none : (es : List Event) → (es ≡ []) ⊎ ((e : Event) × IsFirst e es)
 first_or_none [] = inl refl
 first_or_none (e ∷ es) = inr (e, refl)
 
