@@ -8,7 +8,7 @@ use Rattle.crq_sim.specs.declared.model.Start.{Start}
 use Rattle.crq_sim.specs.declared.reaction.ObjectState.{ObjectState}
 use Rattle.crq_sim.specs.declared.sends.Post.{Post}
 use Rattle.crq_sim.specs.declared.traces.Step.{Step}
-use Rattle.crq_sim.specs.EventLists.{IsFirst, HaveOneKey, HaveKeysApart}
+use Rattle.crq_sim.specs.EventLists.{IsHead, HaveOneKey, HaveKeysApart}
 use Rattle.crq_sim.specs.Models.{ModelData, IsModel}
 use Rattle.crq_sim.specs.Reactions.{action_of, behaviour_at, scheduled, reaction_of, sends_of, state_after}
 use Rattle.crq_sim.specs.Runs.{Simulation, state_of, run_first, run_next, after_events, first_sends, events_sent, scheduled_starts, beginning}
@@ -20,11 +20,11 @@ use Rattle.crq_sim.proofs.ScheduleLemmas.{event_of, scheduled_due, scheduled_pas
 use Rattle.crq_sim.proofs.Sound.{IsSend, sends_known, after_sent, more_sent, next_here, simulation_step, begins}
 
 -- what holds of all holds of the first
-first_all : (P : Event → Type 0) (es : List Event) (e : Event) → IsFirst e es → AllByRecursion P es → P e
+first_all : (P : Event → Type 0) (es : List Event) (e : Event) → IsHead e es → AllByRecursion P es → P e
 first_all P [] e first all = absurd first
 first_all P (x ∷ xs) e first all = subst P (sym first) all.0
 
-pub sent_late : (m : ModelData) (w : Simulation) (e x : Event) → IsModel m → IsSimulation m w → IsFirst e w.pending → Contains (sends_of m e.dst (state_of w.states e.dst) e) x
+pub sent_late : (m : ModelData) (w : Simulation) (e x : Event) → IsModel m → IsSimulation m w → IsHead e w.pending → Contains (sends_of m e.dst (state_of w.states e.dst) e) x
     → (e.time + m.lookahead ≤ x.time) × (x.time ≤ m.until)
 sent_late m w e x is known first at =
     let due : IsDue m w.states e = first_all (IsDue m w.states) w.pending e first known.events in
@@ -33,13 +33,13 @@ sent_late m w e x is known first at =
     (send.later, send.time)
 
 first_sender : (m : ModelData) (states : List ObjectState) (pending : List Event) (x : Event) → Contains (first_sends m states pending) x
-    → (e : Event) × IsFirst e pending × Contains (sends_of m e.dst (state_of states e.dst) e) x
+    → (e : Event) × IsHead e pending × Contains (sends_of m e.dst (state_of states e.dst) e) x
 first_sender m states [] x at = absurd (none_in x at)
 first_sender m states (e ∷ es) x at = (e, refl, at)
 
 -- each event that is sent is sent at an event of the run
 pub some_sender : (m : ModelData) (w : Simulation) (n : ℕ) (x : Event) → Contains (events_sent m w n) x
-    → (k : ℕ) × (e : Event) × (k < n) × IsFirst e (after_events m w k).pending × Contains (sends_of m e.dst (state_of (after_events m w k).states e.dst) e) x
+    → (k : ℕ) × (e : Event) × (k < n) × IsHead e (after_events m w k).pending × Contains (sends_of m e.dst (state_of (after_events m w k).states e.dst) e) x
 unfolding after_events events_sent
 some_sender m w zero x at = absurd (none_in x at)
 some_sender m w (suc n) x at =

@@ -1,5 +1,6 @@
 pub mod AfterLemmas
 pub mod EventListLemmas
+pub mod ExampleWindows
 pub mod GeneratedLemmas
 pub mod HeapLemmas
 pub mod KeyLemmas

@@ -13,7 +13,7 @@ use Rattle.crq_sim.specs.Models.{ModelData, IsModel}
 use Rattle.crq_sim.specs.Reactions.{sends_of}
 use Rattle.crq_sim.specs.Runs.{Simulation, state_of, run_first, run_next, after_events, first_event, first_sends, events_run, events_sent, beginning}
 use Rattle.crq_sim.specs.Simulations.{IsSimulation}
-use Rattle.crq_sim.specs.Windows.{IsNextBelow, edge_of, AreBelowEdge, EndsWindow, IsWindowEnd, IsInWindow, WindowData, window_of, IsWindow, IsPeak, Stop, Events, Rows, HasMoreEvents, HasFewRows, IsStop}
+use Rattle.crq_sim.specs.Windows.{IsNextBelow, edge_of, AreBelowEdge, EndsWindow, IsWindowEnd, IsInWindow, IsLastWindow, WindowData, window_of, IsWindow, IsPeak, Stop, Events, Rows, HasMoreEvents, HasFewRows, IsStop}
 use Rattle.crq_sim.proofs.AfterLemmas.{after_more}
 use Rattle.crq_sim.proofs.NextWindow.{next_window}
 use Rattle.crq_sim.proofs.Sound.{begins, goes_on, nothing_withdrawn}
@@ -197,6 +197,16 @@ none_later m w j k n n' end none lt later =
     let same : next.1.0 ≡ n = one_end m w k next.1.0 n next.1.2 end in
     let ends : EndsWindow m (after_events m w n) next.1.1 = subst (λ (i : ℕ). EndsWindow m (after_events m w i) next.1.1) same next.1.3 in
     below_some m (after_events m w n) next.1.1 ends.0 ends.1 none
+
+pub one_last : (m : ModelData) (w : Simulation) (k j : ℕ) → IsLastWindow m w k → IsLastWindow m w j → k ≡ j
+one_last m w k j h g =
+    elim (cases_eq k j) [
+      | inl same ↦ same
+      | inr apart ↦ elim (cases_lt k j) [
+        | inl lt ↦ absurd (none_later m w j k h.0 g.0 h.1 h.2 lt g.1)
+        | inr le ↦ absurd (none_later m w k j g.0 h.0 g.1 g.2 (omega arith) h.1)
+      ]
+    ]
 
 pub never_stops : (m : ModelData) (w : Simulation) (cap rows k n : ℕ) → IsWindowEnd m w k n → (after_events m w n).pending ≡ [] → n ≤ cap → ((j : ℕ) (p : ℕ) → j ≤ k → HasFewRows m w rows j p → ⊥)
     → (s : Stop) → IsStop m w cap rows s → ⊥
