@@ -1,7 +1,8 @@
 -- What an ending says in words, for a person.
 use Rattle.std.specs.Prelude.{ℕ, List, [], ◌++◌, Option, Some, None, map, string_bytes, slice_index_or, codes, if◌then◌else◌, nat_eq}
 use Rattle.std.specs.Fmt.{decimal}
-use Rattle.crq_reader.specs.Wording.{model_fault_words}
+use Rattle.std.specs.List.{flat_map}
+use Rattle.crq_reader.specs.Wording.{byte_shown, model_fault_words}
 use Rattle.crq_top.specs.Commands.{range_of}
 use Rattle.crq_top.specs.declared.ending.Ending.{Ending}
 use Rattle.crq_top.specs.declared.ending.Ending.TheVariants.{Ok, Usage, Model as NoModel, Memory, Read, Write, Long, Events as MoreEvents}
@@ -20,6 +21,10 @@ parameter_name Seed = codes "SEED"
 parameter_name Objects = codes "OBJECTS"
 parameter_name Population = codes "POPULATION"
 
+-- a word of the command line as it may be printed
+abbrev pub shown : List ℕ → List ℕ
+shown word = flat_map byte_shown word
+
 -- the forms of the commands
 abbrev pub the_commands : List ℕ
 the_commands = codes "the commands are: run MODEL WORKERS ROWS EVENTS, check MODEL, serial MODEL EVENTS, gen SEED OBJECTS POPULATION"
@@ -32,10 +37,10 @@ range_words (Some r) = if nat_eq r.0 r.1 then decimal r.0 else decimal r.0 ++ (c
 -- the first thing that is wrong with the words of the command line
 abbrev pub misfit_words : Misfit → List ℕ
 misfit_words NoCommand = codes "there is no command; " ++ the_commands
-misfit_words (Unknown word) = codes "no command \"" ++ (word.now ++ (codes "\"; " ++ the_commands))
+misfit_words (Unknown word) = codes "no command \"" ++ (shown word.now ++ (codes "\"; " ++ the_commands))
 misfit_words (Missing parameter) = parameter_name parameter ++ (codes " is missing; it has to be " ++ range_words (range_of parameter))
-misfit_words (Unfit parameter word) = parameter_name parameter ++ (codes " is " ++ (word.now ++ (codes "; it has to be " ++ range_words (range_of parameter))))
-misfit_words (Extra word) = codes "\"" ++ (word.now ++ codes "\" is one word too many")
+misfit_words (Unfit parameter word) = parameter_name parameter ++ (codes " is " ++ (shown word.now ++ (codes "; it has to be " ++ range_words (range_of parameter))))
+misfit_words (Extra word) = codes "\"" ++ (shown word.now ++ codes "\" is one word too many")
 
 -- words that fit, asked of the other call
 abbrev pub usage_words : Option Misfit → List ℕ
@@ -44,7 +49,7 @@ usage_words (Some misfit) = misfit_words misfit
 
 -- what is said of the model with this name
 abbrev pub of_model : List ℕ → List ℕ → List ℕ
-of_model name said = name ++ (codes ": " ++ said)
+of_model name said = shown name ++ (codes ": " ++ said)
 
 abbrev pub ending_words : List ℕ → Option Misfit → Ending → List ℕ
 ending_words name misfit Ok = codes "done"

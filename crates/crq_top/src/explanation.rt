@@ -8,6 +8,7 @@ ghost use Rattle.crq_top.specs.Explained.{model_name};
 use crate::command::read;
 use crate::ending::Ending;
 use crate::forms::{Misfit, Parameter};
+use crq_reader::ShownBytes;
 use std::fmt::{self, Display, Formatter};
 
 /// What an ending means, in one line without its newline.
@@ -70,7 +71,10 @@ impl Display for Misfit<'_> {
     fn fmt<W: fmt::Write>(&self, f: &mut Formatter<W>) -> fmt::Result {
         match self {
             Misfit::NoCommand => write!(f, "there is no command; {COMMANDS}"),
-            Misfit::Unknown(word) => write!(f, "no command \"{word}\"; {COMMANDS}"),
+            Misfit::Unknown(word) => {
+                let word = ShownBytes(word.as_bytes());
+                write!(f, "no command \"{word}\"; {COMMANDS}")
+            }
             Misfit::Missing(parameter) => {
                 let name = parameter.name();
                 let range = Range { of: *parameter };
@@ -78,10 +82,14 @@ impl Display for Misfit<'_> {
             }
             Misfit::Unfit(parameter, word) => {
                 let name = parameter.name();
+                let word = ShownBytes(word.as_bytes());
                 let range = Range { of: *parameter };
                 write!(f, "{name} is {word}; it has to be {range}")
             }
-            Misfit::Extra(word) => write!(f, "\"{word}\" is one word too many"),
+            Misfit::Extra(word) => {
+                let word = ShownBytes(word.as_bytes());
+                write!(f, "\"{word}\" is one word too many")
+            }
         }
     }
 }
@@ -93,7 +101,7 @@ impl Display for Explanation<'_> {
     ghost output = { λ e. Some (explained e) };
 
     fn fmt<W: fmt::Write>(&self, f: &mut Formatter<W>) -> fmt::Result {
-        let model = self.model;
+        let model = ShownBytes(self.model.as_bytes());
         match self.ending {
             Ending::Ok => f.write_str("crq: done"),
             Ending::Usage => match &self.misfit {
