@@ -23,3 +23,4 @@ pub use member::Member;
 pub use read::read_model;
 pub use text::model_text;
 pub use word::Word;
+pub use wording::ShownBytes;

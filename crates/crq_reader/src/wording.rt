@@ -39,9 +39,10 @@ impl fmt::Display for ShownByte {
     }
 }
 
-/// Bytes of a word of the file.
+/// Bytes that came from outside, as they may be printed: a byte that isn't of printable ASCII, a quote or a backslash is shown
+/// as `\\x` and two hex digits, so that no control character reaches a terminal.
 #[derive(Clone, Copy)]
-struct ShownBytes<'a>(&'a [u8]);
+pub struct ShownBytes<'a>(pub &'a [u8]);
 
 impl fmt::Display for ShownBytes<'_> {
     ghost use Rattle.std.specs.Prelude.{Some};

@@ -2,7 +2,7 @@ use Rattle.std.proofs.Common.{◌≡◌, ◌<◌, ℕ, ◌∙◌, sym, Ok, Err, 
 use Rattle.std.specs.Fmt.{decimal}
 use Rattle.std.proofs.lemmas.Fmt.{parse-decimal}
 use Rattle.crq_top.proofs.Words.{bytes_same, bytes_differ}
-use Rattle.crq_top.proofs.command.plain.Goals as goal
+use Rattle.crq_top.proofs.forms.plain.Goals as goal
 
 pub returns-then-eq : goal.returns-then-eq
 returns-then-eq c = (
