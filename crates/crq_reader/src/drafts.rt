@@ -2,7 +2,7 @@
 
 ghost use Rattle.std.specs.Prelude.{◌≡◌, ◌<◌, ◌≤◌, [], ◌∷◌, ◌++◌, map, length, None, OnOk};
 ghost use Rattle.std.specs.List.{All};
-ghost use Rattle.crq_reader.specs.Drafts.{named_of, IsNamed};
+ghost use Rattle.crq_reader.specs.Drafts.{named_seen, IsNamed};
 ghost use Rattle.crq_reader.specs.Language as language;
 ghost use Rattle.crq_reader.specs.Language.{names_of};
 
@@ -21,14 +21,14 @@ pub struct Drafts<'v> {
 impl<'v> marker::Model for Drafts<'v> {
     ghost use Rattle.std.specs.Prelude.{◌≤◌, List, length, map};
     ghost use Rattle.std.specs.List.{All};
-    ghost use Rattle.crq_reader.specs.Drafts.{named_of, IsNamed, Finds};
+    ghost use Rattle.crq_reader.specs.Drafts.{named_seen, IsNamed, Finds};
     ghost use Rattle.crq_reader.specs.Language.{Named, names_of};
 
     ghost Value = { List Named };
 
-    ghost view = { λ d. map named_of d.objects.items };
+    ghost view = { λ d. map named_seen d.objects.items };
 
-    ghost invariant = { λ d. Finds d.numbers (names_of (map named_of d.objects.items)) × All IsNamed (map named_of d.objects.items) × (length d.objects.items ≤ 65535) };
+    ghost invariant = { λ d. Finds d.numbers (names_of (map named_seen d.objects.items)) × All IsNamed (map named_seen d.objects.items) × (length d.objects.items ≤ 65535) };
 }
 
 impl<'v> Drafts<'v> {
@@ -52,7 +52,7 @@ impl<'v> Drafts<'v> {
 
     /// The objects in order.
     pub fn as_slice(&self) -> &[Draft<'v>]
-        ensures value { map named_of result.now ≡ self.now }
+        ensures value { map named_seen result.now ≡ self.now }
         ensures named { All IsNamed self.now }
         ensures few { length result.now ≤ 65535 }
     {
@@ -69,9 +69,9 @@ impl<'v> Drafts<'v> {
     /// Adds an object at the end, where there is memory for it.
     pub fn push(&mut self, draft: Draft<'v>) -> Result<(), AllocError>
         requires few { length self.old < 65535 }
-        requires named { IsNamed (named_of draft) }
+        requires named { IsNamed (named_seen draft) }
         requires new { language.number_of (names_of self.old) draft.name.now ≡ None }
-        ensures { OnOk result (self.new ≡ self.old ++ named_of draft.entry ∷ []) }
+        ensures { OnOk result (self.new ≡ self.old ++ named_seen draft.entry ∷ []) }
     {
         let number = self.len() + 1;
         self.objects.reserve(1)?;
