@@ -98,7 +98,11 @@ fn fan<'v>(value: &'v Value, header: &Header<'_>) -> Result<DraftBehaviour<'v>, 
 }
 
 /// The behaviour of that kind.
-fn of_kind<'v>(value: &'v Value, header: &Header<'_>, kind: &'v str) -> Result<DraftBehaviour<'v>, Flaw<'v>>
+fn of_kind<'v>(
+    value: &'v Value,
+    header: &Header<'_>,
+    kind: &'v str,
+) -> Result<DraftBehaviour<'v>, Flaw<'v>>
     ensures { result_map_both sending_seen flaw_seen result ≡ language.of_kind (header_seen header.now) (view value.now) kind.now }
 {
     if kind == "relay" {

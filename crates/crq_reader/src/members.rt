@@ -59,9 +59,7 @@ pub fn text<'v>(value: &'v Value, member: Member) -> Result<&'v str, Flaw<'v>>
     ensures { result_map_both (λ t. t.now) flaw_seen result ≡ language.text member (view value.now) }
 {
     let value = found(value, member)?;
-    value
-        .as_str()
-        .ok_or(Flaw::Member(Fault::WrongKind, member))
+    value.as_str().ok_or(Flaw::Member(Fault::WrongKind, member))
 }
 
 /// The member as the elements of an array.

@@ -34,10 +34,7 @@ fn draft<'v>(
 }
 
 /// All objects, or the first fault in them.
-pub fn read_objects<'v>(
-    alloc: Global,
-    header: &Header<'v>,
-) -> Result<Drafts<'v>, ModelFault>
+pub fn read_objects<'v>(alloc: Global, header: &Header<'v>) -> Result<Drafts<'v>, ModelFault>
     requires { length header.now.objects.now ≤ 65535 }
     ensures ok { IfOk result (λ d. named_objects (header_seen header.now) ≡ Ok d) }
     ensures err { IfErr result (λ e. IsFault e (named_objects (header_seen header.now))) }

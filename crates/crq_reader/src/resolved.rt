@@ -32,11 +32,7 @@ fn number<'v>(drafts: &Drafts<'_>, member: Member, name: &'v str) -> Result<u32,
 }
 
 /// The numbers of a fan's targets.
-fn numbers<'v>(
-    alloc: Global,
-    drafts: &Drafts<'_>,
-    names: &'v [Value],
-) -> Result<Vec<u32>, Flaw<'v>>
+fn numbers<'v>(alloc: Global, drafts: &Drafts<'_>, names: &'v [Value]) -> Result<Vec<u32>, Flaw<'v>>
     ensures ok { IfOk result (λ v. known_all (names_of drafts.now) (filter_map as_str (map view names.now)) ≡ Ok v.items) }
     ensures err { IfErr result (λ f. IsFlaw f (known_all (names_of drafts.now) (filter_map as_str (map view names.now)))) }
 {
@@ -58,11 +54,7 @@ fn numbers<'v>(
 }
 
 /// A fan's targets.
-fn targets<'v>(
-    alloc: Global,
-    drafts: &Drafts<'_>,
-    names: &'v [Value],
-) -> Result<Targets, Flaw<'v>>
+fn targets<'v>(alloc: Global, drafts: &Drafts<'_>, names: &'v [Value]) -> Result<Targets, Flaw<'v>>
     requires some { 0 < length (filter_map as_str (map view names.now)) }
     requires few { length (filter_map as_str (map view names.now)) ≤ 4 }
     ensures ok { IfOk result (λ ts. known_all (names_of drafts.now) (filter_map as_str (map view names.now)) ≡ Ok ts) }

@@ -34,7 +34,9 @@ fn start<'v>(drafts: &Drafts<'_>, value: &'v Value) -> Result<Start, Flaw<'v>>
     must_be_object(value)?;
     let time = tick(value, Member::Time)?;
     let name = text(value, Member::Object)?;
-    let object = drafts.number_of(name).ok_or(Flaw::NoObject(Member::Object, name))?;
+    let object = drafts
+        .number_of(name)
+        .ok_or(Flaw::NoObject(Member::Object, name))?;
     let load = load(value)?;
     Ok(Start { time, object, load })
 }
