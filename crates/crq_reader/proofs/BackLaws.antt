@@ -11,6 +11,7 @@ use Rattle.serde_json.specs.View.{items_of}
 use Rattle.crq_sim.specs.Names.{is_name}
 use Rattle.crq_sim.specs.Models.{ModelData, IsModel, AreApart, IsObject, IsBehaviour}
 use Rattle.crq_sim.specs.declared.model.Object.{Object}
+use Rattle.crq_sim.specs.declared.model.TheConstants.{MOST_OBJECTS, MOST_STARTS}
 use Rattle.crq_sim.specs.declared.model.Start.{Start}
 use Rattle.crq_sim.specs.declared.model.Behaviour.{Behaviour}
 use Rattle.crq_sim.specs.declared.model.Behaviour.TheVariants.{Relay, Phold, Station, Fan, Sink}
@@ -155,10 +156,10 @@ header_back m kept ticks =
       lt-ltb m.until (2 ^ 32) kept.within,
       elements_of_items (map (object_data (names_in m.objects)) m.objects),
       length-map m.objects (object_data (names_in m.objects)),
-      le-ltb 65535 (length m.objects) (omega (arith, kept.few_objects)),
+      le-ltb MOST_OBJECTS (length m.objects) (omega (arith, kept.few_objects)),
       elements_of_items (map (start_data (names_in m.objects)) m.starts),
       length-map m.starts (start_data (names_in m.objects)),
-      le-ltb 65535 (length m.starts) (omega (arith, kept.few_starts)),
+      le-ltb MOST_STARTS (length m.starts) (omega (arith, kept.few_starts)),
     )
 
 pub model_back : (m : ModelData) → IsModel m → m.lookahead < 2 ^ 32 → All (λ (o : Object). IsTicks o.behaviour) m.objects → All (λ (s : Start). s.time < 2 ^ 32) m.starts → model_of (model_data m) ≡ Ok m

@@ -7,17 +7,18 @@ use Rattle.std.specs.Ordering.{nat_cmp}
 use Rattle.std.specs.Cmp.Lexicographic.{slice_cmp}
 use Rattle.std.specs.BTreeMap.{BTreeMap, UpdatesBy}
 use Rattle.std.proofs.lemmas.List.Elements.{All-push}
+use Rattle.crq_sim.specs.declared.model.TheConstants.{MOST_OBJECTS}
 use Rattle.crq_reader.specs.Language.{Named, number_of, names_of}
 use Rattle.crq_reader.specs.Drafts.{named_seen, Finds, IsNamed}
 use Rattle.crq_reader.specs.declared.draft.Draft.{Draft}
 use Rattle.crq_reader.proofs.NumberLaws.{finds_push}
 
 pub pushed : (old new : BTreeMap (Bor (List ℕ)) ℕ) (items after : List Draft) (d : Draft) (n : ℕ)
-    → after ≡ items ++ d ∷ [] → n ≡ length items + 1 → length items < 65535
+    → after ≡ items ++ d ∷ [] → n ≡ length items + 1 → length items < MOST_OBJECTS
     → Finds old (names_of (map named_seen items)) → All IsNamed (map named_seen items)
     → IsNamed (named_seen d) → number_of (names_of (map named_seen items)) d.name.now ≡ None
     → UpdatesBy (λ x y. slice_cmp nat_cmp x.now y.now) (λ k. slice_cmp nat_cmp d.name.now k.now) old new (Some n)
-    → Finds new (names_of (map named_seen after)) × All IsNamed (map named_seen after) × (length after ≤ 65535)
+    → Finds new (names_of (map named_seen after)) × All IsNamed (map named_seen after) × (length after ≤ MOST_OBJECTS)
 pushed old new items after d n grown next few finds named named_too fresh updates =
     let seen : map named_seen after ≡ map named_seen items ++ named_seen d ∷ [] = ap (map named_seen) grown ∙ map-append named_seen items (d ∷ []) in
     let names : names_of (map named_seen after) ≡ names_of (map named_seen items) ++ d.name.now ∷ [] = ap names_of seen ∙ map-append (λ (o : _). o.name) (map named_seen items) (named_seen d ∷ []) in

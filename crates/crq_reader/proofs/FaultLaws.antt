@@ -3,7 +3,7 @@ use Rattle.std.proofs.Common.{◌≡◌, Result, Err, inl, inr, sym, ap, ◌∙�
 use Rattle.crq_reader.specs.Language as language
 use Rattle.crq_reader.specs.Language.{as_whole, no_memory}
 use Rattle.crq_reader.specs.Drafts.{flaw_seen, IsFlaw, IsToldAs, IsFault}
-use Rattle.crq_reader.specs.declared.fault.Fault.TheVariants.{Memory}
+use Rattle.crq_reader.specs.declared.fault.FaultNumber.TheVariants.{Memory}
 use Rattle.crq_reader.specs.declared.fault.ModelFault.{ModelFault}
 use Rattle.crq_reader.specs.declared.flaw.Flaw.{Flaw}
 

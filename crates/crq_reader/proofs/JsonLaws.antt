@@ -7,7 +7,7 @@ use Rattle.serde_json.specs.Read.{read}
 use Rattle.serde_json.specs.Data.{Data}
 use Rattle.crq_sim.specs.Models.{ModelData}
 use Rattle.crq_reader.specs.Language.{language, model_of, in_file, as_whole}
-use Rattle.crq_reader.specs.declared.fault.Fault.TheVariants.{NotJson}
+use Rattle.crq_reader.specs.declared.fault.FaultNumber.TheVariants.{NotJson}
 
 pub not_json : (text : List ℕ) → (IsUtf8 text → read text ≡ None) → language text ≡ Err (in_file (as_whole NotJson))
 unfolding language

@@ -3,6 +3,7 @@ pub mod NumberLaws
 pub mod DraftLaws
 pub mod EachLaws
 pub mod FaultLaws
+pub mod KindLaws
 pub mod ReadLaws
 pub mod ModelLaws
 pub mod JsonLaws

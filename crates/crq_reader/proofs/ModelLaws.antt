@@ -10,12 +10,13 @@ use Rattle.serde_json.specs.Data.{Data}
 use Rattle.crq_sim.specs.Names.{is_name}
 use Rattle.crq_sim.specs.Models.{ModelData, IsModel, AreApart, IsObject, IsBehaviour}
 use Rattle.crq_sim.specs.declared.model.Object.{Object}
+use Rattle.crq_sim.specs.declared.model.TheConstants.{MOST_OBJECTS, MOST_STARTS}
 use Rattle.crq_sim.specs.declared.model.Start.{Start}
 use Rattle.crq_sim.specs.declared.model.Behaviour.{Behaviour}
 use Rattle.crq_sim.specs.declared.model.Behaviour.TheVariants as behaviour
 use Rattle.crq_reader.specs.Language.{Header, at_member, no_object, told, in_file, must_be_object, format, lookahead, whole, tick, list, text, many, header, known, known_all, number_of, names_of, named_of, next_named, named_objects, behaviour_of, object_of, next_object, objects_of, start_of, next_start, load_of, starts_of, model_of, Sending, Named, relay, phold, station, fan, sink}
 use Rattle.crq_reader.specs.Drafts.{IsNamed}
-use Rattle.crq_reader.specs.declared.fault.Fault.TheVariants.{Range, Lookahead, TooMany}
+use Rattle.crq_reader.specs.declared.fault.FaultNumber.TheVariants.{Range, Lookahead, TooMany}
 use Rattle.crq_reader.specs.declared.member.Member.{Member}
 use Rattle.crq_reader.specs.declared.member.Member.TheVariants as members
 use Rattle.crq_reader.proofs.EachLaws.{and_then_ok, ok_if, err_if, told_ok, ok_or_ok, each_keeps, each_zip, length-each}
@@ -24,12 +25,12 @@ use Rattle.crq_reader.proofs.ReadLaws.{Sends, named_tells, length-known_all}
 
 -- ---- the file
 
-many_few : (key : Member) (d : Data) (ds : List Data) → many key d ≡ Ok ds → length ds ≤ 65535
-many_few key d ds e =
+many_few : (most : ℕ) (key : Member) (d : Data) (ds : List Data) → many most key d ≡ Ok ds → length ds ≤ most
+many_few most key d ds e =
     let made = and_then_ok (list key d) _ ds e in
-    let kept = err_if (nat_lt 65535 (length made.0)) (Ok made.0) ds (at_member TooMany key) made.2 in
+    let kept = err_if (nat_lt most (length made.0)) (Ok made.0) ds (at_member TooMany key) made.2 in
     let is : made.0 ≡ ds = cc in
-    omega (arith, ltb-false 65535 (length made.0) kept.0, ap length is)
+    omega (arith, ltb-false most (length made.0) kept.0, ap length is)
 
 lookahead_some : (d : Data) (n : ℕ) → lookahead d ≡ Ok n → 0 < n
 lookahead_some d n e =
@@ -48,8 +49,8 @@ tick_below key d n e =
 record IsHeader (h : Header) : Type 0 where
   ahead : 0 < h.lookahead
   within : h.until < 2 ^ 32
-  objects_few : length h.objects ≤ 65535
-  starts_few : length h.starts ≤ 65535
+  objects_few : length h.objects ≤ MOST_OBJECTS
+  starts_few : length h.starts ≤ MOST_STARTS
 
 header_tells : (d : Data) (h : Header) → header d ≡ Ok h → IsHeader h
 header_tells d h e =
@@ -57,11 +58,11 @@ header_tells d h e =
     let version = and_then_ok (format d) _ h thing.2 in
     let ahead = and_then_ok (lookahead d) _ h version.2 in
     let last = and_then_ok (tick members.Until d) _ h ahead.2 in
-    let objects = and_then_ok (many members.Objects d) _ h last.2 in
-    let starts = and_then_ok (many members.Starts d) _ h objects.2 in
+    let objects = and_then_ok (many MOST_OBJECTS members.Objects d) _ h last.2 in
+    let starts = and_then_ok (many MOST_STARTS members.Starts d) _ h objects.2 in
     let made : Header = record { format = version.0; lookahead = ahead.0; until = last.0; objects = objects.0; starts = starts.0 } in
     let is : made ≡ h = cc in
-    subst IsHeader is (record { ahead = lookahead_some d ahead.0 ahead.1; within = tick_below members.Until d last.0 last.1; objects_few = many_few members.Objects d objects.0 objects.1; starts_few = many_few members.Starts d starts.0 starts.1 })
+    subst IsHeader is (record { ahead = lookahead_some d ahead.0 ahead.1; within = tick_below members.Until d last.0 last.1; objects_few = many_few MOST_OBJECTS members.Objects d objects.0 objects.1; starts_few = many_few MOST_STARTS members.Starts d starts.0 starts.1 })
 
 -- ---- names that stand once
 

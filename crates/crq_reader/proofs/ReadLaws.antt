@@ -6,9 +6,11 @@ use Rattle.std.proofs.lemmas.Bool.{ltb-false, eqb-false, and_parts}
 use Rattle.serde_json.specs.Data.{Data}
 use Rattle.serde_json.specs.Find.{as_str}
 use Rattle.crq_sim.specs.Names.{is_name}
-use Rattle.crq_reader.specs.Language.{Header, at_member, no_name, name_twice, no_kind, whole, tick, delay, text, list, targets, relay_of, phold_of, station_of, fan_of, of_kind, sending_of, name, new_name, must_be_object, named_of, known, known_all, number_of, names_of, Sending, Named, relay, phold, station, fan, sink}
+use Rattle.crq_sim.specs.declared.model.BehaviourName.{BehaviourName}
+use Rattle.crq_sim.specs.declared.model.BehaviourName.TheVariants as kinds
+use Rattle.crq_reader.specs.Language.{Header, at_member, no_name, name_twice, whole, tick, delay, text, list, targets, relay_of, phold_of, station_of, fan_of, of_kind, kind, sending_of, name, new_name, must_be_object, named_of, known, known_all, number_of, names_of, Sending, Named, relay, phold, station, fan, sink}
 use Rattle.crq_reader.specs.Drafts.{IsSending, IsNamed}
-use Rattle.crq_reader.specs.declared.fault.Fault.TheVariants.{WrongKind, Range, Lookahead, TooMany}
+use Rattle.crq_reader.specs.declared.fault.FaultNumber.TheVariants.{WrongKind, Range, Lookahead, TooMany}
 use Rattle.crq_reader.specs.declared.member.Member.{Member}
 use Rattle.crq_reader.specs.declared.member.Member.TheVariants as members
 use Rattle.crq_reader.proofs.EachLaws.{and_then_ok, ok_if, err_if, length-each}
@@ -83,22 +85,20 @@ fan_sends h d s e =
     let is : fan n.0 ts.0 ≡ s = cc in
     subst (Sends h.lookahead) is (targets_few d ts.0 ts.1, delay_ahead h.lookahead members.Delay d n.0 n.1)
 
-sink_sends : (ahead : ℕ) (t : Bool) (kind : List ℕ) (s : Sending) → (cond t (Ok sink) (Err (no_kind kind))) ≡ Ok s → Sends ahead s
-sink_sends ahead t kind s e = subst (Sends ahead) (ok_if t sink s (no_kind kind) e).1 (tt, tt)
+sink_sends : (h : Header) (d : Data) (s : Sending) → of_kind h d kinds.Sink ≡ Ok s → Sends h.lookahead s
+sink_sends h d s e =
+    let is : sink ≡ s = cc in
+    subst (Sends h.lookahead) is (tt, tt)
 
-choice : {A F : Type 0} (P : A → Type 0) (t : Bool) (q r : Result A F) (a : A) → (q ≡ Ok a → P a) → (r ≡ Ok a → P a) → cond t q r ≡ Ok a → P a
-choice P true q r a f g e = f e
-choice P false q r a f g e = g e
-
-kind_sends : (h : Header) (d : Data) (kind : List ℕ) (s : Sending) → of_kind h d kind ≡ Ok s → Sends h.lookahead s
-kind_sends h d kind s =
-    choice (Sends h.lookahead) _ _ _ s (relay_sends h d s)
-    (choice (Sends h.lookahead) _ _ _ s (phold_sends h.lookahead d s)
-    (choice (Sends h.lookahead) _ _ _ s (station_sends h d s)
-    (choice (Sends h.lookahead) _ _ _ s (fan_sends h d s) (sink_sends h.lookahead _ kind s))))
+kind_sends : (h : Header) (d : Data) (kind : BehaviourName) (s : Sending) → of_kind h d kind ≡ Ok s → Sends h.lookahead s
+kind_sends h d kinds.Relay s = relay_sends h d s
+kind_sends h d kinds.Phold s = phold_sends h.lookahead d s
+kind_sends h d kinds.Station s = station_sends h d s
+kind_sends h d kinds.Fan s = fan_sends h d s
+kind_sends h d kinds.Sink s = sink_sends h d s
 
 pub sending_sends : (h : Header) (d : Data) (s : Sending) → sending_of h d ≡ Ok s → Sends h.lookahead s
-sending_sends h d s e = let kind = and_then_ok (text members.Kind d) (of_kind h d) s e in kind_sends h d kind.0 s kind.2
+sending_sends h d s e = let made = and_then_ok (kind d) (of_kind h d) s e in kind_sends h d made.0 s made.2
 
 -- ---- names looked up
 

@@ -10,7 +10,7 @@ use Rattle.serde_json.specs.View.{view}
 use Rattle.crq_reader.specs.Language as language
 use Rattle.crq_reader.specs.Language.{Sending, Named, number_of, names_of, as_whole, at_member, no_kind, no_name, name_twice, no_object, no_memory}
 use Rattle.crq_sim.specs.Names.{is_name}
-use Rattle.crq_reader.specs.declared.fault.Fault.TheVariants.{Memory}
+use Rattle.crq_reader.specs.declared.fault.FaultNumber.TheVariants.{Memory}
 use Rattle.crq_reader.specs.declared.fault.ModelFault.{ModelFault}
 use Rattle.crq_reader.specs.declared.flaw.Flaw.{Flaw}
 use Rattle.crq_reader.specs.declared.flaw.Flaw.TheVariants as flaws

@@ -1,18 +1,22 @@
 -- The model language: which model the value of a JSON text is, or the first thing that is wrong with it.
 use Rattle.std.specs.Prelude.{ℕ, ◌+◌, ◌^◌, List, [], ◌∷◌, ◌++◌, length, map, ◌==◌, nat_lt, if◌then◌else◌, Option, Some, None, is_some, ok_or, option_map, option_and_then, Result, Ok, Err, codes}
-use Rattle.std.specs.List.{filter_map, list_all, position_from}
+use Rattle.std.specs.List.{find, filter_map, list_all, position_from}
 use Rattle.std.specs.Str.{bytes_eq, is_utf8}
 use Rattle.serde_json.specs.Data.{Data, Items, no_items, item}
 use Rattle.serde_json.specs.Find.{get, as_object, as_array, as_number, as_str, as_u64}
 use Rattle.serde_json.specs.Read.{read}
 use Rattle.crq_sim.specs.Names.{is_name}
+use Rattle.crq_sim.specs.Kinds.{kind_word}
 use Rattle.crq_sim.specs.Models.{ModelData}
+use Rattle.crq_sim.specs.declared.model.TheConstants.{MOST_OBJECTS, MOST_STARTS}
 use Rattle.crq_sim.specs.declared.model.Object.{Object}
 use Rattle.crq_sim.specs.declared.model.Start.{Start}
 use Rattle.crq_sim.specs.declared.model.Behaviour.{Behaviour}
 use Rattle.crq_sim.specs.declared.model.Behaviour.TheVariants as behaviour
-use Rattle.crq_reader.specs.declared.fault.Fault.{Fault}
-use Rattle.crq_reader.specs.declared.fault.Fault.TheVariants.{NotJson, Memory, Missing, WrongKind, Range, UnknownName, Lookahead, TooMany}
+use Rattle.crq_sim.specs.declared.model.BehaviourName.{BehaviourName}
+use Rattle.crq_sim.specs.declared.model.BehaviourName.TheVariants as kinds
+use Rattle.crq_reader.specs.declared.fault.FaultNumber.{FaultNumber}
+use Rattle.crq_reader.specs.declared.fault.FaultNumber.TheVariants.{NotJson, Memory, Missing, WrongKind, Range, UnknownName, Lookahead, TooMany}
 use Rattle.crq_reader.specs.declared.fault.Place.TheVariants as place
 use Rattle.crq_reader.specs.declared.fault.Place.{Place}
 use Rattle.crq_reader.specs.declared.fault.Subject.{Subject}
@@ -34,7 +38,7 @@ each step done (x ∷ xs) = and_then (step done x) (λ y. each step (done ++ y �
 
 -- ---- faults
 
-abbrev pub fault_number : Fault → ℕ
+abbrev pub fault_number : FaultNumber → ℕ
 fault_number NotJson = 1
 fault_number Memory = 2
 fault_number Missing = 3
@@ -67,15 +71,15 @@ member_word members.Data = codes "data"
 -- ---- what is wrong with a part of the file: the number of the fault, and what it is about
 
 pub record Flaw : Type 0 where
-  pub number : Fault
+  pub number : FaultNumber
   pub subject : Subject
 
 -- the text, the object or the start as a whole
-abbrev pub as_whole : Fault → Flaw
+abbrev pub as_whole : FaultNumber → Flaw
 as_whole f = record { number = f; subject = about.Whole }
 
 -- one of its members
-abbrev pub at_member : Fault → Member → Flaw
+abbrev pub at_member : FaultNumber → Member → Flaw
 at_member f m = record { number = f; subject = about.Member m }
 
 -- a kind that there isn't
@@ -162,9 +166,9 @@ format d = and_then (whole members.Format d) (λ n. if n == 1 then Ok n else Err
 abbrev pub lookahead : Data → Result ℕ Flaw
 lookahead d = and_then (tick members.Lookahead d) (λ n. if n == 0 then Err (at_member Lookahead members.Lookahead) else Ok n)
 
--- at most 65,535
-abbrev pub many : Member → Data → Result (List Data) Flaw
-many m d = and_then (list m d) (λ ds. if nat_lt 65535 (length ds) then Err (at_member TooMany m) else Ok ds)
+-- at most so many elements
+abbrev pub many : ℕ → Member → Data → Result (List Data) Flaw
+many most m d = and_then (list m d) (λ ds. if nat_lt most (length ds) then Err (at_member TooMany m) else Ok ds)
 
 abbrev pub header : Data → Result Header Flaw
 header d =
@@ -172,8 +176,8 @@ header d =
     and_then (format d) (λ version.
     and_then (lookahead d) (λ ahead.
     and_then (tick members.Until d) (λ last.
-    and_then (many members.Objects d) (λ objects.
-    and_then (many members.Starts d) (λ starts.
+    and_then (many MOST_OBJECTS members.Objects d) (λ objects.
+    and_then (many MOST_STARTS members.Starts d) (λ starts.
     Ok (record { format = version; lookahead = ahead; until = last; objects = objects; starts = starts })))))))
 
 -- ---- the elements of `objects`, which name the objects that they send to
@@ -220,16 +224,22 @@ station_of h d = and_then (delay h.lookahead members.Service d) (λ n. and_then 
 abbrev pub fan_of : Header → Data → Result Sending Flaw
 fan_of h d = and_then (delay h.lookahead members.Delay d) (λ n. and_then (targets d) (λ ts. Ok (fan n ts)))
 
-abbrev pub of_kind : Header → Data → List ℕ → Result Sending Flaw
-of_kind h d kind =
-    if bytes_eq kind (codes "relay") then relay_of h d
-    else (if bytes_eq kind (codes "phold") then phold_of d
-    else (if bytes_eq kind (codes "station") then station_of h d
-    else (if bytes_eq kind (codes "fan") then fan_of h d
-    else (if bytes_eq kind (codes "sink") then Ok sink else Err (no_kind kind)))))
+abbrev pub of_kind : Header → Data → BehaviourName → Result Sending Flaw
+of_kind h d kinds.Relay = relay_of h d
+of_kind h d kinds.Phold = phold_of d
+of_kind h d kinds.Station = station_of h d
+of_kind h d kinds.Fan = fan_of h d
+of_kind h d kinds.Sink = Ok sink
+
+-- the kind that a word stands for
+abbrev pub kind_named : List ℕ → Option BehaviourName
+kind_named word = find (λ kind. bytes_eq word (kind_word kind)) (kinds.Relay ∷ kinds.Phold ∷ kinds.Station ∷ kinds.Fan ∷ kinds.Sink ∷ [])
+
+abbrev pub kind : Data → Result BehaviourName Flaw
+kind d = and_then (text members.Kind d) (λ word. ok_or (kind_named word) (no_kind word))
 
 abbrev pub sending_of : Header → Data → Result Sending Flaw
-sending_of h d = and_then (text members.Kind d) (of_kind h d)
+sending_of h d = and_then (kind d) (of_kind h d)
 
 abbrev pub names_of : List Named → List (List ℕ)
 names_of = map (λ (n : Named). n.name)

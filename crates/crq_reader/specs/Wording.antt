@@ -5,8 +5,8 @@ use Rattle.std.specs.List.{flat_map}
 use Rattle.crq_reader.specs.Language.{member_word}
 use Rattle.crq_reader.specs.declared.member.Member.{Member}
 use Rattle.crq_reader.specs.declared.member.Member.TheVariants as members
-use Rattle.crq_reader.specs.declared.fault.Fault.{Fault}
-use Rattle.crq_reader.specs.declared.fault.Fault.TheVariants.{NotJson, Memory, Missing, WrongKind, Range, UnknownName, Lookahead, TooMany}
+use Rattle.crq_reader.specs.declared.fault.FaultNumber.{FaultNumber}
+use Rattle.crq_reader.specs.declared.fault.FaultNumber.TheVariants.{NotJson, Memory, Missing, WrongKind, Range, UnknownName, Lookahead, TooMany}
 use Rattle.crq_reader.specs.declared.fault.Place.{Place}
 use Rattle.crq_reader.specs.declared.fault.Place.TheVariants.{File, Object, Start}
 use Rattle.crq_reader.specs.declared.fault.Subject.{Subject}
@@ -33,7 +33,7 @@ member_shown m = 34 ∷ (member_word m ++ 34 ∷ [])
 -- ---- what is wrong
 
 -- what may be wrong under each number
-abbrev pub fault_words : Fault → List ℕ
+abbrev pub fault_words : FaultNumber → List ℕ
 fault_words NotJson = codes "the text isn't JSON in UTF-8"
 fault_words Memory = codes "there is no memory to read the text"
 fault_words Missing = codes "a member is missing"
@@ -44,7 +44,7 @@ fault_words Lookahead = codes "the lookahead is 0, or a delay or service is belo
 fault_words TooMany = codes "there are more than 65535 objects or starts, or more than 4 targets"
 
 -- of the text, an object or a start as a whole
-abbrev pub whole_words : Fault → List ℕ
+abbrev pub whole_words : FaultNumber → List ℕ
 whole_words WrongKind = codes "it isn't a JSON object"
 whole_words f = fault_words f
 
@@ -72,7 +72,7 @@ abbrev pub many_words : Member → List ℕ
 many_words members.Targets = codes "has more than 4 elements"
 many_words m = codes "has more than 65535 elements"
 
-abbrev pub member_words : Fault → Member → List ℕ
+abbrev pub member_words : FaultNumber → Member → List ℕ
 member_words Missing m = member_shown m ++ codes " is missing"
 member_words WrongKind m = member_shown m ++ (codes " isn't " ++ form_words m)
 member_words Range m = member_shown m ++ (codes " " ++ range_words m)
@@ -81,7 +81,7 @@ member_words TooMany m = member_shown m ++ (codes " " ++ many_words m)
 -- the language tells no other fault of a member
 member_words f m = member_shown m ++ (codes ": " ++ fault_words f)
 
-abbrev pub said_words : Fault → Subject → List ℕ
+abbrev pub said_words : FaultNumber → Subject → List ℕ
 said_words f about.Whole = whole_words f
 said_words f (about.Member m) = member_words f m
 said_words f (about.NoKind w) = codes "no kind " ++ word_shown w

@@ -9,12 +9,12 @@ ghost use Rattle.serde_json.specs.View.{view};
 ghost use Rattle.crq_reader.specs.Drafts.{sending_seen, header_seen, flaw_seen};
 ghost use Rattle.crq_reader.specs.Language as language;
 
-use crate::fault::Fault;
+use crate::fault::FaultNumber;
 use crate::flaw::Flaw;
 use crate::header::Header;
 use crate::member::Member;
 use crate::members::{delay, list, text, tick, whole};
-use crq_sim::Name;
+use crq_sim::{BehaviourName, Name};
 use serde_json::Value;
 
 /// The most objects that a fan may send to.
@@ -50,13 +50,13 @@ fn targets<'v>(value: &'v Value) -> Result<&'v [Value], Flaw<'v>>
 {
     let values = list(value, Member::Targets)?;
     if values.is_empty() {
-        return Err(Flaw::Member(Fault::Range, Member::Targets));
+        return Err(Flaw::Member(FaultNumber::Range, Member::Targets));
     }
     if values.len() > MOST_TARGETS {
-        return Err(Flaw::Member(Fault::TooMany, Member::Targets));
+        return Err(Flaw::Member(FaultNumber::TooMany, Member::Targets));
     }
     if !are_texts(values) {
-        return Err(Flaw::Member(Fault::WrongKind, Member::Targets));
+        return Err(Flaw::Member(FaultNumber::WrongKind, Member::Targets));
     }
     Ok(values)
 }
@@ -101,30 +101,39 @@ fn fan<'v>(value: &'v Value, header: &Header<'_>) -> Result<DraftBehaviour<'v>, 
 fn of_kind<'v>(
     value: &'v Value,
     header: &Header<'_>,
-    kind: &'v str,
+    kind: BehaviourName,
 ) -> Result<DraftBehaviour<'v>, Flaw<'v>>
-    ensures { result_map_both sending_seen flaw_seen result ≡ language.of_kind (header_seen header.now) (view value.now) kind.now }
+    ensures { result_map_both sending_seen flaw_seen result ≡ language.of_kind (header_seen header.now) (view value.now) kind }
 {
-    if kind == "relay" {
-        relay(value, header)
-    } else if kind == "phold" {
-        phold(value)
-    } else if kind == "station" {
-        station(value, header)
-    } else if kind == "fan" {
-        fan(value, header)
-    } else if kind == "sink" {
-        Ok(DraftBehaviour::Sink)
-    } else {
-        Err(Flaw::NoKind(kind))
+    match kind {
+        BehaviourName::Relay => relay(value, header),
+        BehaviourName::Phold => phold(value),
+        BehaviourName::Station => station(value, header),
+        BehaviourName::Fan => fan(value, header),
+        BehaviourName::Sink => Ok(DraftBehaviour::Sink),
     }
+}
+
+/// The kind that a word stands for.
+fn kind_named(word: &str) -> Option<BehaviourName>
+    ensures { result ≡ language.kind_named word.now }
+{
+    BehaviourName::from_word(word)
+}
+
+/// The kind of the object.
+fn kind<'v>(value: &'v Value) -> Result<BehaviourName, Flaw<'v>>
+    ensures { result_map_both (λ k. k) flaw_seen result ≡ language.kind (view value.now) }
+{
+    let word = text(value, Member::Kind)?;
+    kind_named(word).ok_or(Flaw::NoKind(word))
 }
 
 /// What the object does, by its kind.
 pub fn behaviour<'v>(value: &'v Value, header: &Header<'_>) -> Result<DraftBehaviour<'v>, Flaw<'v>>
     ensures { result_map_both sending_seen flaw_seen result ≡ language.sending_of (header_seen header.now) (view value.now) }
 {
-    let kind = text(value, Member::Kind)?;
+    let kind = kind(value)?;
     of_kind(value, header, kind)
 }
 

@@ -7,11 +7,12 @@ ghost use Rattle.crq_reader.specs.Drafts.{flaw_seen, IsToldAs};
 use crate::flaw::Flaw;
 use crate::member::Member;
 use crate::word::Word;
+use crq_sim::{MOST_OBJECTS, MOST_STARTS};
 use std::alloc::Global;
 
 /// What is wrong with a text. The numbers are those that a caller prints.
 #[derive(Clone, Copy, Debug, PartialEq, Eq)]
-pub enum Fault {
+pub enum FaultNumber {
     /// 1: it isn't UTF-8, or isn't JSON.
     NotJson,
     /// 2: there was no memory to read it, which says nothing of the text.
@@ -30,20 +31,20 @@ pub enum Fault {
     TooMany,
 }
 
-impl Fault {
+impl FaultNumber {
     /// The number of the fault, 1 to 8.
     pub fn number(&self) -> u32
         ensures { result ≡ language.fault_number self.now }
     {
         match self {
-            Fault::NotJson => 1,
-            Fault::Memory => 2,
-            Fault::Missing => 3,
-            Fault::WrongKind => 4,
-            Fault::Range => 5,
-            Fault::UnknownName => 6,
-            Fault::Lookahead => 7,
-            Fault::TooMany => 8,
+            FaultNumber::NotJson => 1,
+            FaultNumber::Memory => 2,
+            FaultNumber::Missing => 3,
+            FaultNumber::WrongKind => 4,
+            FaultNumber::Range => 5,
+            FaultNumber::UnknownName => 6,
+            FaultNumber::Lookahead => 7,
+            FaultNumber::TooMany => 8,
         }
     }
 }
@@ -80,7 +81,7 @@ pub enum Subject {
 #[derive(Debug, Drop)]
 pub struct ModelFault {
     /// What is wrong.
-    pub number: Fault,
+    pub number: FaultNumber,
     /// Where it is.
     pub place: Place,
     /// The place as one number: 0 for the file, `k` for object `k`, and the number of objects plus `i` for start `i`.
@@ -90,7 +91,7 @@ pub struct ModelFault {
 }
 
 /// A fault of the text as a whole, which takes no memory.
-pub(crate) fn in_text(fault: Fault) -> ModelFault
+pub(crate) fn in_text(fault: FaultNumber) -> ModelFault
     ensures { result ≡ language.in_file (language.as_whole fault) }
 {
     ModelFault {
@@ -105,16 +106,16 @@ pub(crate) fn in_text(fault: Fault) -> ModelFault
 pub(crate) fn no_memory() -> ModelFault
     ensures { result ≡ language.no_memory }
 {
-    in_text(Fault::Memory)
+    in_text(FaultNumber::Memory)
 }
 
 /// The fault with this flaw at a place, or that there was no memory, which is at fault nowhere in the file.
 fn placed(alloc: Global, place: Place, at: u32, flaw: Flaw<'_>) -> ModelFault
     ensures told { IsToldAs result (language.placed place at (flaw_seen flaw.entry)) }
-    ensures memory { flaw_seen flaw.entry ≡ language.as_whole Fault.Memory → result ≡ language.no_memory }
+    ensures memory { flaw_seen flaw.entry ≡ language.as_whole FaultNumber.Memory → result ≡ language.no_memory }
 {
     let number = flaw.number();
-    if let Fault::Memory = number {
+    if let FaultNumber::Memory = number {
         return no_memory();
     }
     match flaw.subject(alloc) {
@@ -138,15 +139,15 @@ pub(crate) fn in_file(alloc: Global, flaw: Flaw<'_>) -> ModelFault
 /// A fault at object `k`.
 pub(crate) fn in_object(alloc: Global, k: u32, flaw: Flaw<'_>) -> ModelFault
     ensures told { IsToldAs result (language.in_object k (flaw_seen flaw.entry)) }
-    ensures memory { flaw_seen flaw.entry ≡ language.as_whole Fault.Memory → result ≡ language.no_memory }
+    ensures memory { flaw_seen flaw.entry ≡ language.as_whole FaultNumber.Memory → result ≡ language.no_memory }
 {
     placed(alloc, Place::Object(k), k, flaw)
 }
 
 /// A fault at start `i` of a file with so many objects.
 pub(crate) fn in_start(alloc: Global, objects: u32, i: u32, flaw: Flaw<'_>) -> ModelFault
-    requires objects { objects ≤ 65535 }
-    requires starts { i ≤ 65535 }
+    requires objects { objects ≤ MOST_OBJECTS }
+    requires starts { i ≤ MOST_STARTS }
     ensures { IsToldAs result (language.in_start objects i (flaw_seen flaw.entry)) }
 {
     placed(alloc, Place::Start(i), objects + i, flaw)

@@ -3,7 +3,7 @@
 ghost use Rattle.std.specs.Prelude.{◌≡◌, IfOk};
 ghost use Rattle.crq_reader.specs.Drafts.{flaw_seen};
 
-use crate::fault::{Fault, Subject};
+use crate::fault::{FaultNumber, Subject};
 use crate::member::Member;
 use crate::word::Word;
 use std::alloc::{AllocError, Global};
@@ -11,8 +11,8 @@ use std::alloc::{AllocError, Global};
 /// The number and the subject of a fault, with the words where the file has them.
 #[derive(Clone, Copy)]
 pub enum Flaw<'v> {
-    Whole(Fault),
-    Member(Fault, Member),
+    Whole(FaultNumber),
+    Member(FaultNumber, Member),
     NoKind(&'v str),
     NoName(&'v str),
     NameTwice(&'v str),
@@ -21,16 +21,16 @@ pub enum Flaw<'v> {
 
 impl Flaw<'_> {
     /// The number of the fault.
-    pub fn number(&self) -> Fault
+    pub fn number(&self) -> FaultNumber
         ensures { result ≡ (flaw_seen self.now).number }
     {
         match self {
             Flaw::Whole(fault) => *fault,
             Flaw::Member(fault, _) => *fault,
-            Flaw::NoName(_) => Fault::Range,
-            Flaw::NameTwice(_) => Fault::Range,
-            Flaw::NoKind(_) => Fault::UnknownName,
-            Flaw::NoObject(_, _) => Fault::UnknownName,
+            Flaw::NoName(_) => FaultNumber::Range,
+            Flaw::NameTwice(_) => FaultNumber::Range,
+            Flaw::NoKind(_) => FaultNumber::UnknownName,
+            Flaw::NoObject(_, _) => FaultNumber::UnknownName,
         }
     }
 

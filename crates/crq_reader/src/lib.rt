@@ -18,7 +18,7 @@ mod text;
 mod word;
 mod wording;
 
-pub use fault::{Fault, ModelFault, Place, Subject};
+pub use fault::{FaultNumber, ModelFault, Place, Subject};
 pub use member::Member;
 pub use read::read_model;
 pub use text::model_text;

@@ -6,7 +6,7 @@ ghost use Rattle.serde_json.specs.View.{view};
 ghost use Rattle.crq_reader.specs.Drafts.{flaw_seen};
 ghost use Rattle.crq_reader.specs.Language as language;
 
-use crate::fault::Fault;
+use crate::fault::FaultNumber;
 use crate::flaw::Flaw;
 use crate::member::Member;
 use serde_json::Value;
@@ -17,14 +17,16 @@ fn found<'v>(value: &'v Value, member: Member) -> Result<&'v Value, Flaw<'v>>
 {
     value
         .get(member.word())
-        .ok_or(Flaw::Member(Fault::Missing, member))
+        .ok_or(Flaw::Member(FaultNumber::Missing, member))
 }
 
 /// The value of a member as a number without sign, fraction or exponent.
 pub fn whole_of(value: &Value, member: Member) -> Result<u64, Flaw<'_>>
     ensures { result_map_both (λ n. n) flaw_seen result ≡ language.whole_of member (view value.now) }
 {
-    value.as_u64().ok_or(Flaw::Member(Fault::WrongKind, member))
+    value
+        .as_u64()
+        .ok_or(Flaw::Member(FaultNumber::WrongKind, member))
 }
 
 /// The member as a number without sign, fraction or exponent.
@@ -40,7 +42,7 @@ pub fn tick(value: &Value, member: Member) -> Result<u32, Flaw<'_>>
     ensures { result_map_both (λ n. n) flaw_seen result ≡ language.tick member (view value.now) }
 {
     let ticks = whole(value, member)?;
-    u32::try_from(ticks).map_err(|_| Flaw::Member(Fault::Range, member))
+    u32::try_from(ticks).map_err(|_| Flaw::Member(FaultNumber::Range, member))
 }
 
 /// The member as a delay that the lookahead allows.
@@ -49,7 +51,7 @@ pub fn delay(value: &Value, member: Member, lookahead: u32) -> Result<u32, Flaw<
 {
     let ticks = tick(value, member)?;
     if ticks < lookahead {
-        return Err(Flaw::Member(Fault::Lookahead, member));
+        return Err(Flaw::Member(FaultNumber::Lookahead, member));
     }
     Ok(ticks)
 }
@@ -59,7 +61,9 @@ pub fn text<'v>(value: &'v Value, member: Member) -> Result<&'v str, Flaw<'v>>
     ensures { result_map_both (λ t. t.now) flaw_seen result ≡ language.text member (view value.now) }
 {
     let value = found(value, member)?;
-    value.as_str().ok_or(Flaw::Member(Fault::WrongKind, member))
+    value
+        .as_str()
+        .ok_or(Flaw::Member(FaultNumber::WrongKind, member))
 }
 
 /// The member as the elements of an array.
@@ -69,7 +73,7 @@ pub fn list<'v>(value: &'v Value, member: Member) -> Result<&'v [Value], Flaw<'v
     let value = found(value, member)?;
     let values = value
         .as_array()
-        .ok_or(Flaw::Member(Fault::WrongKind, member))?;
+        .ok_or(Flaw::Member(FaultNumber::WrongKind, member))?;
     Ok(values.as_slice())
 }
 
@@ -80,6 +84,6 @@ pub fn must_be_object(value: &Value) -> Result<(), Flaw<'_>>
     if value.is_object() {
         Ok(())
     } else {
-        Err(Flaw::Whole(Fault::WrongKind))
+        Err(Flaw::Whole(FaultNumber::WrongKind))
     }
 }

@@ -13,6 +13,7 @@ use crate::fault::{ModelFault, in_object, no_memory};
 use crate::flaw::Flaw;
 use crate::header::Header;
 use crate::members::must_be_object;
+use crq_sim::MOST_OBJECTS;
 use serde_json::Value;
 use std::alloc::Global;
 
@@ -35,7 +36,7 @@ fn draft<'v>(
 
 /// All objects, or the first fault in them.
 pub fn read_objects<'v>(alloc: Global, header: &Header<'v>) -> Result<Drafts<'v>, ModelFault>
-    requires { length header.now.objects.now ≤ 65535 }
+    requires { length header.now.objects.now ≤ MOST_OBJECTS }
     ensures ok { IfOk result (λ d. named_objects (header_seen header.now) ≡ Ok d) }
     ensures err { IfErr result (λ e. IsFault e (named_objects (header_seen header.now))) }
 {

@@ -5,7 +5,7 @@ ghost use Rattle.serde_json.specs.View.{view};
 ghost use Rattle.crq_reader.specs.Drafts.{IsFault};
 ghost use Rattle.crq_reader.specs.Language as language;
 
-use crate::fault::{Fault, ModelFault, in_file, in_text, no_memory};
+use crate::fault::{FaultNumber, ModelFault, in_file, in_text, no_memory};
 use crate::header::read_header;
 use crate::objects::read_objects;
 use crate::resolved::resolve_objects;
@@ -25,7 +25,7 @@ fn json(alloc: Global, text: &[u8]) -> Result<Value, ModelFault>
             if error.is_memory() {
                 Err(no_memory())
             } else {
-                Err(in_text(Fault::NotJson))
+                Err(in_text(FaultNumber::NotJson))
             }
         }
     }

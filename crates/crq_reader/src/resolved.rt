@@ -10,7 +10,7 @@ ghost use Rattle.crq_reader.specs.Language.{as_whole, names_of, known, known_all
 
 use crate::draft::{Draft, DraftBehaviour};
 use crate::drafts::Drafts;
-use crate::fault::{Fault, ModelFault, in_object, no_memory};
+use crate::fault::{FaultNumber, ModelFault, in_object, no_memory};
 use crate::flaw::Flaw;
 use crate::member::Member;
 use crq_sim::{Behaviour, Name, Object, Targets};
@@ -19,9 +19,9 @@ use std::alloc::Global;
 
 /// There was no memory.
 fn short<'v>() -> Flaw<'v>
-    ensures { flaw_seen result ≡ as_whole Fault.Memory }
+    ensures { flaw_seen result ≡ as_whole FaultNumber.Memory }
 {
-    Flaw::Whole(Fault::Memory)
+    Flaw::Whole(FaultNumber::Memory)
 }
 
 /// The number of the object that the member names.

@@ -13,7 +13,7 @@ use crate::flaw::Flaw;
 use crate::header::Header;
 use crate::member::Member;
 use crate::members::{must_be_object, text, tick, whole_of};
-use crq_sim::Start;
+use crq_sim::{MOST_STARTS, Start};
 use serde_json::Value;
 use std::alloc::Global;
 
@@ -47,7 +47,7 @@ pub fn read_starts(
     header: &Header<'_>,
     drafts: &Drafts<'_>,
 ) -> Result<Vec<Start>, ModelFault>
-    requires { length header.now.starts.now ≤ 65535 }
+    requires { length header.now.starts.now ≤ MOST_STARTS }
     ensures ok { IfOk result (λ v. starts_of (header_seen header.now) (names_of drafts.now) ≡ Ok v.items) }
     ensures err { IfErr result (λ e. IsFault e (starts_of (header_seen header.now) (names_of drafts.now))) }
 {

@@ -3,7 +3,7 @@
 ghost use Rattle.std.specs.Prelude.{◌≡◌};
 ghost use Rattle.crq_reader.specs.Wording.{is_plain, form_words, range_words, ahead_words, many_words};
 
-use crate::fault::{Fault, ModelFault, Place, Subject};
+use crate::fault::{FaultNumber, ModelFault, Place, Subject};
 use crate::member::Member;
 use crate::word::Word;
 use std::fmt;
@@ -87,7 +87,7 @@ impl fmt::Display for Member {
     }
 }
 
-impl fmt::Display for Fault {
+impl fmt::Display for FaultNumber {
     ghost use Rattle.std.specs.Prelude.{Some};
     ghost use Rattle.crq_reader.specs.Wording.{fault_words};
 
@@ -95,16 +95,17 @@ impl fmt::Display for Fault {
 
     fn fmt<W: fmt::Write>(&self, f: &mut fmt::Formatter<W>) -> fmt::Result {
         f.write_str(match self {
-            Fault::NotJson => "the text isn't JSON in UTF-8",
-            Fault::Memory => "there is no memory to read the text",
-            Fault::Missing => "a member is missing",
-            Fault::WrongKind => "something is of the wrong kind",
-            Fault::Range => {
+            FaultNumber::NotJson => "the text isn't JSON in UTF-8",
+            FaultNumber::Memory => "there is no memory to read the text",
+            FaultNumber::Missing => "a member is missing",
+            FaultNumber::WrongKind => "something is of the wrong kind",
+            FaultNumber::Range => {
                 "a number or a name is out of range, a name is given twice, or there is no target"
             }
-            Fault::UnknownName => "there is no such kind, or no object of that name",
-            Fault::Lookahead => "the lookahead is 0, or a delay or service is below it",
-            Fault::TooMany => "there are more than 65535 objects or starts, or more than 4 targets",
+            FaultNumber::UnknownName => "there is no such kind, or no object of that name",
+            FaultNumber::Lookahead => "the lookahead is 0, or a delay or service is below it",
+            FaultNumber::TooMany =>
+                "there are more than 65535 objects or starts, or more than 4 targets",
         })
     }
 }
@@ -170,7 +171,7 @@ fn many(member: Member) -> &'static str
 /// What is wrong with a member.
 #[derive(Clone, Copy)]
 struct MemberSaid {
-    number: Fault,
+    number: FaultNumber,
     member: Member,
 }
 
@@ -183,11 +184,11 @@ impl fmt::Display for MemberSaid {
     fn fmt<W: fmt::Write>(&self, f: &mut fmt::Formatter<W>) -> fmt::Result {
         let member = self.member;
         match self.number {
-            Fault::Missing => write!(f, "{member} is missing"),
-            Fault::WrongKind => write!(f, "{member} isn't {}", form(member)),
-            Fault::Range => write!(f, "{member} {}", range(member)),
-            Fault::Lookahead => write!(f, "{member} {}", ahead(member)),
-            Fault::TooMany => write!(f, "{member} {}", many(member)),
+            FaultNumber::Missing => write!(f, "{member} is missing"),
+            FaultNumber::WrongKind => write!(f, "{member} isn't {}", form(member)),
+            FaultNumber::Range => write!(f, "{member} {}", range(member)),
+            FaultNumber::Lookahead => write!(f, "{member} {}", ahead(member)),
+            FaultNumber::TooMany => write!(f, "{member} {}", many(member)),
             number => write!(f, "{member}: {number}"),
         }
     }
@@ -196,7 +197,7 @@ impl fmt::Display for MemberSaid {
 /// What is wrong, without its place.
 #[derive(Clone, Copy)]
 struct Said<'a> {
-    number: Fault,
+    number: FaultNumber,
     subject: &'a Subject,
 }
 
@@ -210,7 +211,7 @@ impl fmt::Display for Said<'_> {
         let number = self.number;
         match self.subject {
             Subject::Whole => match number {
-                Fault::WrongKind => f.write_str("it isn't a JSON object"),
+                FaultNumber::WrongKind => f.write_str("it isn't a JSON object"),
                 _ => write!(f, "{number}"),
             },
             Subject::Member(member) => {
