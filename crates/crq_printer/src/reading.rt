@@ -8,11 +8,8 @@ ghost use Rattle.crq_sim.specs.declared.traces.ObjectTrace.{ObjectTrace};
 ghost use Rattle.crq_printer.specs.Parts.{StepFault, PartFault};
 
 use crate::parts::{read_heading, read_step, skip_end, skip_first};
-use crq_sim::{Name, ObjectTrace, Sequence, Step, Traces};
+use crq_sim::{MOST_OBJECTS, Name, ObjectTrace, Sequence, Step, Traces};
 use std::alloc::Global;
-
-/// The greatest number of objects in a text.
-const MOST_OBJECTS: usize = 65535;
 
 /// Why a text gives no traces.
 #[derive(Clone, Copy, Debug, PartialEq, Eq)]
