@@ -1,5 +1,5 @@
 -- The lines that are due, and the first one that isn't.
-use Rattle.std.proofs.Common.{◌≡◌, true, ℕ, zero, suc, ◌+◌, ◌-◌, ◌*◌, ◌<◌, ◌≤◌, ◌^◌, ◌⊎◌, inl, inr, List, [], ◌∷◌, ◌++◌, map, length, refl, sym, ap, ap₂, subst, ◌∙◌, arith, length-append}
+use Rattle.std.proofs.Common.{◌≡◌, true, ℕ, zero, suc, ◌+◌, ◌-◌, ◌*◌, ◌<◌, ◌≤◌, ◌^◌, ◌⊎◌, inl, inr, List, [], ◌∷◌, ◌++◌, map, length, refl, sym, ap, ap₂, subst, ◌∙◌, arith, append_assoc, length-append, Result, Ok, Err, IfOk, IfErr}
 use Rattle.std.specs.Prelude.{All}
 use Rattle.std.specs.List.{concat}
 use Rattle.std.proofs.lemmas.List.{length-map}
@@ -10,10 +10,12 @@ use Rattle.crq_sim.specs.declared.model.BehaviourName.{BehaviourName}
 use Rattle.crq_sim.specs.declared.traces.Step.{Step}
 use Rattle.crq_sim.specs.declared.traces.ObjectTrace.{ObjectTrace}
 use Rattle.crq_printer.specs.Texts.{step_line, heading_line, object_lines, lines_from, first_line, end_line, steps_in, trace_lines, trace_text_of}
-use Rattle.crq_printer.specs.Reading.{IsStepOf, AreTracesFrom, IsReadable, IsTraceText, Progress, nothing, within, whole, IsHeadingDue, IsDue, AreDue, IsFirstUndue}
+use Rattle.crq_printer.specs.Reading.{IsStepOf, AreTracesFrom, IsReadable, IsTraceText, Progress, nothing, within, whole, IsHeadingDue, IsDue, AreDue, IsFirstUndue, FaultIs}
 use Rattle.crq_printer.specs.Parts.{NoStep, NoHeading}
+use Rattle.crq_printer.specs.declared.reading.TraceFault.{TraceFault}
+use Rattle.crq_printer.specs.declared.reading.TraceFault.TheVariants.{Line, Memory}
 use Rattle.crq_printer.proofs.HeadingFields.{same_count}
-use Rattle.crq_printer.proofs.LineLaws.{IsLine, AreLines, first_is_line, heading_is_line, step_is_line, end_is_line, text_is_lines, lines_begin}
+use Rattle.crq_printer.proofs.LineLaws.{IsLine, AreLines, first_is_line, heading_is_line, step_is_line, end_is_line, text_is_lines, lines_begin, same_first}
 use Rattle.crq_printer.proofs.DueLaws.{no_end_heading}
 
 -- ---- the lines of traces are due one after another
@@ -131,6 +133,30 @@ fault n text rest before p parts number due undue unfinished = record {
   unfinished = unfinished;
   refused = refused text rest before p parts due undue unfinished;
 }
+
+-- a text has one first line that isn't due
+same_length : (p m m' : Progress) (xs ys : List (List ℕ)) (r r' : List ℕ) → IsSmall p → AreDue p xs m → AreDue p ys m' → concat xs ++ r ≡ concat ys ++ r' → IsUndue m r → IsUndue m' r' → length xs ≡ length ys
+same_length p m m' [] [] r r' small h k e undue undue' = refl
+same_length p m m' [] (y ∷ ys) r r' small h k e undue undue' = absurd (undue y (concat ys ++ r') k.0 (e ∙ append_assoc y (concat ys) r') (subst (λ (x : Progress). IsDue x y k.0) h k.1))
+same_length p m m' (x ∷ xs) [] r r' small h k e undue undue' = absurd (undue' x (concat xs ++ r) h.0 (sym e ∙ append_assoc x (concat xs) r) (subst (λ (z : Progress). IsDue z x h.0) k h.1))
+same_length p m m' (x ∷ xs) (y ∷ ys) r r' small h k e undue undue' =
+    let one = due_is_line p h.0 x small h.1 in
+    let other = due_is_line p k.0 y small k.1 in
+    let first = same_first x y (concat xs ++ r) (concat ys ++ r') one.0 other.0 (sym (append_assoc x (concat xs) r) ∙ e ∙ append_assoc y (concat ys) r') in
+    let next = due_same p k.0 h.0 y k.1 (subst (λ (l : List ℕ). IsDue p l h.0) first.0 h.1) in
+    let rest = same_length h.0 m m' xs ys r r' one.1 h.2 (subst (λ (z : Progress). AreDue z ys m') next k.2) first.1 undue undue' in
+    omega arith
+
+pub one_line : (text : List ℕ) (n k : ℕ) → IsFirstUndue n text → IsFirstUndue k text → n ≡ k
+one_line text n k h g =
+    let same = same_length nothing h.progress g.progress h.before g.before h.rest g.rest tt h.due g.due (sym h.parts ∙ g.parts) h.undue g.undue in
+    omega (arith, h.number, g.number, same)
+
+pub exact : (text : List ℕ) (r : Result (List ObjectTrace) TraceFault) → IfOk r (λ ts. IsReadable ts) → IfOk r (λ ts. trace_text_of ts ≡ text) → IfErr r (λ e. FaultIs e text)
+    → (n : ℕ) → IsFirstUndue n text → (r ≡ Err (Line n)) ⊎ (r ≡ Err Memory)
+exact text (Ok ts) is same f n undue = absurd (undue.refused (ts, is, same))
+exact text (Err (Line k)) is same f n undue = inl (ap (λ (l : ℕ). Err (Line l)) (one_line text k n f undue))
+exact text (Err Memory) is same f n undue = inr refl
 
 within_not_whole : (objects left total : ℕ) → within objects left total ≡ whole → ⊥
 within_not_whole objects left total e = absurd (cc)

@@ -111,7 +111,7 @@ text_is_lines ts is =
     let end = end_is_line (steps_in ts) (omega (arith, steps_few 1 ts is.traces, is.few)) in
     (first_is_line, lines_join (lines_from 1 ts) (end_line (steps_in ts) ∷ []) (traces_are_lines 1 ts (omega (arith, is.few)) is.traces) (end, tt))
 
-same_first : (x y : List ℕ) (xs ys : List ℕ) → IsLine x → IsLine y → x ++ xs ≡ y ++ ys → (x ≡ y) × (xs ≡ ys)
+pub same_first : (x y : List ℕ) (xs ys : List ℕ) → IsLine x → IsLine y → x ++ xs ≡ y ++ ys → (x ≡ y) × (xs ≡ ys)
 same_first x y xs ys hx hy e =
     let wx : x ++ xs ≡ hx.words ++ 10 ∷ xs = ap (λ (bs : List ℕ). bs ++ xs) hx.whole ∙ append_assoc hx.words (10 ∷ []) xs in
     let wy : y ++ ys ≡ hy.words ++ 10 ∷ ys = ap (λ (bs : List ℕ). bs ++ ys) hy.whole ∙ append_assoc hy.words (10 ∷ []) ys in

@@ -1,6 +1,6 @@
 use Rattle.std.proofs.Common.{length}
 use Rattle.crq_printer.proofs.ReadingLaws.{IsProgress}
-use Rattle.crq_printer.proofs.reading.read_traces.Given as goal
+use Rattle.crq_printer.proofs.reading.traces_of.Given as goal
 
 abbrev pub invariant-loop-behind : goal.invariant-loop-behind
 invariant-loop-behind l = IsProgress l.text l.rest l.traces.items l.total l.line
