@@ -7,7 +7,7 @@ use Rattle.std.specs.Global.{Vec}
 use Rattle.crq_io.specs.Faults.{Rose}
 use Rattle.crq_io.specs.Told.{IsTold, Appends}
 use Rattle.crq_printer.specs.Texts.{trace_text_of}
-use Rattle.crq_reader.specs.declared.fault.Fault.TheVariants as faults
+use Rattle.crq_reader.specs.declared.fault.FaultNumber.TheVariants as faults
 use Rattle.crq_reader.specs.declared.fault.ModelFault.{ModelFault}
 use Rattle.crq_reader.specs.Canonical.{canonical}
 use Rattle.crq_reader.specs.Language.{language, fault_number}

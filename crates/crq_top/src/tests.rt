@@ -252,15 +252,15 @@ fn endings_in_words(rt: HostRuntime) -> Result<(), Fail> {
     let rows = [
         (
             "run late 1 16 100",
-            "crq: late: object 2: the lookahead is 0, or a delay or service is below it",
+            "crq: late: object 2: \"delay\" is below the lookahead",
         ),
         (
             "run lost 1 16 100",
-            "crq: lost: start 1: there is no such kind, or no object of that name",
+            "crq: lost: start 1: \"object\" names no object \"c\"",
         ),
         (
             "run not_json 1 16 100",
-            "crq: not_json: the model: the text isn't JSON in UTF-8",
+            "crq: not_json: the text isn't JSON in UTF-8",
         ),
         (
             "run nowhere 1 16 100",

@@ -16,7 +16,7 @@ use crate::command::Command;
 use crate::ending::Ending;
 use crq_io::{Fetch, Files};
 use crq_printer::trace_text;
-use crq_reader::{Fault, ModelFault, model_text, read_model};
+use crq_reader::{FaultNumber, ModelFault, model_text, read_model};
 use crq_sim::{Memory, Model, SimEnd, Traces, generate, serial};
 use std::alloc::{AllocError, Global};
 use std::thread::Threads;
@@ -49,7 +49,7 @@ fn ending_of(fault: ModelFault) -> Ending
     ensures { IsEndingOf fault result }
 {
     match fault.number {
-        Fault::Memory => Ending::Memory,
+        FaultNumber::Memory => Ending::Memory,
         _ => Ending::Model(fault),
     }
 }
