@@ -40,7 +40,7 @@ impl fmt::Display for ShownByte {
 }
 
 /// Bytes that came from outside, as they may be printed: a byte that isn't of printable ASCII, a quote or a backslash is shown
-/// as `\\x` and two hex digits, so that no control character reaches a terminal.
+/// as `\x` and two hex digits, so that no control character reaches a terminal.
 #[derive(Clone, Copy)]
 pub struct ShownBytes<'a>(pub &'a [u8]);
 
