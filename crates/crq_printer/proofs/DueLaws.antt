@@ -1,15 +1,11 @@
 -- Lines of objects that follow one another.
-use Rattle.std.proofs.Common.{◌≡◌, ℕ, ◌+◌, ◌<◌, ◌^◌, List, [], ◌∷◌, ◌++◌, map, length, get_or, sym, ap, ◌∙◌, arith, append_assoc, length-append}
-use Rattle.std.specs.Prelude.{All}
-use Rattle.std.proofs.lemmas.List.{append-nil, length-map}
-use Rattle.std.proofs.lemmas.List.Sums.{sum_by-cons, sum_by_push}
-use Rattle.std.proofs.lemmas.List.Elements.{All-head, All-tail}
+use Rattle.std.proofs.Common.{◌≡◌, ℕ, ◌+◌, ◌<◌, List, [], ◌∷◌, ◌++◌, length, get_or, sym, ap, ◌∙◌, arith, append_assoc, length-append}
+use Rattle.std.proofs.lemmas.List.{append-nil}
+use Rattle.std.proofs.lemmas.List.Sums.{sum_by_push}
 use Rattle.crq_sim.specs.declared.model.BehaviourName.{BehaviourName}
-use Rattle.crq_sim.specs.declared.traces.Step.{Step}
 use Rattle.crq_sim.specs.declared.traces.ObjectTrace.{ObjectTrace}
-use Rattle.crq_printer.specs.Texts.{step_line, heading_line, heading, object_lines, lines_from, end_line, steps_in}
-use Rattle.crq_printer.specs.Reading.{IsStepOf, IsTraceOf, AreTracesFrom, IsReadable}
-use Rattle.crq_printer.proofs.HeadingFields.{same_count}
+use Rattle.crq_printer.specs.Texts.{heading_line, object_lines, lines_from, end_line, steps_in}
+use Rattle.crq_printer.specs.Reading.{IsTraceOf, AreTracesFrom, IsReadable}
 
 pub same_tail : {X : Type 0} (xs ys us vs : List X) → length xs ≡ length ys → xs ++ us ≡ ys ++ vs → us ≡ vs
 same_tail [] [] us vs same e = e

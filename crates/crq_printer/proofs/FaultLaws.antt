@@ -9,8 +9,8 @@ use Rattle.crq_sim.specs.Names.{is_name}
 use Rattle.crq_sim.specs.declared.model.BehaviourName.{BehaviourName}
 use Rattle.crq_sim.specs.declared.traces.Step.{Step}
 use Rattle.crq_sim.specs.declared.traces.ObjectTrace.{ObjectTrace}
-use Rattle.crq_printer.specs.Texts.{step_line, heading_line, object_lines, lines_from, first_line, end_line, steps_in, trace_lines, trace_text_of}
-use Rattle.crq_printer.specs.Reading.{IsStepOf, AreTracesFrom, IsReadable, IsTraceText, Progress, nothing, within, whole, IsHeadingDue, IsDue, AreDue, IsFirstUndue, FaultIs}
+use Rattle.crq_printer.specs.Texts.{step_line, heading_line, lines_from, first_line, end_line, steps_in, trace_lines, trace_text_of}
+use Rattle.crq_printer.specs.Reading.{IsStepOf, AreTracesFrom, IsReadable, IsTraceText, Progress, nothing, within, whole, IsDue, AreDue, IsFirstUndue, FaultIs}
 use Rattle.crq_printer.specs.Parts.{NoStep, NoHeading}
 use Rattle.crq_printer.specs.declared.reading.TraceFault.{TraceFault}
 use Rattle.crq_printer.specs.declared.reading.TraceFault.TheVariants.{Line, Memory}

@@ -1,7 +1,6 @@
 use Rattle.std.proofs.Common.{sym, subst}
 use Rattle.std.specs.Str.{IsAscii}
 use Rattle.std.proofs.lemmas.Str.{IsUtf8-from_ascii}
-use Rattle.crq_sim.specs.Kinds.{kind_word}
 use Rattle.crq_printer.proofs.FieldLaws.{kind_ascii}
 use Rattle.crq_printer.proofs.kinds.kind_of.Goals as goal
 
