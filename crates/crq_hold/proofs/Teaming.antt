@@ -1,5 +1,5 @@
 -- The workers of a new calendar.
-use Rattle.std.proofs.Common.{◌≡◌, ⊎_elim, ℕ, zero, suc, ◌<◌, List, [], ◌∷◌, ◌++◌, take, drop, length, set, length-set, length-append, Some, sym, refl, ap, ◌∙◌, subst, arith}
+use Rattle.std.proofs.Common.{◌≡◌, ⊎_elim, ℕ, zero, suc, ◌+◌, ◌-◌, ◌*◌, ◌/◌, ◌%◌, ◌<◌, ◌≤◌, List, [], ◌∷◌, ◌++◌, take, drop, length, set, length-set, length-append, Some, sym, refl, ap, ◌∙◌, subst, arith}
 use Rattle.std.specs.Prelude.{slice_get, slice_set, slice_index_or}
 use Rattle.std.proofs.lemmas.Option.{slice_get_within, slice_get-get_or, get_or_from_slice_get}
 use Rattle.std.proofs.lemmas.List.{get_or_default, get_or-set_same, get_or-set_other}
@@ -7,6 +7,7 @@ use Rattle.std.proofs.Math.Seq.{take-append_seam}
 use mathlib.Core.Logic.{dite}
 use native.Mathlib.Decide.{ℕ_discrete}
 use Rattle.crq_base.specs.declared.entry.Entry.{Entry}
+use Rattle.crq_base.specs.Histories.{puts}
 use Rattle.crq_rule.specs.declared.pass.Pass.{Pass}
 use Rattle.crq_rule.specs.declared.pass.Table.{Table}
 use Rattle.crq_rule.specs.declared.pass.Seating.{Seating}
@@ -18,8 +19,8 @@ use Rattle.crq_queue.specs.Wholes.{IsResting, AreResting, AreDealt, history_of}
 use Rattle.crq_queue.proofs.Wholes.{place_within}
 use Rattle.crq_queue.proofs.Gathers.{pass_at}
 use Rattle.crq_hold.specs.declared.worker.Worker.{Worker}
-use Rattle.crq_hold.specs.Workers.{IsWorker, WorksOn}
-use Rattle.crq_hold.specs.Teams.{AreAtHome, AreLifted, AreLowered, AreWorkers}
+use Rattle.crq_hold.specs.Workers.{IsWorker, WorksOn, PutAndTook}
+use Rattle.crq_hold.specs.Teams.{AreAtHome, AreLifted, AreLowered, AreWorkers, AllHeld, total_holds}
 
 pub resting_home : (table : Table) (places : List Seating) (callers : ℕ) → AreResting table places → table.start.layout.workers ≡ callers → AreAtHome callers places
 resting_home table places callers all is k b = let a = all.each k (omega arith) in (a.0, a.1)
@@ -39,6 +40,7 @@ module _ (table : Table) (whole : Whole) (start now : List Seating) (workers : L
     rests = (place_rests table start all k w.pass e).1;
     span = ap (λ d. d.span) d.deal;
     numbered = λ j f i same. ⊎_elim (none_in _ _ (ap (λ d. d.history) d.deal ∙ empty)) (none_in _ _ d.own) i;
+    counted = ap (λ es. length (puts es)) d.own ∙ sym (l.each k w at).1;
   }
 
   pub first_workers : table.start.layout.workers ≡ callers → AreWorkers table workers
@@ -76,12 +78,50 @@ module _ (table : Table) (workers : List Worker) (all : AreWorkers table workers
       (subst (λ (z : Worker × Worker). WorksOn table z.0 z.1) (λ j. (get_or_default workers i d e b j, sym (get_or-set_same workers i w e b) j)) on))
       (λ ne. subst (WorksOn table (slice_index_or workers k e)) (sym (get_or-set_other workers i k w e ne)) (record { worker = worker_at k e c; number = refl })))
 
--- Passes that are put back in the places, and taken out again
+-- Holds of all workers
 
 some_at : {A : Type 0} (xs : List A) (k : ℕ) → k < length xs → ((x : A) × (slice_get xs k ≡ Some x))
 some_at [] k b = absurd (omega arith)
 some_at (x ∷ xs) zero b = (x, refl)
 some_at (x ∷ xs) (suc k) b = some_at xs k (omega arith)
+
+module _ (table : Table) (old : List Worker) (holds : ℕ) (new : List Worker) (wide : length new ≡ length old) where
+  pub each_held : ((k : ℕ) (d : Worker) → k < length old → ((v : Worker) × (w : Worker) × (v ≡ slice_index_or old k d) × (w ≡ slice_index_or new k d) × (PutAndTook table v w holds holds × (w.holds ≡ holds)))) → AllHeld table old new holds
+  each_held on = record {
+    count = wide;
+    each = λ k v w e f. let b = slice_get_within old k v e in let b' = slice_get_within new k w f in let o = on k v b in
+        let was : o.0 ≡ v = o.2 ∙ get_or_from_slice_get old k v v e in let is : o.1 ≡ w = o.3 ∙ (get_or_default new k v w b' ∙ get_or_from_slice_get new k w w f) in
+        subst (λ (z : Worker × Worker). PutAndTook table z.0 z.1 holds holds × (z.1.holds ≡ holds)) (λ i. (was i, is i)) o.4;
+  }
+
+sum_same : (ws : List Worker) (h : ℕ) → ((k : ℕ) (w : Worker) → slice_get ws k ≡ Some w → w.holds ≡ h) → total_holds ws ≡ length ws * h
+sum_same [] h each = omega arith
+sum_same (w ∷ ws) h each = let rest = sum_same ws h (λ k v e. each (suc k) v e) in let first = each zero w refl in omega arith
+
+pub total_held : (table : Table) (old new : List Worker) (holds : ℕ) → AllHeld table old new holds → total_holds new ≡ length new * holds
+total_held table old new holds all = sum_same new holds (λ k w e. let c = all.count in let b = slice_get_within new k w e in let v = some_at old k (omega arith) in (all.each k v.0 w v.1 e).1)
+
+-- as many as all threads' equal shares
+pub total_shares : (table : Table) (old new : List Worker) (holds shares threads : ℕ) → AllHeld table old new (holds / shares) → length new ≡ threads → shares ≡ threads → 1 ≤ threads → total_holds new ≡ holds - holds % threads
+total_shares table old new holds shares threads all wide is some =
+    let total = total_held table old new (holds / shares) all in let same : length new * (holds / shares) ≡ threads * (holds / threads) = ap (λ (p : ℕ × ℕ). p.0 * (holds / p.1)) (λ i. (wide i, is i)) in omega arith
+
+-- the sum of what is left, from one worker to the next
+next_left : (ws : List Worker) (i : ℕ) (d : Worker) → i < length ws → total_holds (drop i ws) ≡ (slice_index_or ws i d).holds + total_holds (drop (suc i) ws)
+next_left [] i d b = absurd (omega arith)
+next_left (w ∷ ws) zero d b = refl
+next_left (w ∷ ws) (suc i) d b = next_left ws i d (omega arith)
+
+pub total_next : (ws : List Worker) (i : ℕ) (d : Worker) → i < length ws → total_holds (drop i ws) ≡ (slice_index_or ws i d).holds + total_holds (drop (i + 1) ws)
+total_next ws i d b = let up : suc i ≡ i + 1 = omega arith in subst (λ n. total_holds (drop i ws) ≡ (slice_index_or ws i d).holds + total_holds (drop n ws)) up (next_left ws i d b)
+
+pub total_end : (ws : List Worker) (i : ℕ) → length ws ≤ i → total_holds (drop i ws) ≡ 0
+total_end [] zero b = refl
+total_end [] (suc i) b = refl
+total_end (w ∷ ws) zero b = absurd (omega arith)
+total_end (w ∷ ws) (suc i) b = total_end ws i (omega arith)
+
+-- Passes that are put back in the places, and taken out again
 
 pub lowered_resting : (table : Table) (start now : List Seating) (workers : List Worker) → AreWorkers table workers → length start ≡ length workers → AreLowered start now workers (length workers) → AreResting table now
 lowered_resting table start now workers all wide l = record {

@@ -1,6 +1,8 @@
 -- What the calls leave of a worker.
-use Rattle.std.proofs.Common.{◌≡◌, ◌⊎◌, inl, inr, ⊎_elim, ℕ, ◌+◌, ◌-◌, ◌<◌, ◌≤◌, min, List, [], ◌∷◌, ◌++◌, Result, Ok, Err, ap, ◌∙◌, subst, arith}
+use Rattle.std.proofs.Common.{◌≡◌, ◌⊎◌, inl, inr, ⊎_elim, ℕ, ◌+◌, ◌-◌, ◌<◌, ◌≤◌, min, List, [], ◌∷◌, ◌++◌, length, Result, Ok, Err, refl, ap, ◌∙◌, subst, arith, length-append}
 use Rattle.std.proofs.Math.Nat.{div-one, min-eq_left}
+use Rattle.std.proofs.lemmas.List.Elements.{filter_map-append}
+use Rattle.crq_base.specs.Histories.{puts, outs, put_of, taken_of}
 use Rattle.crq_base.specs.declared.event.Event.{Event}
 use Rattle.crq_base.specs.declared.entry.Entry.{Entry}
 use Rattle.crq_base.specs.declared.entry.Entry.TheVariants.{Begin, Put, Settled, Take, Miss}
@@ -16,26 +18,60 @@ use Rattle.crq_rule.specs.HistoryParts.{owner_of}
 use Rattle.crq_rule.specs.ListKinds.{IsFresh, put_entries}
 use Rattle.crq_rows.specs.Passes.{caller}
 use Rattle.crq_queue.specs.Wholes.{IsResting}
-use Rattle.crq_queue.specs.Calls.{Called, PutAnswers, TakeAnswers}
+use Rattle.crq_queue.specs.Calls.{call, Called, PutAnswers, TakeAnswers, SettleAnswers}
 use Rattle.crq_hold.specs.declared.worker.Worker.{Worker}
-use Rattle.crq_hold.specs.Workers.{IsNumbered, IsWorker, WorksOn, next_event}
+use Rattle.crq_hold.specs.Workers.{IsNumbered, IsWorker, PutAndTook, next_event, put_count, takes_of}
 
 in_either : {A : Type 0} (xs ys : List A) (a : A) → In a (xs ++ ys) → In a xs ⊎ In a ys
 in_either [] ys a h = inr h
 in_either (x ∷ xs) ys a h = ⊎_elim (λ e. inl (inl e)) (λ t. ⊎_elim (λ i. inl (inr i)) inr (in_either xs ys a t)) h
 
+puts_append : (xs ys : List Entry) → length (puts (xs ++ ys)) ≡ length (puts xs) + length (puts ys)
+puts_append xs ys = ap length (filter_map-append put_of xs ys) ∙ length-append (puts xs) (puts ys)
+
+outs_append : (xs ys : List Entry) → length (outs (xs ++ ys)) ≡ length (outs xs) + length (outs ys)
+outs_append xs ys = ap length (filter_map-append taken_of xs ys) ∙ length-append (outs xs) (outs ys)
+
 -- what a call with these entries leaves, where each event of the worker's source among them has a number below `next`
-module _ (table : Table) (budget : ℕ) (worker : Worker) (new : Pass) (next : ℕ) (entries : List Entry) (w : IsWorker table worker) (c : Called table budget worker.pass new entries) where
+module _ (table : Table) (budget : ℕ) (worker : Worker) (new : Pass) (next : ℕ) (entries : List Entry) (w : IsWorker table worker) (c : Called (call table budget worker.pass) new entries) where
   numbered_on : worker.next ≤ next → ((k : ℕ) (e : Event) → In (Put k e) entries → e.src ≡ worker.pass.number → e.seq < next) → IsNumbered table new next
   numbered_on up here k e i s = let from : e.src ≡ worker.pass.number = s ∙ c.number in let before : In (Put k e) (caller table worker.pass).deal.history ⊎ In (Put k e) (caller table worker.pass).own → e.seq < next = λ i. let b = w.numbered k e i from in omega arith in
       ⊎_elim (λ i. before (inl (subst (λ d. In (Put k e) d.history) c.deal i)))
       (λ i. ⊎_elim (λ i. before (inr i)) (λ i. here k e i from) (in_either (caller table worker.pass).own entries (Put k e) (subst (In (Put k e)) c.own i))) i
 
-  worker_on : worker.next ≤ next → ((k : ℕ) (e : Event) → In (Put k e) entries → e.src ≡ worker.pass.number → e.seq < next) → WorksOn table worker (record { pass = new; next = next })
-  worker_on up here = record {
-    worker = record { rests = c.rests; span = ap (λ d. d.span) c.deal ∙ w.span; numbered = numbered_on up here };
-    number = c.number;
+  worker_on : next ≡ worker.next + length (puts entries) → ((k : ℕ) (e : Event) → In (Put k e) entries → e.src ≡ worker.pass.number → e.seq < next) → PutAndTook table worker (record worker { pass = new; next = next }) (length (puts entries)) (length (outs entries))
+  worker_on up here = let put : length (puts (caller table new).own) ≡ put_count table worker + length (puts entries) = ap (λ es. length (puts es)) c.own ∙ puts_append (caller table worker.pass).own entries in record {
+    on = record {
+      worker = record { rests = c.rests; span = ap (λ d. d.span) c.deal ∙ w.span; numbered = numbered_on (omega arith) here; counted = let counted = w.counted in omega arith };
+      number = c.number;
+    };
+    puts_more = put;
+    takes_more = ap (λ es. length (outs es)) c.own ∙ outs_append (caller table worker.pass).own entries;
   }
+
+-- nothing done, and one thing after another
+pub went_none : (table : Table) (worker : Worker) → IsWorker table worker → PutAndTook table worker worker 0 0
+went_none table worker w = record { on = record { worker = w; number = refl }; puts_more = omega arith; takes_more = omega arith }
+
+module _ {table : Table} {a b : Worker} {p t : ℕ} (x : PutAndTook table a b p t) where
+  pub went_both : {c : Worker} {q u : ℕ} → PutAndTook table b c q u → PutAndTook table a c (p + q) (t + u)
+  went_both y = record {
+    on = record { worker = y.on.worker; number = y.on.number ∙ x.on.number };
+    puts_more = let m = x.puts_more in let n = y.puts_more in omega arith;
+    takes_more = let m = x.takes_more in let n = y.takes_more in omega arith;
+  }
+
+  -- its next number rises by what it put
+  pub next_rises : IsWorker table a → b.next ≡ a.next + p
+  next_rises w = let before = w.counted in let after = x.on.worker.counted in let more = x.puts_more in omega arith
+
+-- a worker that counts its holds
+pub went_counted : {table : Table} {a b : Worker} {n m holds : ℕ} → PutAndTook table a b n n → m ≤ n → n ≤ m → PutAndTook table a (record b { holds = holds }) m m
+went_counted {table} {a} {b} x low high = record {
+  on = record { worker = record { rests = x.on.worker.rests; span = x.on.worker.span; numbered = x.on.worker.numbered; counted = x.on.worker.counted }; number = x.on.number };
+  puts_more = let more = x.puts_more in omega arith;
+  takes_more = let more = x.takes_more in omega arith;
+}
 
 -- among no entries, or a Begin alone, there is no put
 none_put : {P : Type 0} (k : ℕ) (e : Event) → In (Put k e) [] → P
@@ -64,26 +100,34 @@ module _ (table : Table) (worker : Worker) (w : IsWorker table worker) where
       → IsFresh table.start.layout.workers (caller table worker.pass).deal.history (caller table worker.pass).own (caller table worker.pass).deal.span worker.pass.number (next_event worker time load)
   next_fresh time load = (is_owner, λ k f i same_src same_seq. let b = w.numbered k f i same_src in absurd (omega arith))
 
-  -- What each call leaves: no more is known of the calls' answers than that
+  -- What each call leaves
 
-  pub put_done : (budget : ℕ) (new : Pass) (time load : ℕ) (end : PutEnd) → PutAnswers table budget worker.pass new (next_event worker time load) (Ok end) → WorksOn table worker (record { pass = new; next = worker.next + 1 })
+  pub put_done : (budget : ℕ) (new : Pass) (time load : ℕ) (end : PutEnd) → PutAnswers (call table budget worker.pass) (next_event worker time load) new (Ok end) → PutAndTook table worker (record worker { pass = new; next = worker.next + 1 }) 1 0
   put_done budget new time load IsSettled a = let e : Event = next_event worker time load in
-      worker_on table budget worker new (worker.next + 1) _ w a (omega arith) (λ k f i s. let same = ap (λ (e : Event). e.seq) (one_put _ _ k e f i) in omega arith)
+      worker_on table budget worker new (worker.next + 1) (Begin worker.pass.number ∷ put_entries worker.pass.number e) w a.0.called refl (λ k f i s. let same = ap (λ (e : Event). e.seq) (one_put _ _ k e f i) in omega arith)
   put_done budget new time load Owed a = absurd a
 
-  pub refused : (budget : ℕ) (new : Pass) → Called table budget worker.pass new [] ⊎ Called table budget worker.pass new (Begin worker.pass.number ∷ []) → WorksOn table worker (record { pass = new; next = worker.next })
-  refused budget new a = ⊎_elim
-      (λ a. worker_on table budget worker new worker.next [] w a (omega arith) (λ k f i s. none_put k f i))
-      (λ a. worker_on table budget worker new worker.next _ w a (omega arith) (λ k f i s. begin_no_put _ k f i)) a
+  stopped : (budget : ℕ) (new : Pass) → Called (call table budget worker.pass) new [] → PutAndTook table worker (record worker { pass = new }) 0 0
+  stopped budget new a = worker_on table budget worker new worker.next [] w a (omega arith) (λ k f i s. none_put k f i)
 
-  pub take_ended : (budget : ℕ) (new : Pass) (limit : ℕ) (r : Result TakeEnd Refusal) → TakeAnswers table budget worker.pass new limit r → WorksOn table worker (record { pass = new; next = worker.next })
-  take_ended budget new limit (Ok (Taken e route)) a = worker_on table budget worker new worker.next _ w a.0 (omega arith) (λ k f i s. take_no_put _ _ k e f i)
-  take_ended budget new limit (Ok Missed) a = worker_on table budget worker new worker.next _ w a.0 (omega arith) (λ k f i s. miss_no_put _ _ k limit f i)
-  take_ended budget new limit (Err r) a = refused budget new a.0
+  begun : (budget : ℕ) (new : Pass) → Called (call table budget worker.pass) new (Begin worker.pass.number ∷ []) → PutAndTook table worker (record worker { pass = new }) 0 0
+  begun budget new a = worker_on table budget worker new worker.next (Begin worker.pass.number ∷ []) w a (omega arith) (λ k f i s. begin_no_put _ k f i)
+
+  pub put_refused : (budget : ℕ) (new : Pass) (e : Event) (r : Refusal) → PutAnswers (call table budget worker.pass) e new (Err r) → PutAndTook table worker (record worker { pass = new }) 0 0
+  put_refused budget new e r a = ⊎_elim (λ s. stopped budget new s.called) (λ b. begun budget new b.on.called) a
+
+  pub take_ended : (budget : ℕ) (new : Pass) (limit : ℕ) (r : Result TakeEnd Refusal) → TakeAnswers (call table budget worker.pass) limit new r → PutAndTook table worker (record worker { pass = new }) 0 (takes_of r)
+  take_ended budget new limit (Ok (Taken e route)) a = worker_on table budget worker new worker.next (Begin worker.pass.number ∷ Take worker.pass.number e ∷ []) w a.0.called (omega arith) (λ k f i s. take_no_put _ _ k e f i)
+  take_ended budget new limit (Ok Missed) a = worker_on table budget worker new worker.next (Begin worker.pass.number ∷ Miss worker.pass.number limit ∷ []) w a.0.called (omega arith) (λ k f i s. miss_no_put _ _ k limit f i)
+  take_ended budget new limit (Err r) a = ⊎_elim (λ s. stopped budget new s.called) (λ b. begun budget new b.on.called) a
+
+  pub settle_ended : (budget : ℕ) (new : Pass) (r : Result (Unit {0}) Refusal) → SettleAnswers (call table budget worker.pass) new r → PutAndTook table worker (record worker { pass = new }) 0 0
+  settle_ended budget new (Ok u) a = stopped budget new a.0
+  settle_ended budget new (Err r) a = stopped budget new a.called
 
 -- after a take the pass rests
 module _ (table : Table) (budget : ℕ) (old new : Pass) (limit : ℕ) where
-  pub take_rests : (r : Result TakeEnd Refusal) → TakeAnswers table budget old new limit r → IsResting table new
-  take_rests (Ok (Taken e route)) a = a.0.rests
-  take_rests (Ok Missed) a = a.0.rests
-  take_rests (Err r) a = ⊎_elim (λ c. c.rests) (λ c. c.rests) a.0
+  pub take_rests : (r : Result TakeEnd Refusal) → TakeAnswers (call table budget old) limit new r → IsResting table new
+  take_rests (Ok (Taken e route)) a = a.0.called.rests
+  take_rests (Ok Missed) a = a.0.called.rests
+  take_rests (Err r) a = ⊎_elim (λ s. s.called.rests) (λ b. b.on.called.rests) a

@@ -1,11 +1,11 @@
 -- All workers of a calendar, and the places that their passes came from.
-use Rattle.std.specs.Prelude.{◌≡◌, ℕ, ◌<◌, ◌≤◌, List, length, Some, slice_get}
+use Rattle.std.specs.Prelude.{◌≡◌, ℕ, ◌+◌, ◌<◌, ◌≤◌, List, [], ◌∷◌, length, Some, slice_get}
 use Rattle.crq_rule.specs.declared.pass.Pass.{Pass}
 use Rattle.crq_rule.specs.declared.pass.Table.{Table}
 use Rattle.crq_rule.specs.declared.pass.Seating.{Seating}
 use Rattle.crq_rule.specs.declared.pass.Seating.TheVariants.{Here, Lifted}
 use Rattle.crq_hold.specs.declared.worker.Worker.{Worker}
-use Rattle.crq_hold.specs.Workers.{IsWorker}
+use Rattle.crq_hold.specs.Workers.{IsWorker, PutAndTook}
 
 -- each of n callers' passes is in its place
 abbrev pub AreAtHome : ℕ → List Seating → Type 0
@@ -38,3 +38,13 @@ pub record AreWorkers (table : Table) (workers : List Worker) : Type 0 where
   pub count : length workers ≡ table.start.layout.workers
   pub order : AreInOrder workers
   pub each : (k : ℕ) (w : Worker) → slice_get workers k ≡ Some w → IsWorker table w
+
+-- each worker made so many holds: it took and put as many events, and counts that
+pub record AllHeld (table : Table) (old new : List Worker) (holds : ℕ) : Type 0 where
+  pub count : length new ≡ length old
+  pub each : (k : ℕ) (v w : Worker) → slice_get old k ≡ Some v → slice_get new k ≡ Some w → PutAndTook table v w holds holds × (w.holds ≡ holds)
+
+-- how many holds all of them made
+abbrev pub total_holds : List Worker → ℕ
+total_holds [] = 0
+total_holds (w ∷ ws) = w.holds + total_holds ws

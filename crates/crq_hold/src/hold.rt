@@ -1,7 +1,7 @@
 //! The hold model: each worker takes the least event and puts it back later.
-ghost use Rattle.std.specs.Prelude.{◌≡◌, ◌≤◌, ◌<◌, ◌-◌, ◌%◌, IfOk};
-ghost use Rattle.crq_hold.specs.Workers.{IsWorker, WorksOn};
-ghost use Rattle.crq_hold.specs.Teams.{AreWorkers};
+ghost use Rattle.std.specs.Prelude.{◌≡◌, ◌≤◌, ◌<◌, ◌-◌, ◌%◌, ◌^◌, IfOk};
+ghost use Rattle.crq_hold.specs.Workers.{IsWorker, WorksOn, PutAndTook};
+ghost use Rattle.crq_hold.specs.Teams.{AreWorkers, AllHeld, total_holds};
 
 use crate::team::team;
 use crate::worker::Worker;
@@ -46,7 +46,7 @@ pub struct Held {
 /// Puts an event. It waits while it is refused.
 fn put_surely<R: Wait>(rt: &R, queue: &Calendar, worker: &mut Worker, time: u32, load: u64)
     requires { IsWorker queue.now.table worker.old }
-    ensures { WorksOn queue.now.table worker.old worker.new }
+    ensures { PutAndTook queue.now.table worker.old worker.new 1 0 }
 {
     for _ in rt.forever() {
         if worker.put(queue, time, load, BUDGET).is_ok() {
@@ -60,7 +60,7 @@ fn put_surely<R: Wait>(rt: &R, queue: &Calendar, worker: &mut Worker, time: u32,
 /// Takes the least event. It waits while the others have them all.
 fn take_surely<R: Wait>(rt: &R, queue: &Calendar, worker: &mut Worker) -> Event
     requires { IsWorker queue.now.table worker.old }
-    ensures { WorksOn queue.now.table worker.old worker.new }
+    ensures { PutAndTook queue.now.table worker.old worker.new 0 1 }
 {
     for _ in rt.forever() {
         if let Ok(TakeEnd::Taken(event, _)) = worker.take(queue, LIMIT, BUDGET) {
@@ -81,7 +81,7 @@ fn spread(value: u64) -> u32
 /// Takes the least event and puts its load back, 1 to `SPREAD` steps later. It answers where the draws go on.
 fn hold<R: Wait>(rt: &R, queue: &Calendar, worker: &mut Worker, state: u64) -> u64
     requires { IsWorker queue.now.table worker.old }
-    ensures { WorksOn queue.now.table worker.old worker.new }
+    ensures { PutAndTook queue.now.table worker.old worker.new 1 1 }
 {
     let least = take_surely(rt, queue, worker);
     let (value, next) = draw(state);
@@ -90,15 +90,18 @@ fn hold<R: Wait>(rt: &R, queue: &Calendar, worker: &mut Worker, state: u64) -> u
     next
 }
 
-/// Makes so many holds.
+/// Makes so many holds, and counts them by the events that it put.
 fn hold_often<R: Wait>(rt: &R, queue: &Calendar, worker: &mut Worker, holds: u64, seed: u64)
     requires { IsWorker queue.now.table worker.old }
-    ensures { WorksOn queue.now.table worker.old worker.new }
+    ensures made { PutAndTook queue.now.table worker.old worker.new holds holds }
+    ensures counts { worker.new.holds ≡ holds }
 {
     let mut state = seed.wrapping_add(1 + u64::from(worker.pass.number));
+    let before = worker.next;
     for _ in 0..holds {
         state = hold(rt, queue, worker, state);
     }
+    worker.holds = worker.next - before;
 }
 
 /// Makes so many holds by each worker, all workers at once, each on a thread of its own.
@@ -110,7 +113,8 @@ fn hold_all<R: Threads + Wait + Sync>(
     seed: u64,
 )
     requires { AreWorkers queue.now.table workers.old }
-    ensures { AreWorkers queue.now.table workers.new }
+    ensures workers { AreWorkers queue.now.table workers.new }
+    ensures held { AllHeld queue.now.table workers.old workers.new holds }
 {
     thread::for_each_mut(
         rt,
@@ -118,7 +122,7 @@ fn hold_all<R: Threads + Wait + Sync>(
         16,
         &|_, worker: &mut Worker|
             requires { IsWorker queue.now.table worker.now }
-            ensures { WorksOn queue.entry.now.table worker.entry.now worker.exit.now }
+            ensures { PutAndTook queue.entry.now.table worker.entry.now worker.exit.now holds holds × (worker.exit.now.holds ≡ holds) }
         { hold_often(rt, queue, worker, holds, seed) },
     );
 }
@@ -154,7 +158,19 @@ fn drain<R: Wait>(rt: &R, queue: &Calendar, worker: &mut Worker) -> u64
     unreachable!()
 }
 
-/// Makes the holds of a job.
+/// The number of holds that all workers made.
+fn total(workers: &[Worker]) -> u64
+    requires { total_holds workers.now < 2 ^ 64 }
+    ensures { result ≡ total_holds workers.now }
+{
+    let mut holds = 0;
+    for worker in workers {
+        holds += worker.holds;
+    }
+    holds
+}
+
+/// Makes the holds of a job. The number that it answers is that of the events that its workers put back.
 pub fn run<R: Threads + Wait + Sync>(rt: &R, alloc: Global, job: &Job) -> Result<Held, Memory>
     requires { (1 ≤ job.now.threads) × (job.now.threads ≤ 16) }
     ensures { IfOk result (λ held. held.holds ≡ job.now.holds - job.now.holds % job.now.threads) }
@@ -165,9 +181,7 @@ pub fn run<R: Threads + Wait + Sync>(rt: &R, alloc: Global, job: &Job) -> Result
     let threads = u64::from(job.threads);
     fill(rt, &queue, workers, job.pending, job.seed);
     hold_all(rt, &queue, workers, job.holds / threads, job.seed);
+    let holds = total(workers);
     let sum = drain(rt, &queue, &mut workers[0]);
-    Ok(Held {
-        holds: job.holds - job.holds % threads,
-        sum,
-    })
+    Ok(Held { holds, sum })
 }

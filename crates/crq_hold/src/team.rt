@@ -16,7 +16,11 @@ pub fn lift_all(alloc: Global, callers: u32, passes: &mut Passes) -> Result<Vec<
     let mut workers = Vec::with_capacity(alloc, callers as usize)?;
     for number in 0..callers {
         let pass = passes.lift(number);
-        workers.push(Worker { pass, next: 0 })?;
+        workers.push(Worker {
+            pass,
+            next: 0,
+            holds: 0,
+        })?;
     }
     Ok(workers)
 }

@@ -4,6 +4,7 @@ ghost use Rattle.crq_hold.specs.Workers.{IsWorker};
 ghost use Rattle.crq_hold.specs.Teams.{AreFree};
 
 mod churning;
+mod owing;
 mod phases;
 
 use crate::team::team;

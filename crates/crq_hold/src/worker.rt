@@ -1,7 +1,8 @@
 //! A worker of the hold model.
-ghost use Rattle.std.specs.Prelude.{◌≤◌};
+ghost use Rattle.std.specs.Prelude.{◌≤◌, ◌<◌, ◌-◌, ◌^◌};
 ghost use Rattle.crq_queue.specs.Wholes.{IsResting};
-ghost use Rattle.crq_hold.specs.Workers.{IsWorker, WorksOn};
+ghost use Rattle.crq_queue.specs.Calls.{call, PutAnswers, TakeAnswers};
+ghost use Rattle.crq_hold.specs.Workers.{IsWorker, PutAndTook, next_event, puts_of, takes_of};
 
 use crq_base::Event;
 use crq_queue::{Calendar, Pass, PutEnd, Refusal, TakeEnd};
@@ -11,13 +12,15 @@ use crq_queue::{Calendar, Pass, PutEnd, Refusal, TakeEnd};
 pub struct Worker {
     /// Its pass.
     pub pass: Pass,
-    /// The number of its next event.
+    /// The number of its next event: it has put as many since its pass was dealt.
     pub next: u64,
+    /// How many holds it has made.
+    pub holds: u64,
 }
 
 impl Worker {
-    /// Puts an event with the next number of the worker's source, within a budget of exchanges. Where it is refused the number
-    /// stays; Epochs comes where the numbers are used up.
+    /// Puts an event with the next number of the worker's source, within a budget of exchanges. It answers as the queue does;
+    /// where it is refused the number stays. Epochs comes, without a call, where the numbers are used up.
     pub fn put(
         &mut self,
         queue: &Calendar,
@@ -27,7 +30,8 @@ impl Worker {
     ) -> Result<PutEnd, Refusal>
         requires worker { IsWorker queue.now.table self.old }
         requires budget { 1 ≤ budget }
-        ensures { WorksOn queue.now.table self.old self.new }
+        ensures counts { PutAndTook queue.now.table self.old self.new (puts_of result) 0 }
+        ensures answers { self.old.next < 2 ^ 64 - 1 → PutAnswers (call queue.now.table budget self.old.pass) (next_event self.old time load) self.new.pass result }
     {
         if self.next == u64::MAX {
             return Err(Refusal::Epochs);
@@ -49,7 +53,8 @@ impl Worker {
         requires rests { IsResting queue.now.table self.old.pass }
         requires budget { 1 ≤ budget }
         ensures rests { IsResting queue.now.table self.new.pass }
-        ensures worker { IsWorker queue.now.table self.old → WorksOn queue.now.table self.old self.new }
+        ensures counts { IsWorker queue.now.table self.old → PutAndTook queue.now.table self.old self.new 0 (takes_of result) }
+        ensures answers { TakeAnswers (call queue.now.table budget self.old.pass) limit self.new.pass result }
     {
         queue.try_take(&mut self.pass, limit, budget)
     }

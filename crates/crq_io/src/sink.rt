@@ -33,7 +33,8 @@ pub trait Sink {
         ensures later { faults self.old ≤ faults self.new };
 }
 
-/// Writes all bytes, by as many calls as the sink wants, and stops at the first call that fails.
+/// Writes all bytes, by as many calls as the sink wants. At the first call that fails it stops, and makes no call more:
+/// that it makes none is only tested, since no clause of a sink counts its calls.
 pub fn write_whole<S: Sink>(sink: &mut S, bytes: &[u8]) -> Result<(), Cut>
     ensures ok { OnOk result (Appends (S.written sink.old) (S.written sink.new) bytes.now) }
     ensures cut { IfErr result (λ c. (c.sent < length bytes.now)

@@ -1,6 +1,8 @@
 use super::*;
 use std::alloc::Global;
+use std::fmt::Display;
 use std::fs;
+use std::io::{self, ErrorKind};
 use std::test::Fail;
 
 const DIGITS: &[u8] = b"0123456789";
@@ -49,11 +51,11 @@ fn writes_to_memory(rt: HostRuntime) -> Result<(), Fail> {
     let alloc = rt.alloc();
     let text = b"The first of forty-two bytes and the last.";
     let rows = [
-        (64, 10, [3], Err(Cut { sent: 20 }), 20, 1),
-        (64, 10, [7], Ok(()), 42, 0),
-        (42, 64, [0], Ok(()), 42, 0),
-        (41, 64, [0], Err(Cut { sent: 41 }), 41, 1),
-        (64, 1, [1], Err(Cut { sent: 0 }), 0, 1),
+        (64, 10, [3, 5], Err(Cut { sent: 20 }), 20, 1),
+        (64, 10, [7, 8], Ok(()), 42, 0),
+        (42, 64, [0, 3], Ok(()), 42, 0),
+        (41, 64, [0, 4], Err(Cut { sent: 41 }), 41, 1),
+        (64, 1, [1, 3], Err(Cut { sent: 0 }), 0, 1),
     ];
     for (room, most, fails, wanted, held, faults) in rows {
         let mut sink = MemSink::new(alloc, room, most, &fails)?;
@@ -96,5 +98,49 @@ fn reads_and_writes_on_the_host(rt: HostRuntime) -> Result<(), Fail> {
         Ok(())
     );
     assert_eq!(rt; sink.faults(), 0);
+    Ok(())
+}
+
+/// A stream that takes at most so many bytes of a piece, or fails where it would take none.
+#[derive(Drop)]
+struct Narrow {
+    most: usize,
+}
+
+impl Print for Narrow {
+    fn print<D: Display + Drop>(&self, _value: D) -> io::Result<()> {
+        Err(io::Error::from(ErrorKind::Unsupported))
+    }
+
+    fn println<D: Display + Drop>(&self, _value: D) -> io::Result<()> {
+        Err(io::Error::from(ErrorKind::Unsupported))
+    }
+
+    fn write_all(&self, _bytes: &[u8]) -> io::Result<()> {
+        Err(io::Error::from(ErrorKind::Unsupported))
+    }
+
+    fn write_some(&self, bytes: &[u8]) -> io::Result<usize> {
+        if self.most == 0 {
+            return Err(io::Error::from(ErrorKind::StorageFull));
+        }
+        Ok(self.most.min(bytes.len()))
+    }
+}
+
+#[test]
+fn short_and_failing_writes_to_the_host(rt: HostRuntime) -> Result<(), Fail> {
+    let rows = [
+        (10, "0123456789", Ok(10), 0),
+        (3, "0123456789", Ok(3), 0),
+        (1, "", Ok(0), 0),
+        (0, "0123456789", Err(Failed), 1),
+    ];
+    for (most, piece, wanted, faults) in rows {
+        let stream = Narrow { most };
+        let mut sink = HostSink::new(&stream);
+        assert_eq!(rt; sink.write(piece.as_bytes()), wanted, "{most} of {piece}");
+        assert_eq!(rt; sink.faults(), faults, "{most} of {piece}");
+    }
     Ok(())
 }

@@ -36,18 +36,17 @@ use Rattle.crq_list.specs.declared.parts.Progress.TheVariants.{More, Done}
 use Rattle.crq_list.specs.declared.insert.InsertEnd.{InsertEnd}
 use Rattle.crq_list.specs.declared.insert.InsertEnd.TheVariants.{Linked}
 use Rattle.crq_list.specs.declared.insert.InsertOp.{InsertOp}
-use Rattle.crq_list.specs.declared.insert.Inserting.{Inserting}
-use Rattle.crq_list.specs.declared.insert.Inserting.TheVariants.{Writing, Seeking, Placing, Linking}
-use Rattle.crq_list.specs.declared.seek.Seek.{Seek}
-use Rattle.crq_list.specs.declared.seek.Seek.TheVariants.{Load}
-use Rattle.crq_list.specs.declared.seek.SeekEnd.{SeekEnd}
+use Rattle.crq_list.specs.declared.insert.InsertState.{InsertState}
+use Rattle.crq_list.specs.declared.insert.InsertState.TheVariants.{Writing, Seeking, Placing, Linking}
+use Rattle.crq_list.specs.declared.seek.SeekState.{SeekState}
+use Rattle.crq_list.specs.declared.seek.SeekState.TheVariants.{Load}
 use Rattle.crq_list.specs.declared.seek.SeekEnd.TheVariants.{There}
 use Rattle.crq_list.specs.declared.seek.Sought.{Sought}
 use Rattle.crq_rows.proofs.Knowing.{known_else}
 use Rattle.crq_list.proofs.SweepLaws.{sweep_begins, sweep_stays}
 use Rattle.crq_rows.proofs.Working.{plain_no_tick}
 use Rattle.crq_list.proofs.StepLaws.{rows_apart}
-use Rattle.crq_list.specs.Known.{is_exchange, last_known, Stays, Works, turns_after}
+use Rattle.crq_list.specs.Known.{is_exchange, Stays, Works, turns_after}
 use Rattle.crq_list.specs.Spots.{cell, Target, IsReached, IsAfter, IsBeyondSpot, IsListOf}
 use Rattle.crq_list.specs.Swaps.{LinkSwapped}
 use Rattle.crq_list.specs.Seeking.{IsSeeking, IsThere, SeekStepped}
@@ -175,7 +174,7 @@ pub list_stays : (x : Control) (list : ListAt) (p q : Caller) → q.found ≡ p.
 list_stays x list p q found is = record { control = ap (λ (f : Found). f.control) found ∙ is.control; generation = is.generation; is_head = is.is_head; opened = is.opened }
 
 -- what an insertion knows of its caller besides its place stays with these parts
-pub still_inserting : (n : ℕ) (table : Table) (x : Control) (op : InsertOp) (s s' : Inserting) (p q : Caller) → Stays p q → n ≤ length q.made → q.own ≡ p.own → q.hand ≡ p.hand → IsInsertingAt n table x (record op { state = s' }) s' q
+pub still_inserting : (n : ℕ) (table : Table) (x : Control) (op : InsertOp) (s s' : InsertState) (p q : Caller) → Stays p q → n ≤ length q.made → q.own ≡ p.own → q.hand ≡ p.hand → IsInsertingAt n table x (record op { state = s' }) s' q
     → IsInserting n table x (record op { state = s }) p → IsInserting n table x (record op { state = s' }) q
 still_inserting n table x op s s' p q stays counted own hand at i = record {
   counted = counted;
@@ -189,7 +188,7 @@ still_inserting n table x op s s' p q stays counted own hand at i = record {
 }
 
 -- the list is to be walked from its head
-pub seeks_anew : (n : ℕ) (b : Bool) (table : Table) (x : Control) (op : InsertOp) (s : Inserting) (p q : Caller) → Works n b p q → q.cut ≡ None → IsInserting n table x (record op { state = s }) p
+pub seeks_anew : (n : ℕ) (b : Bool) (table : Table) (x : Control) (op : InsertOp) (s : InsertState) (p q : Caller) → Works n b p q → q.cut ≡ None → IsInserting n table x (record op { state = s }) p
     → IsSeeking n table x (sought_by op) (Load (Head op.list.head)) q
 seeks_anew n b table x op s p q works none i = record {
   counted = counts_on n b p q works i.counted;
@@ -251,7 +250,7 @@ module _ (n : ℕ) (table : Table) (x : Control) (op : InsertOp) (old new : Pass
   hand_stays of is free = sym is.free ∙ (free ∙ of.free)
 
   -- a step after which there is more to do
-  pub goes_on : (s s' : Inserting) → IsPassOf table old → IsPassOf table new → Works n (state_exchanges s) (caller table old) (caller table new) → new.turns ≡ turns_after (state_exchanges s) old.turns → new.number ≡ old.number
+  pub goes_on : (s s' : InsertState) → IsPassOf table old → IsPassOf table new → Works n (state_exchanges s) (caller table old) (caller table new) → new.turns ≡ turns_after (state_exchanges s) old.turns → new.number ≡ old.number
       → new.debts ≡ old.debts → ((caller table new).debts.cut ≡ None) ⊎ ((caller table new).debts.cut ≡ (caller table old).debts.cut) → (caller table new).own ≡ (caller table old).own → new.free.items ≡ old.free.items
       → IsInsertingAt n table x (record op { state = s' }) s' (caller table new) → (state_exchanges s ≡ true) ⊎ (state_left s' (caller table new) < state_left s (caller table old))
       → IsInserting n table x (record op { state = s }) (caller table old) → InsertStepped n table x (record op { state = s }) (record op { state = s' }) old new More
@@ -266,19 +265,19 @@ module _ (n : ℕ) (table : Table) (x : Control) (op : InsertOp) (old new : Pass
   }
 
   -- the walk goes on
-  pub seeks_on : (seek seek' : Seek) → IsPassOf table old → IsInserting n table x (record op { state = Seeking seek }) (caller table old) → SeekStepped n table x (sought_by op) seek seek' old new More
+  pub seeks_on : (seek seek' : SeekState) → IsPassOf table old → IsInserting n table x (record op { state = Seeking seek }) (caller table old) → SeekStepped n table x (sought_by op) seek seek' old new More
       → InsertStepped n table x (record op { state = Seeking seek }) (record op { state = Seeking seek' }) old new More
   seeks_on seek seek' of i s = goes_on (Seeking seek) (Seeking seek') of s.is s.works s.turns s.number s.debts s.owed s.own s.free
       (s.answers.0, subst (λ w. AreWritten w op.row op.event 6) (sym s.written) i.at.1) (⊎_elim (λ e. inl e) (λ less. inr (omega arith)) s.answers.1) i
 
   -- it came to the row's place
-  pub seeks_there : (seek seek' : Seek) (b : Before) → IsPassOf table old → IsInserting n table x (record op { state = Seeking seek }) (caller table old) → SeekStepped n table x (sought_by op) seek seek' old new (Done (There b))
+  pub seeks_there : (seek seek' : SeekState) (b : Before) → IsPassOf table old → IsInserting n table x (record op { state = Seeking seek }) (caller table old) → SeekStepped n table x (sought_by op) seek seek' old new (Done (There b))
       → InsertStepped n table x (record op { state = Seeking seek }) (record op { state = Placing b }) old new More
   seeks_there seek seek' b of i s = goes_on (Seeking seek) (Placing b) of s.is s.works s.turns s.number s.debts s.owed s.own s.free
       (s.answers, subst (λ w. AreWritten w op.row op.event 6) (sym s.written) i.at.1) (inr (omega arith)) i
 
   -- a word of the row was written
-  pub writes_on : (s s' : Inserting) (place word w : ℕ) → state_exchanges s ≡ false → IsPassOf table old → IsInserting n table x (record op { state = s }) (caller table old)
+  pub writes_on : (s s' : InsertState) (place word w : ℕ) → state_exchanges s ≡ false → IsPassOf table old → IsInserting n table x (record op { state = s }) (caller table old)
       → Stepped table old new (store_made Write w word) (writes op.row place word) → IsInsertingAt n table x (record op { state = s' }) s' (caller table new) → state_left s' (caller table new) < state_left s (caller table old)
       → InsertStepped n table x (record op { state = s }) (record op { state = s' }) old new More
   writes_on s s' place word w quiet of i t at less = goes_on s s' of t.is
@@ -360,8 +359,8 @@ module _ (n : ℕ) (table : Table) (x : Control) (op : InsertOp) (old new : Pass
         ) (inl refl) i
 
 -- a step from the state in which the insertion is, whatever it answered
-pub steps_from : (n : ℕ) (table : Table) (x : Control) (op : InsertOp) (s : Inserting) (old new new' : Pass) (r r' : Inserting × Progress InsertEnd) → op.state ≡ s → new' ≡ new → r' ≡ r
+pub steps_from : (n : ℕ) (table : Table) (x : Control) (op : InsertOp) (s : InsertState) (old new new' : Pass) (r r' : InsertState × Progress InsertEnd) → op.state ≡ s → new' ≡ new → r' ≡ r
     → (IsInserting n table x (record op { state = s }) (caller table old) → InsertStepped n table x (record op { state = s }) (record op { state = r.0 }) old new r.1)
     → IsInserting n table x op (caller table old) → InsertStepped n table x op (record op { state = r'.0 }) old new' r'.1
-steps_from n table x op s old new new' r r' at pass answer step i = subst (λ (z : Pass × (Inserting × Progress InsertEnd)). InsertStepped n table x op (record op { state = z.1.0 }) old z.0 z.1.1) (λ k. (sym pass k, sym answer k))
+steps_from n table x op s old new new' r r' at pass answer step i = subst (λ (z : Pass × (InsertState × Progress InsertEnd)). InsertStepped n table x op (record op { state = z.1.0 }) old z.0 z.1.1) (λ k. (sym pass k, sym answer k))
     (subst (λ z. IsInserting n table x (record op { state = z }) (caller table old) → InsertStepped n table x (record op { state = z }) (record op { state = r.0 }) old new r.1) (sym at) step i)

@@ -24,8 +24,8 @@ use Rattle.crq_rows.specs.Reading.{stays}
 use Rattle.crq_list.specs.declared.parts.Spot.{Spot}
 use Rattle.crq_list.specs.declared.parts.Spot.TheVariants.{Head, Row}
 use Rattle.crq_list.specs.declared.parts.Before.{Before}
-use Rattle.crq_list.specs.declared.seek.Seek.{Seek}
-use Rattle.crq_list.specs.declared.seek.Seek.TheVariants.{Load, Reading, Passing, Cutting, Tagging, Retiring}
+use Rattle.crq_list.specs.declared.seek.SeekState.{SeekState}
+use Rattle.crq_list.specs.declared.seek.SeekState.TheVariants.{Load, Reading, Passing, Cutting, Tagging, Retiring}
 use Rattle.crq_list.specs.declared.seek.Sought.{Sought}
 use Rattle.crq_list.specs.declared.seek.SeekEnd.{SeekEnd}
 use Rattle.crq_list.specs.declared.seek.SeekEnd.TheVariants.{There}
@@ -46,7 +46,7 @@ use Rattle.crq_list.proofs.SeekLaws.{rank_some, rank_limit, rank_at_is, walk_nex
 
 -- What a step tells of its caller, before and after
 
-pub record Told (n : ℕ) (table : Table) (x : Control) (sought : Sought) (seek seek' : Seek) (p q : Caller) (answer : Progress SeekEnd) : Type 0 where
+pub record Told (n : ℕ) (table : Table) (x : Control) (sought : Sought) (seek seek' : SeekState) (p q : Caller) (answer : Progress SeekEnd) : Type 0 where
   pub works : Works n (seek_exchanges seek) p q
   pub own : q.own ≡ p.own
   pub written : q.written ≡ p.written
@@ -88,7 +88,7 @@ module _ (n : ℕ) (table : Table) (x : Control) (sought : Sought) (p : Caller) 
   Sweeps q cell = SweepsTo table.start.layout (at_head sought.list.head) (drop n q.made) cell
 
   -- the sweep stays where it is
-  swept_on : (seek : Seek) (q : Caller) (m : Made) → q.made ≡ p.made ++ m ∷ [] → IsSeeking n table x sought seek p → Sweeps q (cell (spot_of seek))
+  swept_on : (seek : SeekState) (q : Caller) (m : Made) → q.made ≡ p.made ++ m ∷ [] → IsSeeking n table x sought seek p → Sweeps q (cell (spot_of seek))
   swept_on seek q m made is = sweep_stays n p.made q.made m made is.counted table.start.layout (at_head sought.list.head) (cell (spot_of seek)) is.swept
 
   -- or begins anew
@@ -96,7 +96,7 @@ module _ (n : ℕ) (table : Table) (x : Control) (sought : Sought) (p : Caller) 
   swept_anew q = sweep_begins table.start.layout (at_head sought.list.head) (drop n q.made)
 
   -- the list goes on being walked
-  go_on : (seek seek' : Seek) (q : Caller) (m : Made) → q.made ≡ p.made ++ m ∷ [] → Stays p q → IsSeeking n table x sought seek p → Sweeps q (cell (spot_of seek')) → IsAt n table x sought seek' q → IsSeeking n table x sought seek' q
+  go_on : (seek seek' : SeekState) (q : Caller) (m : Made) → q.made ≡ p.made ++ m ∷ [] → Stays p q → IsSeeking n table x sought seek p → Sweeps q (cell (spot_of seek')) → IsAt n table x sought seek' q → IsSeeking n table x sought seek' q
   go_on seek seek' q m made stays is swept at = record {
     counted = let b = is.counted in omega (arith, ap length made, length-append p.made (m ∷ []));
     on = subst IsOn (sym stays.guard) is.on;
@@ -107,14 +107,14 @@ module _ (n : ℕ) (table : Table) (x : Control) (sought : Sought) (p : Caller) 
   }
 
   -- what is to be done after a spot was passed
-  next_answers : (target' : Target) → sought.target ≡ target' → (seek : Seek) (b : Before) (q : Caller) (m : Made) → q.made ≡ p.made ++ m ∷ [] → Stays p q → IsSeeking n table x sought seek p → q.cut ≡ None
+  next_answers : (target' : Target) → sought.target ≡ target' → (seek : SeekState) (b : Before) (q : Caller) (m : Made) → q.made ≡ p.made ++ m ∷ [] → Stays p q → IsSeeking n table x sought seek p → q.cut ≡ None
       → IsPassed n table.start.layout x sought b q → Sweeps q (cell b.spot) → left_of b.spot q * 16 + 12 < seek_left seek p
       → SeekAnswers n table x sought seek (next_seek b target').0 p q (next_seek b target').1
-  next_answers None is seek b q m made stays at none passed swept low = cond_both (eqb b.link.row 0) (Load b.spot, Done (There b)) (Passing b, More) (λ (z : Seek × Progress SeekEnd). SeekAnswers n table x sought seek z.0 p q z.1)
+  next_answers None is seek b q m made stays at none passed swept low = cond_both (eqb b.link.row 0) (Load b.spot, Done (There b)) (Passing b, More) (λ (z : SeekState × Progress SeekEnd). SeekAnswers n table x sought seek z.0 p q z.1)
       (λ yes. record { none = none; passed = passed; after = inl (eqb-true b.link.row 0 yes) })
       (λ no. let ne = eqb-false b.link.row 0 no in
       (go_on seek (Passing b) q m made stays at swept (none, record { passed = passed; some_row = omega arith; up_to = λ e on. subst (λ t. IsUpTo t e b.link.row) (sym is) tt }), inr (omega arith)))
-  next_answers (Some t) is seek b q m made stays at none passed swept low = cond_both (eqb b.link.row 0) (Load b.spot, Done (There b)) (Reading b 2, More) (λ (z : Seek × Progress SeekEnd). SeekAnswers n table x sought seek z.0 p q z.1)
+  next_answers (Some t) is seek b q m made stays at none passed swept low = cond_both (eqb b.link.row 0) (Load b.spot, Done (There b)) (Reading b 2, More) (λ (z : SeekState × Progress SeekEnd). SeekAnswers n table x sought seek z.0 p q z.1)
       (λ yes. record { none = none; passed = passed; after = inl (eqb-true b.link.row 0 yes) })
       (λ no. let ne = eqb-false b.link.row 0 no in
       (go_on seek (Reading b 2) q m made stays at swept (none, passed, omega arith, omega arith, omega arith, (t, is, λ e on. (λ n. absurd (omega arith), λ n. absurd (omega arith)))), inr (omega arith)))
@@ -318,7 +318,7 @@ module _ (n : ℕ) (table : Table) (x : Control) (sought : Sought) (p : Caller) 
       timed = λ no. absurd (cc);
     }
 
-    read_goes : (seek' : Seek) → spot_of seek' ≡ b.spot → IsAt n table x sought seek' (read_of b.link.row place word) → IsSeeking n table x sought seek' (read_of b.link.row place word)
+    read_goes : (seek' : SeekState) → spot_of seek' ≡ b.spot → IsAt n table x sought seek' (read_of b.link.row place word) → IsSeeking n table x sought seek' (read_of b.link.row place word)
     read_goes seek' spot there = go_on (Reading b place) seek' (read_of b.link.row place word) (read_made b.link.row place word) refl (record { number = refl; start = refl; deal = refl; found = refl; guard = refl }) at
         (subst (λ s. Sweeps (read_of b.link.row place word) (cell s)) (sym spot) (swept_on (Reading b place) (read_of b.link.row place word) (read_made b.link.row place word) refl at)) there
 
@@ -332,7 +332,7 @@ module _ (n : ℕ) (table : Table) (x : Control) (sought : Sought) (p : Caller) 
     far_same (Head h) = refl
     far_same (Row r) = refl
 
-    read_told : (seek' : Seek) (answer : Progress SeekEnd) → SeekAnswers n table x sought (Reading b place) seek' p (read_of b.link.row place word) answer
+    read_told : (seek' : SeekState) (answer : Progress SeekEnd) → SeekAnswers n table x sought (Reading b place) seek' p (read_of b.link.row place word) answer
         → Told n table x sought (Reading b place) seek' p (read_of b.link.row place word) answer
     read_told seek' answer answers = record { works = read_works; own = refl; written = refl; owed = inr refl; answers = answers }
 
@@ -439,7 +439,7 @@ module _ (n : ℕ) (table : Table) (x : Control) (sought : Sought) (p : Caller) 
 
 module _ (n : ℕ) (table : Table) (x : Control) (sought : Sought) (old new : Pass) where
   -- a load or a store leaves what the pass has at run time
-  stepped : (seek seek' : Seek) (q : Caller) (answer : Progress SeekEnd) → IsPassOf table new → new ≡ record old { seat = new.seat } → caller table new ≡ q → seek_exchanges seek ≡ false
+  stepped : (seek seek' : SeekState) (q : Caller) (answer : Progress SeekEnd) → IsPassOf table new → new ≡ record old { seat = new.seat } → caller table new ≡ q → seek_exchanges seek ≡ false
       → Told n table x sought seek seek' (caller table old) q answer → SeekStepped n table x sought seek seek' old new answer
   stepped seek seek' q answer is same part loads at = let told = subst (λ z. Told n table x sought seek seek' (caller table old) z answer) (sym part) at in record {
     is = is;
@@ -454,7 +454,7 @@ module _ (n : ℕ) (table : Table) (x : Control) (sought : Sought) (old new : Pa
     answers = told.answers;
   }
 
-  exchanged : (b : Before) (last : Link) (won : Bool) (seek' : Seek) (q : Caller) (answer : Progress SeekEnd) → CutSwapped table old new (cell b.spot) b.link last won → caller table new ≡ q
+  exchanged : (b : Before) (last : Link) (won : Bool) (seek' : SeekState) (q : Caller) (answer : Progress SeekEnd) → CutSwapped table old new (cell b.spot) b.link last won → caller table new ≡ q
       → Told n table x sought (Cutting b last) seek' (caller table old) q answer → SeekStepped n table x sought (Cutting b last) seek' old new answer
   exchanged b last won seek' q answer cut part at = let told = subst (λ z. Told n table x sought (Cutting b last) seek' (caller table old) z answer) (sym part) at in record {
     is = cut.swapped.is;
@@ -469,10 +469,10 @@ module _ (n : ℕ) (table : Table) (x : Control) (sought : Sought) (old new : Pa
     answers = told.answers;
   }
 
-  pub load_present : (spot : Spot) (l : Link) (to : Seek × Progress SeekEnd) → IsPassOf table old → Saw table old new (cell spot) false l → l.mark ≡ Val → to ≡ next_seek (record { spot = spot; link = l }) sought.target
+  pub load_present : (spot : Spot) (l : Link) (to : SeekState × Progress SeekEnd) → IsPassOf table old → Saw table old new (cell spot) false l → l.mark ≡ Val → to ≡ next_seek (record { spot = spot; link = l }) sought.target
       → IsSeeking n table x sought (Load spot) (caller table old) → SeekStepped n table x sought (Load spot) to.0 old new to.1
   load_present spot l to of saw present is at = let p = caller table old in let b : Before = record { spot = spot; link = l } in
-      subst (λ (z : Seek × Progress SeekEnd). SeekStepped n table x sought (Load spot) z.0 old new z.1) (sym is)
+      subst (λ (z : SeekState × Progress SeekEnd). SeekStepped n table x sought (Load spot) z.0 old new z.1) (sym is)
       (stepped (Load spot) (next_seek b sought.target).0 (seen n table x sought p spot l saw.event) (next_seek b sought.target).1 saw.is saw.same saw.part refl
       (load_val n table x sought p spot l saw.event at of.lawful (subst Lawful saw.part saw.is.lawful) saw.is_link present saw.next))
 
@@ -481,10 +481,10 @@ module _ (n : ℕ) (table : Table) (x : Control) (sought : Sought) (old new : Pa
   load_dead (Row r) l saw dead at = stepped (Load (Row r)) (Load (Head sought.list.head)) (seen n table x sought (caller table old) (Row r) l saw.event) More saw.is saw.same saw.part refl (load_del n table x sought (caller table old) r l saw.event at)
   load_dead (Head h) l saw dead at = absurd (val_del l (head_val n table x sought (caller table old) h l at.list_is at.at.1 saw.marked) dead)
 
-  pub pass_present : (b : Before) (l : Link) (to : Seek × Progress SeekEnd) → IsPassOf table old → Saw table old new (at_row b.link.row) false l → l.mark ≡ Val → to ≡ next_seek (record { spot = Row b.link.row; link = l }) sought.target
+  pub pass_present : (b : Before) (l : Link) (to : SeekState × Progress SeekEnd) → IsPassOf table old → Saw table old new (at_row b.link.row) false l → l.mark ≡ Val → to ≡ next_seek (record { spot = Row b.link.row; link = l }) sought.target
       → IsSeeking n table x sought (Passing b) (caller table old) → SeekStepped n table x sought (Passing b) to.0 old new to.1
   pass_present b l to of saw present is at = let p = caller table old in let a : Before = record { spot = Row b.link.row; link = l } in
-      subst (λ (z : Seek × Progress SeekEnd). SeekStepped n table x sought (Passing b) z.0 old new z.1) (sym is)
+      subst (λ (z : SeekState × Progress SeekEnd). SeekStepped n table x sought (Passing b) z.0 old new z.1) (sym is)
       (stepped (Passing b) (next_seek a sought.target).0 (seen n table x sought p (Row b.link.row) l saw.event) (next_seek a sought.target).1 saw.is saw.same saw.part refl
       (pass_val n table x sought p b l saw.event at of.lawful (subst Lawful saw.part saw.is.lawful) saw.is_link present saw.next))
 
@@ -516,7 +516,7 @@ module _ (n : ℕ) (table : Table) (x : Control) (sought : Sought) (old new : Pa
   module _ (b : Before) (place word : ℕ) (t : Event × ℕ) (is : sought.target ≡ Some t) (of : IsPassOf table old)
       (read : Stepped table old new (load_made Read (index table.start.layout (row_place b.link.row place)) word) stays)
       (tells : (e : Event) → StandsOn (caller table old).position.rows b.link.row e → word ≡ event_word e place) (at : IsSeeking n table x sought (Reading b place) (caller table old)) where
-    reads : (seek' : Seek) (answer : Progress SeekEnd) → Told n table x sought (Reading b place) seek' (caller table old) (read_of n table x sought (caller table old) b.link.row place word) answer
+    reads : (seek' : SeekState) (answer : Progress SeekEnd) → Told n table x sought (Reading b place) seek' (caller table old) (read_of n table x sought (caller table old) b.link.row place word) answer
         → SeekStepped n table x sought (Reading b place) seek' old new answer
     reads seek' answer told = stepped (Reading b place) seek' (read_of n table x sought (caller table old) b.link.row place word) answer read.is read.same read.part refl told
 
@@ -530,7 +530,7 @@ module _ (n : ℕ) (table : Table) (x : Control) (sought : Sought) (old new : Pa
     reads_past h = reads (Load b.spot) (Done (There b)) (read_past n table x sought (caller table old) b place word t is at of.lawful (subst Lawful read.part read.is.lawful) tells h)
 
 -- a step of a walk that is at this one of its states
-pub step_as : (table : Table) (sought : Sought) (old new : Pass) (seek at seek' : Seek) (answer : Progress SeekEnd) → seek ≡ at
+pub step_as : (table : Table) (sought : Sought) (old new : Pass) (seek at seek' : SeekState) (answer : Progress SeekEnd) → seek ≡ at
     → ((n : ℕ) (x : Control) → IsSeeking n table x sought at (caller table old) → SeekStepped n table x sought at seek' old new answer)
     → (n : ℕ) (x : Control) → IsSeeking n table x sought seek (caller table old) → SeekStepped n table x sought seek seek' old new answer
 step_as table sought old new seek at seek' answer is step n x h =
@@ -544,7 +544,7 @@ there_clean n table x sought b p law there d is at owed = let ahead = there.pass
     (λ past. let low = ahead.1 past.0 past.1 in let high : rank d.event d.row < rank past.0 b.link.row = subst (λ t. IsAfter t past.0 b.link.row) is past.2 fits.1 (omega arith) in omega arith) there.after
 
 -- the walk came to the place of its sought.target
-pub cut_ends : (n : ℕ) (table : Table) (x : Control) (op op' : CutOp) (b : Before) (old new : Pass) → SeekStepped n table x op.sought op.seek op'.seek old new (Done (There b)) → CutStepped n table x op op' old new (Done Clean)
+pub cut_ends : (n : ℕ) (table : Table) (x : Control) (op op' : CutOp) (b : Before) (old new : Pass) → SeekStepped n table x op.sought op.state op'.state old new (Done (There b)) → CutStepped n table x op op' old new (Done Clean)
 cut_ends n table x op op' b old new at = record {
   is = at.is;
   works = at.works;

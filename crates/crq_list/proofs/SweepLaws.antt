@@ -1,9 +1,15 @@
 -- A sweep goes on with each step, and passes the cell at which it is where that was found present.
-use Rattle.std.proofs.Common.{◌≡◌, ⊎_elim, inl, inr, ℕ, ◌≤◌, List, [], ◌∷◌, ◌++◌, length, drop, refl, sym, ap, ◌∙◌, subst}
+use Rattle.std.proofs.Common.{◌≡◌, ⊎_elim, inl, inr, ℕ, ◌<◌, ◌≤◌, List, [], ◌∷◌, ◌++◌, length, drop, refl, sym, ap, ◌∙◌, subst, arith}
+use Rattle.crq_base.specs.declared.kinds.StepKind.TheVariants.{Walk, Cut}
 use Rattle.crq_base.specs.declared.words.Link.{Link}
+use Rattle.crq_base.specs.declared.words.Mark.{Mark}
+use Rattle.crq_base.specs.declared.words.Mark.TheVariants.{Val, Del}
+use Rattle.crq_base.specs.Words.{link_word}
 use Rattle.crq_rule.specs.declared.layout.Layout.{Layout}
 use Rattle.crq_rule.specs.declared.view.Made.{Made}
-use Rattle.crq_rule.specs.Ranks.{Cell, at_row}
+use Rattle.crq_rule.specs.Places.{index}
+use Rattle.crq_rule.specs.Ranks.{Cell, at_head, at_row, cell_place}
+use Rattle.crq_rows.specs.Passes.{load_made, step_made}
 use Rattle.crq_rows.proofs.Knowing.{drop_snoc}
 use Rattle.crq_list.specs.Sweeps.{FindsPresent, SweepsTo}
 
@@ -31,3 +37,19 @@ module _ (n : ℕ) (made made' : List Made) (m : Made) (is : made' ≡ made ++ m
   -- or takes it on
   pub sweep_passes : (l : Layout) (a b : Cell) (found : Link) → FindsPresent l b m found → SweepsTo l a (drop n made) b → SweepsTo l a (drop n made') (at_row found.row)
   sweep_passes l a b found finds s = subst (λ ms. SweepsTo l a ms (at_row found.row)) (sym since) (one_passed l a b (drop n made) m found finds s)
+
+-- A worked example: the head names row 5, which is dead and is cut, and after that it names row 7, the last one
+
+module _ (l : Layout) where
+  abbrev found : ℕ → Mark → Link
+  found row mark = record { generation = 1; row = row; mark = mark }
+
+  abbrev loads : Cell → Link → Made
+  loads cell link = load_made Walk (index l (cell_place cell)) (link_word link)
+
+  present : (cell : Cell) (row : ℕ) → row < 8 → FindsPresent l cell (loads cell (found row Val)) (found row Val)
+  present cell row low = record { load = refl; bits = record { generation = omega arith; row = omega arith }; present = refl }
+
+  example : SweepsTo l (at_head 0) (loads (at_head 0) (found 5 Val) ∷ loads (at_row 5) (found 7 Del) ∷ step_made Cut (index l (cell_place (at_head 0))) (link_word (found 5 Val)) (link_word (found 7 Val)) (link_word (found 5 Val))
+      ∷ loads (at_head 0) (found 7 Val) ∷ loads (at_row 7) (found 0 Val) ∷ []) (at_row 0)
+  example = inl (inl (inl (inr (found 7 Val, present (at_head 0) 7 (omega arith), inr (found 0 Val, present (at_row 7) 0 (omega arith), refl)))))

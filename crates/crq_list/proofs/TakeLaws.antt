@@ -34,8 +34,8 @@ use Rattle.crq_list.specs.declared.parts.Progress.TheVariants.{More, Done}
 use Rattle.crq_list.specs.declared.take.MarkEnd.{MarkEnd}
 use Rattle.crq_list.specs.declared.take.MarkEnd.TheVariants.{Marked, Beyond, Nothing, Lost}
 use Rattle.crq_list.specs.declared.take.TakeOp.{TakeOp}
-use Rattle.crq_list.specs.declared.take.Taking.{Taking}
-use Rattle.crq_list.specs.declared.take.Taking.TheVariants.{Load, Walking, Reading, Marking}
+use Rattle.crq_list.specs.declared.take.TakeState.{TakeState}
+use Rattle.crq_list.specs.declared.take.TakeState.TheVariants.{Load, Walking, Reading, Marking}
 use Rattle.crq_rows.proofs.Knowing.{known_here, known_else}
 use Rattle.crq_rows.proofs.Working.{plain_no_tick}
 use Rattle.crq_list.proofs.StepLaws.{marks_apart}
@@ -108,7 +108,7 @@ pub record Loads (table : Table) (old new : Pass) (m : Made) (a : Position) (w :
   pub load : is_exchange m.kind ≡ false
   pub part : caller table new ≡ makes m (moved a w None (caller table old))
 
-module _ (n : ℕ) (table : Table) (x : Control) (op : TakeOp) (s : Taking) (old new : Pass) (m : Made) (a : Position) (w : Option Walk) (h : Loads table old new m a w) (no : taking_exchanges s ≡ false)
+module _ (n : ℕ) (table : Table) (x : Control) (op : TakeOp) (s : TakeState) (old new : Pass) (m : Made) (a : Position) (w : Option Walk) (h : Loads table old new m a w) (no : taking_exchanges s ≡ false)
     (t : IsTaking n table x (record op { state = s }) (caller table old)) where
   abbrev before : Caller
   before = caller table old
@@ -119,7 +119,7 @@ module _ (n : ℕ) (table : Table) (x : Control) (op : TakeOp) (s : Taking) (old
   abbrev is_op : TakeOp
   is_op = record op { state = s }
 
-  taken : (s' : Taking) → ((r : ℕ) (l : Link) (e : Event) → s' ≡ Marking r l e → e.time < op.limit) → IsTakingAt n table s' now → IsTaking n table x (record op { state = s' }) now
+  taken : (s' : TakeState) → ((r : ℕ) (l : Link) (e : Event) → s' ≡ Marking r l e → e.time < op.limit) → IsTakingAt n table s' now → IsTaking n table x (record op { state = s' }) now
   taken s' below at = record {
     counted = let c = t.counted in let longer = length-append before.made (m ∷ []) in omega arith;
     on = t.on;
@@ -153,7 +153,7 @@ module _ (n : ℕ) (table : Table) (x : Control) (op : TakeOp) (s : Taking) (old
   }
 
   -- it goes on
-  pub more : (s' : Taking) → ((r : ℕ) (l : Link) (e : Event) → s' ≡ Marking r l e → e.time < op.limit) → IsTakingAt n table s' now → taking_left s' now < taking_left s before
+  pub more : (s' : TakeState) → ((r : ℕ) (l : Link) (e : Event) → s' ≡ Marking r l e → e.time < op.limit) → IsTakingAt n table s' now → taking_left s' now < taking_left s before
       → TakeStepped n table x is_op (record op { state = s' }) old new More
   more s' below at less = loaded (record op { state = s' }) More (
     subst (IsTaking n table x (record op { state = s' })) (sym h.part) (taken s' below at),
@@ -210,11 +210,11 @@ saw_loads table old new cell l saw w free walks = let p = caller table old in le
 }
 
 -- what is answered after a head or row that was passed
-abbrev Onward : Link → Taking × Progress MarkEnd → Type 0
+abbrev Onward : Link → TakeState × Progress MarkEnd → Type 0
 Onward l r = ((l.row ≡ 0) × (r ≡ (Load, Done Nothing))) ⊎ ((0 < l.row) × (r ≡ (Walking l.row, More)))
 
 -- Load: the head is present
-pub head_stepped : (n : ℕ) (table : Table) (x : Control) (op : TakeOp) (old new : Pass) (l : Link) (r : Taking × Progress MarkEnd) → Saw table old new (at_head op.head) true l → l.mark ≡ Val → Onward l r
+pub head_stepped : (n : ℕ) (table : Table) (x : Control) (op : TakeOp) (old new : Pass) (l : Link) (r : TakeState × Progress MarkEnd) → Saw table old new (at_head op.head) true l → l.mark ≡ Val → Onward l r
     → IsTaking n table x (record op { state = Load }) (caller table old) → TakeStepped n table x (record op { state = Load }) (record op { state = r.0 }) old new r.1
 head_stepped n table x op old new l r saw val onward t = let y : Walk = record { head = op.head; at = l.row } in
     let h = saw_loads table old new (at_head op.head) l saw (Some y) t.free (ap (λ b. cond (is_val b) (Some y) None) val) in ⊎_elim
@@ -234,7 +234,7 @@ stands : (ss : List Stand) (r : ℕ) → In r (rows_of ss) → (e : Event) × St
 stands ss r i = let s = in_rows ss r i in (s.0.event, (s.0, s.1, s.2, refl))
 
 -- Walking: the row is dead
-pub dead_stepped : (n : ℕ) (table : Table) (x : Control) (op : TakeOp) (r : ℕ) (old new : Pass) (l : Link) (to : Taking × Progress MarkEnd) → Saw table old new (at_row r) true l → is_passed l.mark ≡ true → Onward l to
+pub dead_stepped : (n : ℕ) (table : Table) (x : Control) (op : TakeOp) (r : ℕ) (old new : Pass) (l : Link) (to : TakeState × Progress MarkEnd) → Saw table old new (at_row r) true l → is_passed l.mark ≡ true → Onward l to
     → IsTaking n table x (record op { state = Walking r }) (caller table old) → TakeStepped n table x (record op { state = Walking r }) (record op { state = to.0 }) old new to.1
 dead_stepped n table x op r old new l to saw dead onward t = let p = caller table old in let ss = p.position.rows in let e = saw.event in let y : Walk = record t.at.0 { at = l.row } in let i = stood ss r t.at.4 in
     let h = saw_loads table old new (at_row r) l saw (Some y) t.free (ap (walk_after (at_row r) true l) t.at.1 ∙ ap (λ b. Some (cond b y t.at.0)) dead) in ⊎_elim
@@ -366,11 +366,11 @@ module _ (n : ℕ) (table : Table) (x : Control) (op : TakeOp) (r : ℕ) (l : Li
     )
 
 -- the step of the state at which the take is
-pub step_is : (n : ℕ) (table : Table) (x : Control) (op : TakeOp) (s : Taking) (old new after : Pass) (to answer : Taking × Progress MarkEnd) → op.state ≡ s → after ≡ new → answer ≡ to
+pub step_is : (n : ℕ) (table : Table) (x : Control) (op : TakeOp) (s : TakeState) (old new after : Pass) (to answer : TakeState × Progress MarkEnd) → op.state ≡ s → after ≡ new → answer ≡ to
     → (IsTaking n table x (record op { state = s }) (caller table old) → TakeStepped n table x (record op { state = s }) (record op { state = to.0 }) old new to.1)
     → IsTaking n table x op (caller table old) → TakeStepped n table x op (record op { state = answer.0 }) old after answer.1
 step_is n table x op s old new after to answer at pass_is to_is step t =
     subst (λ z. TakeStepped n table x op (record op { state = answer.0 }) old z answer.1) (sym pass_is)
-    (subst (λ (z : Taking × Progress MarkEnd). TakeStepped n table x op (record op { state = z.0 }) old new z.1) (sym to_is)
+    (subst (λ (z : TakeState × Progress MarkEnd). TakeStepped n table x op (record op { state = z.0 }) old new z.1) (sym to_is)
     (subst (λ z. TakeStepped n table x (record op { state = z }) (record op { state = to.0 }) old new to.1) (sym at)
     (step (subst (λ z. IsTaking n table x (record op { state = z }) (caller table old)) at t))))

@@ -26,7 +26,7 @@ use Rattle.crq_list.specs.Seeking.{IsSeeking, seek_exchanges, seek_left}
 
 -- a caller that cuts the dead rows of a list of the table that it found
 abbrev pub IsCutting : ℕ → Table → Control → CutOp → Caller → Type 0
-IsCutting n table x op p = IsSeeking n table x op.sought op.seek p
+IsCutting n table x op p = IsSeeking n table x op.sought op.state p
 
 -- what a step of the walk says of the cut
 abbrev pub progress_of : Progress SeekEnd → Progress CutEnd
@@ -43,15 +43,15 @@ pub record HasSwept (n : ℕ) (l : Layout) (q : ℕ) (target : Target) (p : Call
 
 -- The list was swept up to the row asked for, and without one to its end. A dead row that was the target isn't owed any more
 abbrev pub CutAnswers : ℕ → Table → Control → CutOp → CutOp → Caller → Caller → Progress CutEnd → Type 0
-CutAnswers n table x op op' p q More = IsCutting n table x op' q × (op' ≡ record op { seek = op'.seek }) × ((seek_exchanges op.seek ≡ true) ⊎ (seek_left op'.seek q < seek_left op.seek p))
+CutAnswers n table x op op' p q More = IsCutting n table x op' q × (op' ≡ record op { state = op'.state }) × ((seek_exchanges op.state ≡ true) ⊎ (seek_left op'.state q < seek_left op.state p))
 CutAnswers n table x op op' p q (Done Clean) = (q.cut ≡ None) × ((d : CutDebt) → op.sought.target ≡ Some (d.event, d.row) → d.head ≡ op.sought.list.head → q.debts.cut ≡ Some d → ⊥) × HasSwept n table.start.layout op.sought.list.head op.sought.target q
 CutAnswers n table x op op' p q (Done Frozen) = ⊥
 
 -- one step of it was made
 pub record CutStepped (n : ℕ) (table : Table) (x : Control) (op op' : CutOp) (old new : Pass) (answer : Progress CutEnd) : Type 0 where
   pub is : IsPassOf table new
-  pub works : Works n (seek_exchanges op.seek) (caller table old) (caller table new)
-  pub turns : new.turns ≡ turns_after (seek_exchanges op.seek) old.turns
+  pub works : Works n (seek_exchanges op.state) (caller table old) (caller table new)
+  pub turns : new.turns ≡ turns_after (seek_exchanges op.state) old.turns
   pub number : new.number ≡ old.number
   pub free : new.free.items ≡ old.free.items
   pub debts : new.debts ≡ old.debts
@@ -60,7 +60,7 @@ pub record CutStepped (n : ℕ) (table : Table) (x : Control) (op op' : CutOp) (
   pub answers : CutAnswers n table x op op' (caller table old) (caller table new) answer
 
 abbrev pub cut_exchanges : CutOp → Bool
-cut_exchanges op = seek_exchanges op.seek
+cut_exchanges op = seek_exchanges op.state
 
 -- one step of it was made, and then maybe others that are no exchanges
 abbrev pub CutStretch : ℕ → Table → Control → CutOp → CutOp → Pass → Pass → Progress CutEnd → Type 0

@@ -16,9 +16,9 @@ use Rattle.crq_list.specs.declared.parts.Progress.TheVariants.{More, Done}
 use Rattle.crq_list.specs.declared.insert.InsertEnd.{InsertEnd}
 use Rattle.crq_list.specs.declared.insert.InsertEnd.TheVariants.{Linked, Frozen}
 use Rattle.crq_list.specs.declared.insert.InsertOp.{InsertOp}
-use Rattle.crq_list.specs.declared.insert.Inserting.{Inserting}
-use Rattle.crq_list.specs.declared.insert.Inserting.TheVariants.{Writing, Seeking, Placing, Linking}
-use Rattle.crq_list.specs.declared.seek.Seek.{Seek}
+use Rattle.crq_list.specs.declared.insert.InsertState.{InsertState}
+use Rattle.crq_list.specs.declared.insert.InsertState.TheVariants.{Writing, Seeking, Placing, Linking}
+use Rattle.crq_list.specs.declared.seek.SeekState.{SeekState}
 use Rattle.crq_list.specs.declared.seek.Sought.{Sought}
 use Rattle.crq_list.specs.declared.seek.SeekEnd.{SeekEnd}
 use Rattle.crq_list.specs.declared.seek.SeekEnd.TheVariants.{There, Frozen as FoundFrozen}
@@ -36,7 +36,7 @@ AreWritten written r e upto = (1 < upto → In (record { row = r; place = 1; wor
 abbrev pub sought_by : InsertOp → Sought
 sought_by op = record { list = op.list; target = Some (op.event, op.row) }
 
-abbrev pub IsInsertingAt : ℕ → Table → Control → InsertOp → Inserting → Caller → Type 0
+abbrev pub IsInsertingAt : ℕ → Table → Control → InsertOp → InsertState → Caller → Type 0
 IsInsertingAt n table x op (Writing place) p = (p.cut ≡ None) × (1 ≤ place) × (place < 6) × AreWritten p.written op.row op.event place
 IsInsertingAt n table x op (Seeking seek) p = IsSeeking n table x (sought_by op) seek p × AreWritten p.written op.row op.event 6
 IsInsertingAt n table x op (Placing b) p = IsThere n table x (sought_by op) b p × AreWritten p.written op.row op.event 6
@@ -53,7 +53,7 @@ pub record IsInserting (n : ℕ) (table : Table) (x : Control) (op : InsertOp) (
   pub fresh : IsFresh table.start.layout.workers p.deal.history p.own p.deal.span p.number op.event
   pub at : IsInsertingAt n table x op op.state p
 
-abbrev pub state_exchanges : Inserting → Bool
+abbrev pub state_exchanges : InsertState → Bool
 state_exchanges (Writing place) = false
 state_exchanges (Seeking seek) = seek_exchanges seek
 state_exchanges (Placing b) = false
@@ -62,14 +62,14 @@ state_exchanges (Linking b) = true
 abbrev pub insert_exchanges : InsertOp → Bool
 insert_exchanges op = state_exchanges op.state
 
-abbrev pub state_left : Inserting → Caller → ℕ
+abbrev pub state_left : InsertState → Caller → ℕ
 state_left (Writing place) p = (2 ^ 160) * 32 + (16 - place)
 state_left (Seeking seek) p = seek_left seek p + 8
 state_left (Placing b) p = 2
 state_left (Linking b) p = 1
 
 -- what follows on steps of the walk, which is there
-abbrev pub after_seek : Seek → Progress SeekEnd → Inserting × Progress InsertEnd
+abbrev pub after_seek : SeekState → Progress SeekEnd → InsertState × Progress InsertEnd
 after_seek seek More = (Seeking seek, More)
 after_seek seek (Done (There b)) = (Placing b, More)
 after_seek seek (Done FoundFrozen) = (Seeking seek, Done Frozen)
@@ -100,5 +100,5 @@ InsertStretch n table x = Stretch InsertOp (Progress InsertEnd) (InsertStepped n
 abbrev pub the_insertion : Operation InsertOp InsertEnd
 the_insertion = record { at = IsInserting; stepped = InsertStepped; exchanges = insert_exchanges }
 
-abbrev pub insertion_at : InsertOp → Inserting → InsertOp
+abbrev pub insertion_at : InsertOp → InsertState → InsertOp
 insertion_at op state = record op { state = state }

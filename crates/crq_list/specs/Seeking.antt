@@ -17,8 +17,8 @@ use Rattle.crq_rows.specs.Passes.{caller, IsPassOf}
 use Rattle.crq_list.specs.declared.parts.Spot.{Spot}
 use Rattle.crq_list.specs.declared.parts.Spot.TheVariants.{Head, Row}
 use Rattle.crq_list.specs.declared.parts.Before.{Before}
-use Rattle.crq_list.specs.declared.seek.Seek.{Seek}
-use Rattle.crq_list.specs.declared.seek.Seek.TheVariants.{Load, Reading, Passing, Cutting, Tagging, Retiring}
+use Rattle.crq_list.specs.declared.seek.SeekState.{SeekState}
+use Rattle.crq_list.specs.declared.seek.SeekState.TheVariants.{Load, Reading, Passing, Cutting, Tagging, Retiring}
 use Rattle.crq_list.specs.declared.seek.Sought.{Sought}
 use Rattle.crq_list.specs.declared.seek.SeekEnd.{SeekEnd}
 use Rattle.crq_list.specs.declared.seek.SeekEnd.TheVariants.{There, Frozen}
@@ -40,7 +40,7 @@ pub record IsPassing (n : ℕ) (table : Table) (x : Control) (sought : Sought) (
   pub some_row : 0 < b.link.row
   pub up_to : (e : Event) → StandsOn p.position.rows b.link.row e → IsUpTo sought.target e b.link.row
 
-abbrev pub IsAt : ℕ → Table → Control → Sought → Seek → Caller → Type 0
+abbrev pub IsAt : ℕ → Table → Control → Sought → SeekState → Caller → Type 0
 IsAt n table x sought (Load spot) p = (p.cut ≡ None) × IsReached x sought.list.head sought.target spot p
 IsAt n table x sought (Reading b place) p = (p.cut ≡ None) × IsPassed n table.start.layout x sought b p × (0 < b.link.row) × (2 ≤ place) × (place < 5)
     × ((t : Event × ℕ) × (sought.target ≡ Some t) × ((e : Event) → StandsOn p.position.rows b.link.row e → HasRead place e t.0))
@@ -50,7 +50,7 @@ IsAt n table x sought (Tagging spot row) p = IsReached x sought.list.head sought
 IsAt n table x sought (Retiring spot row tag) p = IsReached x sought.list.head sought.target spot p × ((y : CutRow) × (p.cut ≡ Some y) × (y.row ≡ row) × In tag y.tags)
 
 -- the spot at which the walk is
-abbrev pub spot_of : Seek → Spot
+abbrev pub spot_of : SeekState → Spot
 spot_of (Load spot) = spot
 spot_of (Reading b place) = b.spot
 spot_of (Passing b) = b.spot
@@ -59,7 +59,7 @@ spot_of (Tagging spot row) = spot
 spot_of (Retiring spot row tag) = spot
 
 -- a caller that walks the list of the target, whose control word it found. Its steps since the first n are a sweep to the spot at which it is
-pub record IsSeeking (n : ℕ) (table : Table) (x : Control) (sought : Sought) (seek : Seek) (p : Caller) : Type 0 where
+pub record IsSeeking (n : ℕ) (table : Table) (x : Control) (sought : Sought) (seek : SeekState) (p : Caller) : Type 0 where
   pub counted : n ≤ length p.made
   pub on : IsOn p.guard
   pub list_is : IsListOf x sought.list p
@@ -68,7 +68,7 @@ pub record IsSeeking (n : ℕ) (table : Table) (x : Control) (sought : Sought) (
   pub at : IsAt n table x sought seek p
 
 -- after a spot was passed: what is to be done next, and what is answered
-abbrev pub next_seek : Before → Target → Seek × Progress SeekEnd
+abbrev pub next_seek : Before → Target → SeekState × Progress SeekEnd
 next_seek b None = cond (b.link.row == 0) (Load b.spot, Done (There b)) (Passing b, More)
 next_seek b (Some t) = cond (b.link.row == 0) (Load b.spot, Done (There b)) (Reading b 2, More)
 
@@ -80,12 +80,12 @@ abbrev pub part_of : ℕ → ℕ → ℕ
 part_of word place = cond (place == 2) (word / 2 ^ 32) word
 
 -- whether its next step is an exchange
-abbrev pub seek_exchanges : Seek → Bool
+abbrev pub seek_exchanges : SeekState → Bool
 seek_exchanges (Cutting b last) = true
 seek_exchanges _ = false
 
 -- what is left to do until the next exchange: of the list, and of the present row
-abbrev pub seek_left : Seek → Caller → ℕ
+abbrev pub seek_left : SeekState → Caller → ℕ
 seek_left (Load (Head q)) p = (2 ^ 160) * 16 + 15
 seek_left (Load (Row r)) p = (2 ^ 160) * 16 + 20
 seek_left (Reading b place) p = left_of b.spot p * 16 + (14 - place)
@@ -100,13 +100,13 @@ pub record IsThere (n : ℕ) (table : Table) (x : Control) (sought : Sought) (b 
   pub passed : IsPassed n table.start.layout x sought b p
   pub after : (b.link.row ≡ 0) ⊎ ((e : Event) × StandsOn p.position.rows b.link.row e × IsAfter sought.target e b.link.row)
 
-abbrev pub SeekAnswers : ℕ → Table → Control → Sought → Seek → Seek → Caller → Caller → Progress SeekEnd → Type 0
+abbrev pub SeekAnswers : ℕ → Table → Control → Sought → SeekState → SeekState → Caller → Caller → Progress SeekEnd → Type 0
 SeekAnswers n table x sought seek seek' p q More = IsSeeking n table x sought seek' q × ((seek_exchanges seek ≡ true) ⊎ (seek_left seek' q < seek_left seek p))
 SeekAnswers n table x sought seek seek' p q (Done (There b)) = IsThere n table x sought b q
 SeekAnswers n table x sought seek seek' p q (Done Frozen) = ⊥
 
 -- one step of it was made: the caller's entries, rows in hand, words written and run-time state stay, but for a dead row that isn't owed any more
-pub record SeekStepped (n : ℕ) (table : Table) (x : Control) (sought : Sought) (seek seek' : Seek) (old new : Pass) (answer : Progress SeekEnd) : Type 0 where
+pub record SeekStepped (n : ℕ) (table : Table) (x : Control) (sought : Sought) (seek seek' : SeekState) (old new : Pass) (answer : Progress SeekEnd) : Type 0 where
   pub is : IsPassOf table new
   pub works : Works n (seek_exchanges seek) (caller table old) (caller table new)
   pub turns : new.turns ≡ turns_after (seek_exchanges seek) old.turns
@@ -119,11 +119,11 @@ pub record SeekStepped (n : ℕ) (table : Table) (x : Control) (sought : Sought)
   pub answers : SeekAnswers n table x sought seek seek' (caller table old) (caller table new) answer
 
 -- one step of it was made, and then maybe others that are no exchanges
-abbrev pub SeekStretch : ℕ → Table → Control → Sought → Seek → Seek → Pass → Pass → Progress SeekEnd → Type 0
-SeekStretch n table x sought = Stretch Seek (Progress SeekEnd) (SeekStepped n table x sought) seek_exchanges More
+abbrev pub SeekStretch : ℕ → Table → Control → Sought → SeekState → SeekState → Pass → Pass → Progress SeekEnd → Type 0
+SeekStretch n table x sought = Stretch SeekState (Progress SeekEnd) (SeekStepped n table x sought) seek_exchanges More
 
 -- the walk, as an operation
-abbrev pub the_walk : Sought → Operation Seek SeekEnd
+abbrev pub the_walk : Sought → Operation SeekState SeekEnd
 the_walk sought = record {
   at = λ n table x. IsSeeking n table x sought;
   stepped = λ n table x. SeekStepped n table x sought;

@@ -22,8 +22,8 @@ use Rattle.crq_list.specs.declared.parts.Progress.TheVariants.{More, Done}
 use Rattle.crq_list.specs.declared.take.MarkEnd.{MarkEnd}
 use Rattle.crq_list.specs.declared.take.MarkEnd.TheVariants.{Marked, Beyond, Nothing, Lost, Frozen}
 use Rattle.crq_list.specs.declared.take.TakeOp.{TakeOp}
-use Rattle.crq_list.specs.declared.take.Taking.{Taking}
-use Rattle.crq_list.specs.declared.take.Taking.TheVariants.{Load, Walking, Reading, Marking}
+use Rattle.crq_list.specs.declared.take.TakeState.{TakeState}
+use Rattle.crq_list.specs.declared.take.TakeState.TheVariants.{Load, Walking, Reading, Marking}
 use Rattle.crq_list.specs.Known.{is_exchange, Works, turns_after, last_known}
 use Rattle.crq_list.specs.Stretches.{Stretch}
 use Rattle.crq_list.specs.Operations.{Operation}
@@ -44,7 +44,7 @@ pub record IsPresent (n : ℕ) (table : Table) (r : ℕ) (l : Link) (p : Caller)
 abbrev pub IsRead : ℕ → Event → Event → Type 0
 IsRead place read e = (2 < place → (read.time ≡ e.time) × (read.dst ≡ e.dst)) × (3 < place → read.src ≡ e.src) × (4 < place → read.seq ≡ e.seq)
 
-abbrev pub IsTakingAt : ℕ → Table → Taking → Caller → Type 0
+abbrev pub IsTakingAt : ℕ → Table → TakeState → Caller → Type 0
 IsTakingAt n table Load p = Unit {0}
 IsTakingAt n table (Walking r) p = IsWalkAt p r
 IsTakingAt n table (Reading r l place read) p = IsPresent n table r l p × (2 ≤ place) × (place < 6) × ((e : Event) → StandsOn p.position.rows r e → IsRead place read e)
@@ -65,11 +65,11 @@ pub record IsTaking (n : ℕ) (table : Table) (x : Control) (op : TakeOp) (p : C
   pub below : (r : ℕ) (l : Link) (e : Event) → op.state ≡ Marking r l e → e.time < op.limit
   pub at : IsTakingAt n table op.state p
 
-abbrev pub taking_exchanges : Taking → Bool
+abbrev pub taking_exchanges : TakeState → Bool
 taking_exchanges (Marking r l e) = true
 taking_exchanges _ = false
 
-abbrev pub taking_left : Taking → Caller → ℕ
+abbrev pub taking_left : TakeState → Caller → ℕ
 taking_left Load p = (2 ^ 160) * 16 + 15
 taking_left (Walking r) p = (2 ^ 160 - rank_at p.position.rows r) * 16 + 12
 taking_left (Reading r l place read) p = (2 ^ 160 - rank_at p.position.rows r) * 16 + (11 - place)
@@ -116,5 +116,5 @@ TakeStretch n table x = Stretch TakeOp (Progress MarkEnd) (TakeStepped n table x
 abbrev pub the_take : Operation TakeOp MarkEnd
 the_take = record { at = IsTaking; stepped = TakeStepped; exchanges = take_exchanges }
 
-abbrev pub take_at : TakeOp → Taking → TakeOp
+abbrev pub take_at : TakeOp → TakeState → TakeOp
 take_at op state = record op { state = state }

@@ -1,14 +1,14 @@
 //! Cutting dead rows out of a list.
 ghost use Rattle.std.specs.Prelude.{◌≡◌, ℕ};
 ghost use Rattle.crq_rows.specs.Passes.{IsPassOf};
-ghost use Rattle.crq_list.specs.declared.seek.Seek.TheVariants.{Load};
+ghost use Rattle.crq_list.specs.declared.seek.SeekState.TheVariants.{Load};
 ghost use Rattle.crq_list.specs.declared.parts.Spot.TheVariants.{Head};
 ghost use Rattle.crq_list.specs.Seeking.{seek_exchanges};
 ghost use Rattle.crq_list.specs.Operations.{IsUnderWay, MakesStep, MakesSteps};
 ghost use Rattle.crq_list.specs.Cutting.{the_cut, progress_of};
 
 use crate::parts::{ListAt, Progress, Spot};
-use crate::seek::{Seek, SeekEnd, Sought};
+use crate::seek::{SeekEnd, SeekState, Sought};
 use crate::stretch::run_seek;
 use crq_base::Event;
 use crq_rows::{Pass, Table};
@@ -31,7 +31,7 @@ pub struct CutOp {
     /// The list, and up to which row of which event; none is the whole list.
     pub sought: Sought,
     /// How far it is.
-    pub seek: Seek,
+    pub state: SeekState,
 }
 
 /// What a step of the walk says of the cut.
@@ -49,19 +49,19 @@ fn progress_of(walked: Progress<SeekEnd>) -> Progress<CutEnd>
 impl CutOp {
     /// A cut that has made no step.
     pub fn new(list: ListAt, upto: Option<(Event, u32)>) -> CutOp
-        ensures { result ≡ record { sought = record { list = list; target = upto }; seek = Load (Head list.head) } }
+        ensures { result ≡ record { sought = record { list = list; target = upto }; state = Load (Head list.head) } }
     {
         CutOp {
             sought: Sought { list, target: upto },
-            seek: Seek::Load(Spot::Head(list.head)),
+            state: SeekState::Load(Spot::Head(list.head)),
         }
     }
 
     /// Whether the next step is an exchange.
     pub fn exchanges(&self) -> bool
-        ensures { result ≡ seek_exchanges self.now.seek }
+        ensures { result ≡ seek_exchanges self.now.state }
     {
-        self.seek.exchanges()
+        self.state.exchanges()
     }
 
     /// Makes one atomic step.
@@ -71,7 +71,7 @@ impl CutOp {
         requires op { IsUnderWay the_cut table.now (self.old, pass.old) }
         ensures { MakesStep the_cut table.now (self.old, pass.old) (self.new, pass.new) result }
     {
-        progress_of(self.seek.step(table, pass, &self.sought))
+        progress_of(self.state.step(table, pass, &self.sought))
     }
 
     /// Makes one atomic step or more, of which only the first may be an exchange: those that mostly follow on one another.
@@ -84,6 +84,6 @@ impl CutOp {
         if self.exchanges() {
             return self.step(table, pass);
         }
-        progress_of(run_seek(table, pass, &self.sought, &mut self.seek))
+        progress_of(run_seek(table, pass, &self.sought, &mut self.state))
     }
 }

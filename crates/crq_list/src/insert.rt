@@ -5,12 +5,12 @@ ghost use Rattle.crq_rows.specs.Passes.{IsPassOf};
 ghost use Rattle.crq_rule.specs.declared.pass.Pass.{Pass};
 ghost use Rattle.crq_list.specs.declared.parts.Progress.TheVariants.{More};
 ghost use Rattle.crq_list.specs.declared.insert.InsertOp.{InsertOp};
-ghost use Rattle.crq_list.specs.declared.insert.Inserting.TheVariants.{Writing, Seeking, Placing, Linking};
+ghost use Rattle.crq_list.specs.declared.insert.InsertState.TheVariants.{Writing, Seeking, Placing, Linking};
 ghost use Rattle.crq_list.specs.Operations.{IsUnderWay, MayGoOn, MakesStep, MakesSteps, GoesOn};
 ghost use Rattle.crq_list.specs.Inserting.{the_insertion, insertion_at, insert_exchanges, after_seek};
 
 use crate::parts::{Before, ListAt, Progress, Spot};
-use crate::seek::{Seek, SeekEnd, Sought};
+use crate::seek::{SeekEnd, SeekState, Sought};
 use crate::steps::link_step;
 use crate::stretch::run_seek;
 use crq_base::Event;
@@ -27,11 +27,11 @@ pub enum InsertEnd {
 
 /// How far an insertion is.
 #[derive(Clone, Copy, Debug, PartialEq, Eq)]
-pub enum Inserting {
+pub enum InsertState {
     /// The word at this place of the row is to be written: 1 for the twin, 2 to 5 for the event.
     Writing(u32),
     /// The row's place in the list is looked for.
-    Seeking(Seek),
+    Seeking(SeekState),
     /// The row's own link is to be written: it comes behind this spot.
     Placing(Before),
     /// The row is to be linked behind this spot.
@@ -49,7 +49,7 @@ pub struct InsertOp {
     /// The event.
     pub event: Event,
     /// How far it is.
-    pub state: Inserting,
+    pub state: InsertState,
 }
 
 /// The word of an event's row at a place: 1 for its twin, of which it has none, 2 for the event's time and destination, 3
@@ -74,7 +74,7 @@ fn write_word(
     pass: &mut Pass,
     op: &InsertOp,
     place: u32,
-) -> (Inserting, Progress<InsertEnd>)
+) -> (InsertState, Progress<InsertEnd>)
     requires of { IsPassOf table.now pass.old }
     requires op { IsUnderWay the_insertion table.now (insertion_at op.now (Writing place), pass.old) }
     ensures { MakesStep the_insertion table.now (insertion_at op.now (Writing place), pass.old) (insertion_at op.now result.0, pass.new) result.1 }
@@ -82,10 +82,10 @@ fn write_word(
     let word = word_at(&op.event, place);
     write_step(table, pass, op.row, place, word);
     if place < 5 {
-        (Inserting::Writing(place + 1), Progress::More)
+        (InsertState::Writing(place + 1), Progress::More)
     } else {
         (
-            Inserting::Seeking(Seek::Load(Spot::Head(op.list.head))),
+            InsertState::Seeking(SeekState::Load(Spot::Head(op.list.head))),
             Progress::More,
         )
     }
@@ -98,7 +98,7 @@ fn write_words(
     pass: &mut Pass,
     op: &InsertOp,
     first: u32,
-) -> (Inserting, Progress<InsertEnd>)
+) -> (InsertState, Progress<InsertEnd>)
     requires of { IsPassOf table.now pass.old }
     requires op { IsUnderWay the_insertion table.now (insertion_at op.now (Writing first), pass.old) }
     ensures { MakesSteps the_insertion table.now (insertion_at op.now (Writing first), pass.old) (insertion_at op.now result.0, pass.new) result.1 }
@@ -106,7 +106,7 @@ fn write_words(
     let mut place = first;
     loop {
         let told = write_word(table, pass, op, place);
-        let (Inserting::Writing(next), Progress::More) = told else {
+        let (InsertState::Writing(next), Progress::More) = told else {
             return told;
         };
         place = next;
@@ -115,14 +115,14 @@ fn write_words(
 
 /// What follows on steps of the walk, which is there.
 #[inline(always)]
-fn after_seek(seek: Seek, walked: Progress<SeekEnd>) -> (Inserting, Progress<InsertEnd>)
+fn after_seek(seek: SeekState, walked: Progress<SeekEnd>) -> (InsertState, Progress<InsertEnd>)
     ensures { result ≡ after_seek seek walked }
 {
     match walked {
-        Progress::More => (Inserting::Seeking(seek), Progress::More),
-        Progress::Done(SeekEnd::There(before)) => (Inserting::Placing(before), Progress::More),
+        Progress::More => (InsertState::Seeking(seek), Progress::More),
+        Progress::Done(SeekEnd::There(before)) => (InsertState::Placing(before), Progress::More),
         Progress::Done(SeekEnd::Frozen) => (
-            Inserting::Seeking(seek),
+            InsertState::Seeking(seek),
             Progress::Done(InsertEnd::Frozen),
         ),
     }
@@ -134,8 +134,8 @@ fn seek_place(
     table: &Table,
     pass: &mut Pass,
     op: &InsertOp,
-    seek: Seek,
-) -> (Inserting, Progress<InsertEnd>)
+    seek: SeekState,
+) -> (InsertState, Progress<InsertEnd>)
     requires of { IsPassOf table.now pass.old }
     requires op { IsUnderWay the_insertion table.now (insertion_at op.now (Seeking seek), pass.old) }
     ensures { MakesStep the_insertion table.now (insertion_at op.now (Seeking seek), pass.old) (insertion_at op.now result.0, pass.new) result.1 }
@@ -155,8 +155,8 @@ fn run_to_place(
     table: &Table,
     pass: &mut Pass,
     op: &InsertOp,
-    seek: Seek,
-) -> (Inserting, Progress<InsertEnd>)
+    seek: SeekState,
+) -> (InsertState, Progress<InsertEnd>)
     requires of { IsPassOf table.now pass.old }
     requires op { IsUnderWay the_insertion table.now (insertion_at op.now (Seeking seek), pass.old) }
     ensures { MakesSteps the_insertion table.now (insertion_at op.now (Seeking seek), pass.old) (insertion_at op.now result.0, pass.new) result.1 }
@@ -177,14 +177,14 @@ fn place_row(
     pass: &mut Pass,
     op: &InsertOp,
     before: Before,
-) -> (Inserting, Progress<InsertEnd>)
+) -> (InsertState, Progress<InsertEnd>)
     requires of { IsPassOf table.now pass.old }
     requires op { IsUnderWay the_insertion table.now (insertion_at op.now (Placing before), pass.old) }
     ensures { MakesStep the_insertion table.now (insertion_at op.now (Placing before), pass.old) (insertion_at op.now result.0, pass.new) result.1 }
 {
     let word = before.link.pack();
     write_step(table, pass, op.row, 0, word);
-    (Inserting::Linking(before), Progress::More)
+    (InsertState::Linking(before), Progress::More)
 }
 
 /// Links the row behind the spot, or walks the list anew where the spot's link has changed.
@@ -194,19 +194,19 @@ fn link_row(
     pass: &mut Pass,
     op: &InsertOp,
     before: Before,
-) -> (Inserting, Progress<InsertEnd>)
+) -> (InsertState, Progress<InsertEnd>)
     requires of { IsPassOf table.now pass.old }
     requires op { IsUnderWay the_insertion table.now (insertion_at op.now (Linking before), pass.old) }
     ensures { MakesStep the_insertion table.now (insertion_at op.now (Linking before), pass.old) (insertion_at op.now result.0, pass.new) result.1 }
 {
     if link_step(table, pass, before.spot, before.link, op.row, &op.event) {
         (
-            Inserting::Linking(before),
+            InsertState::Linking(before),
             Progress::Done(InsertEnd::Linked),
         )
     } else {
         (
-            Inserting::Seeking(Seek::Load(Spot::Head(op.list.head))),
+            InsertState::Seeking(SeekState::Load(Spot::Head(op.list.head))),
             Progress::More,
         )
     }
@@ -218,13 +218,13 @@ fn then_seek(
     table: &Table,
     pass: &mut Pass,
     op: &InsertOp,
-    told: (Inserting, Progress<InsertEnd>),
-) -> (Inserting, Progress<InsertEnd>)
+    told: (InsertState, Progress<InsertEnd>),
+) -> (InsertState, Progress<InsertEnd>)
     requires of { IsPassOf table.now pass.old }
     requires op { MayGoOn the_insertion table.now (insertion_at op.now told.0, pass.old) told.1 }
     ensures { GoesOn the_insertion table.now (insertion_at op.now told.0, pass.old) told.1 (insertion_at op.now result.0, pass.new) result.1 }
 {
-    let (Inserting::Seeking(seek), Progress::More) = told else {
+    let (InsertState::Seeking(seek), Progress::More) = told else {
         return told;
     };
     if seek.exchanges() {
@@ -239,20 +239,21 @@ fn then_place(
     table: &Table,
     pass: &mut Pass,
     op: &InsertOp,
-    told: (Inserting, Progress<InsertEnd>),
-) -> (Inserting, Progress<InsertEnd>)
+    told: (InsertState, Progress<InsertEnd>),
+) -> (InsertState, Progress<InsertEnd>)
     requires of { IsPassOf table.now pass.old }
     requires op { MayGoOn the_insertion table.now (insertion_at op.now told.0, pass.old) told.1 }
     ensures { GoesOn the_insertion table.now (insertion_at op.now told.0, pass.old) told.1 (insertion_at op.now result.0, pass.new) result.1 }
 {
-    let (Inserting::Placing(before), Progress::More) = told else {
+    let (InsertState::Placing(before), Progress::More) = told else {
         return told;
     };
     place_row(table, pass, op, before)
 }
 
 impl InsertOp {
-    /// An insertion that has made no step. `old` is the row of which this one is a copy: none for a put.
+    /// An insertion that has made no step. `old` is the row of which this one is a copy: none for a put. Over one list no row
+    /// is copied, and nothing reads it: it is there for tables whose rows move to a larger one.
     pub fn new(list: ListAt, row: u32, event: Event, old: Option<u32>) -> InsertOp
         ensures { result ≡ record { list = list; row = row; event = event; state = Writing 1 } }
     {
@@ -261,7 +262,7 @@ impl InsertOp {
             list,
             row,
             event,
-            state: Inserting::Writing(1),
+            state: InsertState::Writing(1),
         }
     }
 
@@ -270,9 +271,9 @@ impl InsertOp {
         ensures { result ≡ insert_exchanges self.now }
     {
         match self.state {
-            Inserting::Writing(_) | Inserting::Placing(_) => false,
-            Inserting::Seeking(seek) => seek.exchanges(),
-            Inserting::Linking(_) => true,
+            InsertState::Writing(_) | InsertState::Placing(_) => false,
+            InsertState::Seeking(seek) => seek.exchanges(),
+            InsertState::Linking(_) => true,
         }
     }
 
@@ -284,10 +285,10 @@ impl InsertOp {
         ensures { MakesStep the_insertion table.now (self.old, pass.old) (self.new, pass.new) result }
     {
         let (state, answer) = match self.state {
-            Inserting::Writing(place) => write_word(table, pass, self, place),
-            Inserting::Seeking(seek) => seek_place(table, pass, self, seek),
-            Inserting::Placing(before) => place_row(table, pass, self, before),
-            Inserting::Linking(before) => link_row(table, pass, self, before),
+            InsertState::Writing(place) => write_word(table, pass, self, place),
+            InsertState::Seeking(seek) => seek_place(table, pass, self, seek),
+            InsertState::Placing(before) => place_row(table, pass, self, before),
+            InsertState::Linking(before) => link_row(table, pass, self, before),
         };
         self.state = state;
         answer
@@ -295,16 +296,16 @@ impl InsertOp {
 
     /// Makes the next atomic step, or all that write words of the row where one of these is next.
     #[inline(always)]
-    fn next(&self, table: &Table, pass: &mut Pass) -> (Inserting, Progress<InsertEnd>)
+    fn next(&self, table: &Table, pass: &mut Pass) -> (InsertState, Progress<InsertEnd>)
         requires of { IsPassOf table.now pass.old }
         requires op { IsUnderWay the_insertion table.now (self.now, pass.old) }
         ensures { MakesSteps the_insertion table.now (self.now, pass.old) (insertion_at self.now result.0, pass.new) result.1 }
     {
         match self.state {
-            Inserting::Writing(place) => write_words(table, pass, self, place),
-            Inserting::Seeking(seek) => seek_place(table, pass, self, seek),
-            Inserting::Placing(before) => place_row(table, pass, self, before),
-            Inserting::Linking(before) => link_row(table, pass, self, before),
+            InsertState::Writing(place) => write_words(table, pass, self, place),
+            InsertState::Seeking(seek) => seek_place(table, pass, self, seek),
+            InsertState::Placing(before) => place_row(table, pass, self, before),
+            InsertState::Linking(before) => link_row(table, pass, self, before),
         }
     }
 

@@ -2,7 +2,7 @@
 ghost use Rattle.std.specs.Prelude.{◌≡◌, ◌<◌, ℕ};
 ghost use Rattle.crq_rows.specs.Passes.{IsPassOf};
 ghost use Rattle.crq_list.specs.declared.parts.Before.{Before};
-ghost use Rattle.crq_list.specs.declared.seek.Seek.TheVariants.{Load, Reading, Passing, Cutting, Tagging, Retiring};
+ghost use Rattle.crq_list.specs.declared.seek.SeekState.TheVariants.{Load, Reading, Passing, Cutting, Tagging, Retiring};
 ghost use Rattle.crq_list.specs.Operations.{IsUnderWay, MakesStep};
 ghost use Rattle.crq_list.specs.Seeking.{the_walk, seek_exchanges, next_seek, key_part, part_of};
 
@@ -14,7 +14,7 @@ use crq_rows::{Pass, Table, epoch_step, read_step, retire_step};
 /// A walk to the place of a target in a list, one atomic step at a time. Dead rows that it meets are cut out of the list
 /// and retired, each before the next.
 #[derive(Clone, Copy, Debug, PartialEq, Eq)]
-pub enum Seek {
+pub enum SeekState {
     /// The link of this spot is to be loaded.
     Load(Spot),
     /// Of the row that was found next, this word of the event is to be read.
@@ -51,18 +51,18 @@ pub enum SeekEnd {
 /// What is to be done after a spot was passed: to read of the next row, to load its link where all of the list is walked,
 /// or nothing more where there is none.
 #[inline(always)]
-fn next_of(before: Before, sought: &Sought) -> (Seek, Progress<SeekEnd>)
+fn next_of(before: Before, sought: &Sought) -> (SeekState, Progress<SeekEnd>)
     ensures { result ≡ next_seek before sought.now.target }
 {
     if before.link.row == 0 {
         return (
-            Seek::Load(before.spot),
+            SeekState::Load(before.spot),
             Progress::Done(SeekEnd::There(before)),
         );
     }
     match sought.target {
-        Some(_) => (Seek::Reading(before, 2), Progress::More),
-        None => (Seek::Passing(before), Progress::More),
+        Some(_) => (SeekState::Reading(before, 2), Progress::More),
+        None => (SeekState::Passing(before), Progress::More),
     }
 }
 
@@ -73,7 +73,7 @@ pub(crate) fn load(
     pass: &mut Pass,
     sought: &Sought,
     spot: Spot,
-) -> (Seek, Progress<SeekEnd>)
+) -> (SeekState, Progress<SeekEnd>)
     requires of { IsPassOf table.now pass.old }
     requires seek { IsUnderWay (the_walk sought.now) table.now (Load spot, pass.old) }
     ensures { MakesStep (the_walk sought.now) table.now (Load spot, pass.old) (result.0, pass.new) result.1 }
@@ -81,8 +81,11 @@ pub(crate) fn load(
     let link = walk_step(table, pass, spot, false);
     match link.mark {
         Mark::Val => next_of(Before { spot, link }, sought),
-        Mark::Del => (Seek::Load(Spot::Head(sought.list.head)), Progress::More),
-        _ => (Seek::Load(spot), Progress::Done(SeekEnd::Frozen)),
+        Mark::Del => (
+            SeekState::Load(Spot::Head(sought.list.head)),
+            Progress::More,
+        ),
+        _ => (SeekState::Load(spot), Progress::Done(SeekEnd::Frozen)),
     }
 }
 
@@ -114,7 +117,7 @@ pub(crate) fn read(
     sought: &Sought,
     before: Before,
     place: u32,
-) -> (Seek, Progress<SeekEnd>)
+) -> (SeekState, Progress<SeekEnd>)
     requires of { IsPassOf table.now pass.old }
     requires seek { IsUnderWay (the_walk sought.now) table.now (Reading before place, pass.old) }
     ensures stepped { MakesStep (the_walk sought.now) table.now (Reading before place, pass.old) (result.0, pass.new) result.1 }
@@ -126,22 +129,22 @@ pub(crate) fn read(
     let found = part_of(read_step(table, pass, before.link.row, place), place);
     let wanted = key_part(event, place);
     if found < wanted {
-        return (Seek::Passing(before), Progress::More);
+        return (SeekState::Passing(before), Progress::More);
     }
     if found > wanted {
         return (
-            Seek::Load(before.spot),
+            SeekState::Load(before.spot),
             Progress::Done(SeekEnd::There(before)),
         );
     }
     if place < 4 {
-        return (Seek::Reading(before, place + 1), Progress::More);
+        return (SeekState::Reading(before, place + 1), Progress::More);
     }
     if before.link.row <= *row {
-        return (Seek::Passing(before), Progress::More);
+        return (SeekState::Passing(before), Progress::More);
     }
     (
-        Seek::Load(before.spot),
+        SeekState::Load(before.spot),
         Progress::Done(SeekEnd::There(before)),
     )
 }
@@ -153,7 +156,7 @@ pub(crate) fn pass_row(
     pass: &mut Pass,
     sought: &Sought,
     before: Before,
-) -> (Seek, Progress<SeekEnd>)
+) -> (SeekState, Progress<SeekEnd>)
     requires of { IsPassOf table.now pass.old }
     requires seek { IsUnderWay (the_walk sought.now) table.now (Passing before, pass.old) }
     ensures { MakesStep (the_walk sought.now) table.now (Passing before, pass.old) (result.0, pass.new) result.1 }
@@ -162,8 +165,8 @@ pub(crate) fn pass_row(
     let link = walk_step(table, pass, spot, false);
     match link.mark {
         Mark::Val => next_of(Before { spot, link }, sought),
-        Mark::Del => (Seek::Cutting(before, link), Progress::More),
-        _ => (Seek::Load(spot), Progress::Done(SeekEnd::Frozen)),
+        Mark::Del => (SeekState::Cutting(before, link), Progress::More),
+        _ => (SeekState::Load(spot), Progress::Done(SeekEnd::Frozen)),
     }
 }
 
@@ -175,15 +178,21 @@ fn cut_row(
     sought: &Sought,
     before: Before,
     last: Link,
-) -> (Seek, Progress<SeekEnd>)
+) -> (SeekState, Progress<SeekEnd>)
     requires of { IsPassOf table.now pass.old }
     requires seek { IsUnderWay (the_walk sought.now) table.now (Cutting before last, pass.old) }
     ensures { MakesStep (the_walk sought.now) table.now (Cutting before last, pass.old) (result.0, pass.new) result.1 }
 {
     if cut_step(table, pass, before.spot, before.link, last) {
-        (Seek::Tagging(before.spot, before.link.row), Progress::More)
+        (
+            SeekState::Tagging(before.spot, before.link.row),
+            Progress::More,
+        )
     } else {
-        (Seek::Load(Spot::Head(sought.list.head)), Progress::More)
+        (
+            SeekState::Load(Spot::Head(sought.list.head)),
+            Progress::More,
+        )
     }
 }
 
@@ -195,13 +204,13 @@ pub(crate) fn tag(
     sought: &Sought,
     spot: Spot,
     row: u32,
-) -> (Seek, Progress<SeekEnd>)
+) -> (SeekState, Progress<SeekEnd>)
     requires of { IsPassOf table.now pass.old }
     requires seek { IsUnderWay (the_walk sought.now) table.now (Tagging spot row, pass.old) }
     ensures { MakesStep (the_walk sought.now) table.now (Tagging spot row, pass.old) (result.0, pass.new) result.1 }
 {
     let epoch = epoch_step(table, pass);
-    (Seek::Retiring(spot, row, epoch), Progress::More)
+    (SeekState::Retiring(spot, row, epoch), Progress::More)
 }
 
 /// Retires the row that was cut, and goes on behind the spot.
@@ -213,21 +222,21 @@ pub(crate) fn retire(
     spot: Spot,
     row: u32,
     epoch: u64,
-) -> (Seek, Progress<SeekEnd>)
+) -> (SeekState, Progress<SeekEnd>)
     requires of { IsPassOf table.now pass.old }
     requires seek { IsUnderWay (the_walk sought.now) table.now (Retiring spot row epoch, pass.old) }
     ensures { MakesStep (the_walk sought.now) table.now (Retiring spot row epoch, pass.old) (result.0, pass.new) result.1 }
 {
     retire_step(table, pass, row, epoch);
-    (Seek::Load(spot), Progress::More)
+    (SeekState::Load(spot), Progress::More)
 }
 
-impl Seek {
+impl SeekState {
     /// Whether the next step is an exchange.
     pub(crate) fn exchanges(&self) -> bool
         ensures { result ≡ seek_exchanges self.now }
     {
-        matches!(self, Seek::Cutting(_, _))
+        matches!(self, SeekState::Cutting(_, _))
     }
 
     /// Makes one atomic step.
@@ -243,12 +252,12 @@ impl Seek {
         ensures { MakesStep (the_walk sought.now) table.now (self.old, pass.old) (self.new, pass.new) result }
     {
         let (seek, answer) = match *self {
-            Seek::Load(spot) => load(table, pass, sought, spot),
-            Seek::Reading(before, place) => read(table, pass, sought, before, place),
-            Seek::Passing(before) => pass_row(table, pass, sought, before),
-            Seek::Cutting(before, last) => cut_row(table, pass, sought, before, last),
-            Seek::Tagging(spot, row) => tag(table, pass, sought, spot, row),
-            Seek::Retiring(spot, row, epoch) => retire(table, pass, sought, spot, row, epoch),
+            SeekState::Load(spot) => load(table, pass, sought, spot),
+            SeekState::Reading(before, place) => read(table, pass, sought, before, place),
+            SeekState::Passing(before) => pass_row(table, pass, sought, before),
+            SeekState::Cutting(before, last) => cut_row(table, pass, sought, before, last),
+            SeekState::Tagging(spot, row) => tag(table, pass, sought, spot, row),
+            SeekState::Retiring(spot, row, epoch) => retire(table, pass, sought, spot, row, epoch),
         };
         *self = seek;
         answer

@@ -3,14 +3,14 @@
 ghost use Rattle.std.specs.Prelude.{◌≡◌, ℕ};
 ghost use Rattle.crq_rule.specs.declared.pass.Pass.{Pass};
 ghost use Rattle.crq_rows.specs.Passes.{IsPassOf};
-ghost use Rattle.crq_list.specs.declared.seek.Seek.{Seek};
-ghost use Rattle.crq_list.specs.declared.seek.Seek.TheVariants.{Reading, Passing};
+ghost use Rattle.crq_list.specs.declared.seek.SeekState.{SeekState};
+ghost use Rattle.crq_list.specs.declared.seek.SeekState.TheVariants.{Reading, Passing};
 ghost use Rattle.crq_list.specs.declared.parts.Progress.TheVariants.{More};
 ghost use Rattle.crq_list.specs.Operations.{IsUnderWay, MayGoOn, MakesSteps, GoesOn};
 ghost use Rattle.crq_list.specs.Seeking.{the_walk};
 
 use crate::parts::{Before, Progress};
-use crate::seek::{Seek, SeekEnd, Sought, load, pass_row, read, retire, tag};
+use crate::seek::{SeekEnd, SeekState, Sought, load, pass_row, read, retire, tag};
 use crq_rows::{Pass, Table};
 
 /// Reads words of the next row's event, from this one on, until it is known on which side of the target the row comes.
@@ -21,7 +21,7 @@ fn compare(
     sought: &Sought,
     before: Before,
     first: u32,
-) -> (Seek, Progress<SeekEnd>)
+) -> (SeekState, Progress<SeekEnd>)
     requires of { IsPassOf table.now pass.old }
     requires seek { IsUnderWay (the_walk sought.now) table.now (Reading before first, pass.old) }
     ensures { MakesSteps (the_walk sought.now) table.now (Reading before first, pass.old) (result.0, pass.new) result.1 }
@@ -29,7 +29,7 @@ fn compare(
     let mut place = first;
     loop {
         let told = read(table, pass, sought, before, place);
-        let (Seek::Reading(_, next), Progress::More) = told else {
+        let (SeekState::Reading(_, next), Progress::More) = told else {
             return told;
         };
         place = next;
@@ -44,7 +44,7 @@ fn pass_rows(
     pass: &mut Pass,
     sought: &Sought,
     before: Before,
-) -> (Seek, Progress<SeekEnd>)
+) -> (SeekState, Progress<SeekEnd>)
     requires of { IsPassOf table.now pass.old }
     requires seek { IsUnderWay (the_walk sought.now) table.now (Passing before, pass.old) }
     ensures { MakesSteps (the_walk sought.now) table.now (Passing before, pass.old) (result.0, pass.new) result.1 }
@@ -52,11 +52,11 @@ fn pass_rows(
     let mut before = before;
     loop {
         let told = pass_row(table, pass, sought, before);
-        let (Seek::Reading(next, place), Progress::More) = told else {
+        let (SeekState::Reading(next, place), Progress::More) = told else {
             return told;
         };
         let told = read(table, pass, sought, next, place);
-        let (Seek::Passing(_), Progress::More) = told else {
+        let (SeekState::Passing(_), Progress::More) = told else {
             return told;
         };
         before = next;
@@ -69,13 +69,13 @@ fn then_tag(
     table: &Table,
     pass: &mut Pass,
     sought: &Sought,
-    told: (Seek, Progress<SeekEnd>),
-) -> (Seek, Progress<SeekEnd>)
+    told: (SeekState, Progress<SeekEnd>),
+) -> (SeekState, Progress<SeekEnd>)
     requires of { IsPassOf table.now pass.old }
     requires seek { MayGoOn (the_walk sought.now) table.now (told.0, pass.old) told.1 }
     ensures { GoesOn (the_walk sought.now) table.now (told.0, pass.old) told.1 (result.0, pass.new) result.1 }
 {
-    let (Seek::Tagging(spot, row), Progress::More) = told else {
+    let (SeekState::Tagging(spot, row), Progress::More) = told else {
         return told;
     };
     tag(table, pass, sought, spot, row)
@@ -87,13 +87,13 @@ fn then_retire(
     table: &Table,
     pass: &mut Pass,
     sought: &Sought,
-    told: (Seek, Progress<SeekEnd>),
-) -> (Seek, Progress<SeekEnd>)
+    told: (SeekState, Progress<SeekEnd>),
+) -> (SeekState, Progress<SeekEnd>)
     requires of { IsPassOf table.now pass.old }
     requires seek { MayGoOn (the_walk sought.now) table.now (told.0, pass.old) told.1 }
     ensures { GoesOn (the_walk sought.now) table.now (told.0, pass.old) told.1 (result.0, pass.new) result.1 }
 {
-    let (Seek::Retiring(spot, row, epoch), Progress::More) = told else {
+    let (SeekState::Retiring(spot, row, epoch), Progress::More) = told else {
         return told;
     };
     retire(table, pass, sought, spot, row, epoch)
@@ -105,13 +105,13 @@ fn then_load(
     table: &Table,
     pass: &mut Pass,
     sought: &Sought,
-    told: (Seek, Progress<SeekEnd>),
-) -> (Seek, Progress<SeekEnd>)
+    told: (SeekState, Progress<SeekEnd>),
+) -> (SeekState, Progress<SeekEnd>)
     requires of { IsPassOf table.now pass.old }
     requires seek { MayGoOn (the_walk sought.now) table.now (told.0, pass.old) told.1 }
     ensures { GoesOn (the_walk sought.now) table.now (told.0, pass.old) told.1 (result.0, pass.new) result.1 }
 {
-    let (Seek::Load(spot), Progress::More) = told else {
+    let (SeekState::Load(spot), Progress::More) = told else {
         return told;
     };
     load(table, pass, sought, spot)
@@ -123,13 +123,13 @@ fn then_compare(
     table: &Table,
     pass: &mut Pass,
     sought: &Sought,
-    told: (Seek, Progress<SeekEnd>),
-) -> (Seek, Progress<SeekEnd>)
+    told: (SeekState, Progress<SeekEnd>),
+) -> (SeekState, Progress<SeekEnd>)
     requires of { IsPassOf table.now pass.old }
     requires seek { MayGoOn (the_walk sought.now) table.now (told.0, pass.old) told.1 }
     ensures { GoesOn (the_walk sought.now) table.now (told.0, pass.old) told.1 (result.0, pass.new) result.1 }
 {
-    let (Seek::Reading(before, place), Progress::More) = told else {
+    let (SeekState::Reading(before, place), Progress::More) = told else {
         return told;
     };
     compare(table, pass, sought, before, place)
@@ -141,13 +141,13 @@ fn then_pass(
     table: &Table,
     pass: &mut Pass,
     sought: &Sought,
-    told: (Seek, Progress<SeekEnd>),
-) -> (Seek, Progress<SeekEnd>)
+    told: (SeekState, Progress<SeekEnd>),
+) -> (SeekState, Progress<SeekEnd>)
     requires of { IsPassOf table.now pass.old }
     requires seek { MayGoOn (the_walk sought.now) table.now (told.0, pass.old) told.1 }
     ensures { GoesOn (the_walk sought.now) table.now (told.0, pass.old) told.1 (result.0, pass.new) result.1 }
 {
-    let (Seek::Passing(before), Progress::More) = told else {
+    let (SeekState::Passing(before), Progress::More) = told else {
         return told;
     };
     pass_rows(table, pass, sought, before)
@@ -159,7 +159,7 @@ pub(crate) fn run_seek(
     table: &Table,
     pass: &mut Pass,
     sought: &Sought,
-    seek: &mut Seek,
+    seek: &mut SeekState,
 ) -> Progress<SeekEnd>
     requires of { IsPassOf table.now pass.old }
     requires seek { IsUnderWay (the_walk sought.now) table.now (seek.old, pass.old) }

@@ -8,7 +8,7 @@ ghost use Rattle.crq_rule.specs.Ranks.{first_head_of};
 ghost use Rattle.crq_rule.specs.Parts.{IsEvent};
 ghost use Rattle.crq_list.specs.declared.parts.Progress.TheVariants.{More, Done};
 ghost use Rattle.crq_list.specs.declared.take.MarkEnd.TheVariants.{Nothing};
-ghost use Rattle.crq_list.specs.declared.take.Taking.TheVariants.{Load, Walking, Reading, Marking};
+ghost use Rattle.crq_list.specs.declared.take.TakeState.TheVariants.{Load, Walking, Reading, Marking};
 ghost use Rattle.crq_list.specs.Operations.{IsUnderWay, MakesStep, MakesSteps};
 ghost use Rattle.crq_list.specs.Taking.{IsRead, the_take, take_at, taking_exchanges};
 
@@ -35,7 +35,7 @@ pub enum MarkEnd {
 
 /// How far a take is.
 #[derive(Clone, Copy, Debug, PartialEq, Eq)]
-pub enum Taking {
+pub enum TakeState {
     /// The list's head is to be loaded.
     Load,
     /// The link of this row is to be loaded.
@@ -57,7 +57,7 @@ pub struct TakeOp {
     /// The time from which on nothing is taken.
     pub limit: u64,
     /// How far it is.
-    pub state: Taking,
+    pub state: TakeState,
 }
 
 /// An event of which no word was read.
@@ -71,13 +71,13 @@ const UNREAD: Event = Event {
 
 /// What comes after a head or row that was passed: the row that its link names, or the end of the list.
 #[inline(always)]
-fn onward(link: Link) -> (Taking, Progress<MarkEnd>)
+fn onward(link: Link) -> (TakeState, Progress<MarkEnd>)
     ensures { ((link.row ≡ 0) × (result ≡ (Load, Done Nothing))) ⊎ ((0 < link.row) × (result ≡ (Walking link.row, More))) }
 {
     if link.row == 0 {
-        (Taking::Load, Progress::Done(MarkEnd::Nothing))
+        (TakeState::Load, Progress::Done(MarkEnd::Nothing))
     } else {
-        (Taking::Walking(link.row), Progress::More)
+        (TakeState::Walking(link.row), Progress::More)
     }
 }
 
@@ -107,8 +107,8 @@ fn with_word(event: Event, place: u32, word: u64) -> Event
 }
 
 impl TakeOp {
-    /// A take that has made no step, of the table that has this steady control word. Over one list, `place` names that
-    /// list, whatever its number.
+    /// A take that has made no step, of the table that has this steady control word. Over one list `place` names that list,
+    /// whatever its number, and nothing reads it: it is there for tables of many lists.
     pub fn new(found: Control, place: Place, limit: u64) -> TakeOp
         ensures { result ≡ record { found = found; head = first_head_of found.generation; limit = limit; state = Load } }
     {
@@ -117,7 +117,7 @@ impl TakeOp {
             found,
             head: found.generation % 2 * BANK,
             limit,
-            state: Taking::Load,
+            state: TakeState::Load,
         }
     }
 
@@ -125,12 +125,12 @@ impl TakeOp {
     pub fn exchanges(&self) -> bool
         ensures { result ≡ taking_exchanges self.now.state }
     {
-        matches!(self.state, Taking::Marking(_, _, _))
+        matches!(self.state, TakeState::Marking(_, _, _))
     }
 
     /// Loads the head.
     #[inline(always)]
-    fn load(&self, table: &Table, pass: &mut Pass) -> (Taking, Progress<MarkEnd>)
+    fn load(&self, table: &Table, pass: &mut Pass) -> (TakeState, Progress<MarkEnd>)
         requires of { IsPassOf table.now pass.old }
         requires op { IsUnderWay the_take table.now (take_at self.now Load, pass.old) }
         ensures { MakesStep the_take table.now (take_at self.now Load, pass.old) (take_at self.now result.0, pass.new) result.1 }
@@ -138,22 +138,22 @@ impl TakeOp {
         let link = walk_step(table, pass, Spot::Head(self.head), true);
         match link.mark {
             Mark::Val => onward(link),
-            _ => (Taking::Load, Progress::Done(MarkEnd::Frozen)),
+            _ => (TakeState::Load, Progress::Done(MarkEnd::Frozen)),
         }
     }
 
     /// Loads the link of the row at which the walk is, and goes past it where it is dead.
     #[inline(always)]
-    fn walk(&self, table: &Table, pass: &mut Pass, row: u32) -> (Taking, Progress<MarkEnd>)
+    fn walk(&self, table: &Table, pass: &mut Pass, row: u32) -> (TakeState, Progress<MarkEnd>)
         requires of { IsPassOf table.now pass.old }
         requires op { IsUnderWay the_take table.now (take_at self.now (Walking row), pass.old) }
         ensures { MakesStep the_take table.now (take_at self.now (Walking row), pass.old) (take_at self.now result.0, pass.new) result.1 }
     {
         let link = walk_step(table, pass, Spot::Row(row), true);
         match link.mark {
-            Mark::Val => (Taking::Reading(row, link, 2, UNREAD), Progress::More),
+            Mark::Val => (TakeState::Reading(row, link, 2, UNREAD), Progress::More),
             Mark::Inv | Mark::Del => onward(link),
-            Mark::Mov => (Taking::Load, Progress::Done(MarkEnd::Frozen)),
+            Mark::Mov => (TakeState::Load, Progress::Done(MarkEnd::Frozen)),
         }
     }
 
@@ -167,7 +167,7 @@ impl TakeOp {
         link: Link,
         place: u32,
         event: Event,
-    ) -> (Taking, Progress<MarkEnd>)
+    ) -> (TakeState, Progress<MarkEnd>)
         requires of { IsPassOf table.now pass.old }
         requires op { IsUnderWay the_take table.now (take_at self.now (Reading row link place event), pass.old) }
         ensures stepped { MakesStep the_take table.now (take_at self.now (Reading row link place event), pass.old) (take_at self.now result.0, pass.new) result.1 }
@@ -176,12 +176,15 @@ impl TakeOp {
         let word = read_step(table, pass, row, place);
         let event = with_word(event, place, word);
         if place < 5 {
-            return (Taking::Reading(row, link, place + 1, event), Progress::More);
+            return (
+                TakeState::Reading(row, link, place + 1, event),
+                Progress::More,
+            );
         }
         if u64::from(event.time) >= self.limit {
-            return (Taking::Load, Progress::Done(MarkEnd::Beyond(event)));
+            return (TakeState::Load, Progress::Done(MarkEnd::Beyond(event)));
         }
-        (Taking::Marking(row, link, event), Progress::More)
+        (TakeState::Marking(row, link, event), Progress::More)
     }
 
     /// Reads the words of the present row's event from this one on.
@@ -194,7 +197,7 @@ impl TakeOp {
         link: Link,
         first: u32,
         unread: Event,
-    ) -> (Taking, Progress<MarkEnd>)
+    ) -> (TakeState, Progress<MarkEnd>)
         requires of { IsPassOf table.now pass.old }
         requires op { IsUnderWay the_take table.now (take_at self.now (Reading row link first unread), pass.old) }
         ensures { MakesSteps the_take table.now (take_at self.now (Reading row link first unread), pass.old) (take_at self.now result.0, pass.new) result.1 }
@@ -202,7 +205,7 @@ impl TakeOp {
         let (mut place, mut event) = (first, unread);
         loop {
             let told = self.read(table, pass, row, link, place, event);
-            let (Taking::Reading(_, _, next, read), Progress::More) = told else {
+            let (TakeState::Reading(_, _, next, read), Progress::More) = told else {
                 return told;
             };
             place = next;
@@ -212,7 +215,12 @@ impl TakeOp {
 
     /// Walks past dead rows to a present one, or to the end.
     #[inline(always)]
-    fn walk_rows(&self, table: &Table, pass: &mut Pass, first: u32) -> (Taking, Progress<MarkEnd>)
+    fn walk_rows(
+        &self,
+        table: &Table,
+        pass: &mut Pass,
+        first: u32,
+    ) -> (TakeState, Progress<MarkEnd>)
         requires of { IsPassOf table.now pass.old }
         requires op { IsUnderWay the_take table.now (take_at self.now (Walking first), pass.old) }
         ensures { MakesSteps the_take table.now (take_at self.now (Walking first), pass.old) (take_at self.now result.0, pass.new) result.1 }
@@ -220,7 +228,7 @@ impl TakeOp {
         let mut row = first;
         loop {
             let told = self.walk(table, pass, row);
-            let (Taking::Walking(next), Progress::More) = told else {
+            let (TakeState::Walking(next), Progress::More) = told else {
                 return told;
             };
             row = next;
@@ -229,13 +237,18 @@ impl TakeOp {
 
     /// Walks from this row on to a present one, and reads its event.
     #[inline(always)]
-    fn from_walking(&self, table: &Table, pass: &mut Pass, row: u32) -> (Taking, Progress<MarkEnd>)
+    fn from_walking(
+        &self,
+        table: &Table,
+        pass: &mut Pass,
+        row: u32,
+    ) -> (TakeState, Progress<MarkEnd>)
         requires of { IsPassOf table.now pass.old }
         requires op { IsUnderWay the_take table.now (take_at self.now (Walking row), pass.old) }
         ensures { MakesSteps the_take table.now (take_at self.now (Walking row), pass.old) (take_at self.now result.0, pass.new) result.1 }
     {
         let told = self.walk_rows(table, pass, row);
-        let (Taking::Reading(row, link, place, event), Progress::More) = told else {
+        let (TakeState::Reading(row, link, place, event), Progress::More) = told else {
             return told;
         };
         self.read_event(table, pass, row, link, place, event)
@@ -243,13 +256,13 @@ impl TakeOp {
 
     /// Loads the head, and walks from there on.
     #[inline(always)]
-    fn from_load(&self, table: &Table, pass: &mut Pass) -> (Taking, Progress<MarkEnd>)
+    fn from_load(&self, table: &Table, pass: &mut Pass) -> (TakeState, Progress<MarkEnd>)
         requires of { IsPassOf table.now pass.old }
         requires op { IsUnderWay the_take table.now (take_at self.now Load, pass.old) }
         ensures { MakesSteps the_take table.now (take_at self.now Load, pass.old) (take_at self.now result.0, pass.new) result.1 }
     {
         let told = self.load(table, pass);
-        let (Taking::Walking(row), Progress::More) = told else {
+        let (TakeState::Walking(row), Progress::More) = told else {
             return told;
         };
         self.from_walking(table, pass, row)
@@ -264,7 +277,7 @@ impl TakeOp {
         row: u32,
         link: Link,
         event: Event,
-    ) -> (Taking, Progress<MarkEnd>)
+    ) -> (TakeState, Progress<MarkEnd>)
         requires of { IsPassOf table.now pass.old }
         requires free { pass.old.debts.cut ≡ None }
         requires op { IsUnderWay the_take table.now (take_at self.now (Marking row link event), pass.old) }
@@ -275,7 +288,7 @@ impl TakeOp {
         } else {
             MarkEnd::Lost
         };
-        (Taking::Load, Progress::Done(end))
+        (TakeState::Load, Progress::Done(end))
     }
 
     /// Makes one atomic step.
@@ -287,12 +300,12 @@ impl TakeOp {
         ensures { MakesStep the_take table.now (self.old, pass.old) (self.new, pass.new) result }
     {
         let (state, answer) = match self.state {
-            Taking::Load => self.load(table, pass),
-            Taking::Walking(row) => self.walk(table, pass, row),
-            Taking::Reading(row, link, place, event) => self.read(
+            TakeState::Load => self.load(table, pass),
+            TakeState::Walking(row) => self.walk(table, pass, row),
+            TakeState::Reading(row, link, place, event) => self.read(
                 table, pass, row, link, place, event,
             ),
-            Taking::Marking(row, link, event) => self.mark(table, pass, row, link, event),
+            TakeState::Marking(row, link, event) => self.mark(table, pass, row, link, event),
         };
         self.state = state;
         answer
@@ -307,12 +320,12 @@ impl TakeOp {
         ensures { MakesSteps the_take table.now (self.old, pass.old) (self.new, pass.new) result }
     {
         let (state, answer) = match self.state {
-            Taking::Load => self.from_load(table, pass),
-            Taking::Walking(row) => self.from_walking(table, pass, row),
-            Taking::Reading(row, link, place, event) => self.read_event(
+            TakeState::Load => self.from_load(table, pass),
+            TakeState::Walking(row) => self.from_walking(table, pass, row),
+            TakeState::Reading(row, link, place, event) => self.read_event(
                 table, pass, row, link, place, event,
             ),
-            Taking::Marking(_, _, _) => return self.step(table, pass),
+            TakeState::Marking(_, _, _) => return self.step(table, pass),
         };
         self.state = state;
         answer

@@ -13,7 +13,7 @@ use Rattle.crq_sim.specs.Names.{is_name, name_byte}
 use Rattle.crq_sim.specs.declared.model.BehaviourName.{BehaviourName}
 use Rattle.crq_sim.specs.declared.model.BehaviourName.TheVariants.{Relay, Phold, Station, Fan, Sink}
 use Rattle.crq_printer.specs.Fields.{Lacks}
-use Rattle.crq_printer.specs.Texts.{kind_word}
+use Rattle.crq_sim.specs.Kinds.{kind_word}
 
 -- a byte that isn't there doesn't split
 pub no_split : (b : ℕ) (front back : List ℕ) → Lacks b (front ++ b ∷ back) → ⊥
@@ -114,3 +114,13 @@ kind_lacks Phold = Lacks-from_test 32 (codes "phold") refl
 kind_lacks Station = Lacks-from_test 32 (codes "station") refl
 kind_lacks Fan = Lacks-from_test 32 (codes "fan") refl
 kind_lacks Sink = Lacks-from_test 32 (codes "sink") refl
+
+kind_is_name : (k : BehaviourName) → is_name (kind_word k) ≡ true
+kind_is_name Relay = refl
+kind_is_name Phold = refl
+kind_is_name Station = refl
+kind_is_name Fan = refl
+kind_is_name Sink = refl
+
+pub kind_ascii : (k : BehaviourName) → IsAscii (kind_word k)
+kind_ascii k = name_ascii (kind_word k) (kind_is_name k)

@@ -4,7 +4,8 @@ use Rattle.std.specs.Fmt.{decimal}
 use Rattle.std.proofs.lemmas.List.{append-nil}
 use Rattle.crq_sim.specs.Names.{is_name}
 use Rattle.crq_sim.specs.declared.model.BehaviourName.{BehaviourName}
-use Rattle.crq_printer.specs.Texts.{kind_word, heading_line}
+use Rattle.crq_sim.specs.Kinds.{kind_word}
+use Rattle.crq_printer.specs.Texts.{heading_line}
 use Rattle.crq_printer.proofs.FieldLaws.{same_field, same_number, name_lacks, kind_lacks, Lacks-from_test}
 
 abbrev pub behind_kind : ℕ → List ℕ → List ℕ

@@ -1,16 +1,18 @@
 -- Lines, each of which has its newline at its end and nowhere else.
-use Rattle.std.proofs.Common.{◌≡◌, ℕ, ◌+◌, ◌*◌, ◌<◌, ◌≤◌, ◌^◌, List, [], ◌∷◌, ◌++◌, map, length, codes, refl, sym, ap, ◌∙◌, arith, append_assoc, length-append}
+use Rattle.std.proofs.Common.{◌≡◌, true, ℕ, ◌+◌, ◌*◌, ◌<◌, ◌≤◌, ◌^◌, List, [], ◌∷◌, ◌++◌, map, length, codes, refl, sym, ap, ◌∙◌, arith, append_assoc, length-append}
 use Rattle.std.specs.Prelude.{All}
 use Rattle.std.specs.Fmt.{decimal}
 use Rattle.std.specs.List.{concat, AllByRecursion}
 use Rattle.std.proofs.lemmas.List.Sums.{sum_by-cons}
 use Rattle.std.proofs.lemmas.List.Elements.{All-head, All-tail}
+use Rattle.crq_sim.specs.Names.{is_name}
 use Rattle.crq_sim.specs.declared.model.BehaviourName.{BehaviourName}
 use Rattle.crq_sim.specs.declared.model.BehaviourName.TheVariants.{Relay, Phold, Station, Fan, Sink}
 use Rattle.crq_sim.specs.declared.traces.Step.{Step}
 use Rattle.crq_sim.specs.declared.traces.ObjectTrace.{ObjectTrace}
 use Rattle.crq_printer.specs.Fields.{Lacks}
-use Rattle.crq_printer.specs.Texts.{kind_word, step_line, heading, object_lines, lines_from, first_line, end_line, steps_in, trace_lines}
+use Rattle.crq_sim.specs.Kinds.{kind_word}
+use Rattle.crq_printer.specs.Texts.{step_line, heading_line, object_lines, lines_from, first_line, end_line, steps_in, trace_lines}
 use Rattle.crq_printer.specs.Reading.{IsStepOf, IsTraceOf, AreTracesFrom, IsReadable}
 use Rattle.crq_printer.proofs.FieldLaws.{same_field, numeral_lacks, sum_lacks, name_lacks, Lacks-from_test}
 
@@ -47,7 +49,7 @@ kind_one_line Sink = Lacks-from_test 10 (codes "sink") refl
 numeral : (n : ℕ) → n < 2 ^ 64 → Lacks 10 (decimal n)
 numeral n small = numeral_lacks 10 n (omega arith) small
 
-step_is_line : (number : ℕ) (s : Step) → IsStepOf number s → IsLine (step_line s)
+pub step_is_line : (number : ℕ) (s : Step) → IsStepOf number s → IsLine (step_line s)
 step_is_line number s is =
     with_field (decimal s.event.time) _ (numeral s.event.time (omega (arith, is.time)))
     (with_field (decimal s.event.src) _ (numeral s.event.src (omega (arith, is.src)))
@@ -55,12 +57,18 @@ step_is_line number s is =
     (with_field (decimal s.event.load) _ (numeral s.event.load is.load)
     (with_field (decimal s.count) _ (numeral s.count is.count) (last_field (decimal s.word) (numeral s.word is.word))))))
 
-heading_is_line : (number : ℕ) (o : ObjectTrace) → number < 2 ^ 64 → IsTraceOf number o → IsLine (heading number o)
-heading_is_line number o small is =
+pub heading_is_line : (number : ℕ) (name : List ℕ) (kind : BehaviourName) (count : ℕ) → number < 2 ^ 64 → is_name name ≡ true → count < 2 ^ 64 → IsLine (heading_line number name kind count)
+heading_is_line number name kind count small named few =
     with_field (codes "object") _ (Lacks-from_test 10 (codes "object") refl)
     (with_field (decimal number) _ (numeral number small)
-    (with_field o.name _ (name_lacks 10 o.name (omega arith) is.name)
-    (with_field (kind_word o.behaviour) _ (kind_one_line o.behaviour) (last_field (decimal (length o.steps)) (numeral (length o.steps) is.count)))))
+    (with_field name _ (name_lacks 10 name (omega arith) named)
+    (with_field (kind_word kind) _ (kind_one_line kind) (last_field (decimal count) (numeral count few)))))
+
+pub first_is_line : IsLine first_line
+first_is_line = with_field (codes "trace") _ (Lacks-from_test 10 (codes "trace") refl) (last_field (codes "1") (Lacks-from_test 10 (codes "1") refl))
+
+pub end_is_line : (total : ℕ) → total < 10 ^ 64 → IsLine (end_line total)
+end_is_line total small = with_field (codes "end") _ (Lacks-from_test 10 (codes "end") refl) (last_field (decimal total) (sum_lacks 10 total (omega arith) small))
 
 steps_are_lines : (number : ℕ) (steps : List Step) → All (IsStepOf number) steps → AreLines (map step_line steps)
 steps_are_lines number [] all = tt
@@ -79,7 +87,7 @@ lines_back [] ys h = h
 lines_back (x ∷ xs) ys h = lines_back xs ys h.1
 
 pub object_is_lines : (number : ℕ) (o : ObjectTrace) → number < 2 ^ 64 → IsTraceOf number o → AreLines (object_lines number o)
-object_is_lines number o small is = (heading_is_line number o small is, steps_are_lines number o.steps is.steps)
+object_is_lines number o small is = (heading_is_line number o.name o.behaviour (length o.steps) small is.name is.count, steps_are_lines number o.steps is.steps)
 
 -- no line is empty
 pub lines_long : (lines : List (List ℕ)) → AreLines lines → length lines ≤ length (concat lines)
@@ -91,7 +99,7 @@ lines_long (l ∷ lines) all =
 traces_are_lines : (number : ℕ) (ts : List ObjectTrace) → number + length ts < 2 ^ 64 → AreTracesFrom number ts → AreLines (lines_from number ts)
 traces_are_lines number [] few all = tt
 traces_are_lines number (o ∷ ts) few all =
-    lines_join (object_lines number o) (lines_from (number + 1) ts) (heading_is_line number o (omega arith) all.0, steps_are_lines number o.steps (all.0).steps) (traces_are_lines (number + 1) ts (omega arith) all.1)
+    lines_join (object_lines number o) (lines_from (number + 1) ts) (heading_is_line number o.name o.behaviour (length o.steps) (omega arith) (all.0).name (all.0).count, steps_are_lines number o.steps (all.0).steps) (traces_are_lines (number + 1) ts (omega arith) all.1)
 
 -- the sum of the counts is below a bound on each times their number
 pub steps_few : (number : ℕ) (ts : List ObjectTrace) → AreTracesFrom number ts → steps_in ts ≤ length ts * 2 ^ 64
@@ -100,11 +108,10 @@ steps_few number (o ∷ ts) all = (let rest = steps_few (number + 1) ts all.1 in
 
 pub text_is_lines : (ts : List ObjectTrace) → IsReadable ts → AreLines (trace_lines ts)
 text_is_lines ts is =
-    let first : IsLine first_line = with_field (codes "trace") _ (Lacks-from_test 10 (codes "trace") refl) (last_field (codes "1") (Lacks-from_test 10 (codes "1") refl)) in
-    let end : IsLine (end_line (steps_in ts)) = with_field (codes "end") _ (Lacks-from_test 10 (codes "end") refl) (last_field (decimal (steps_in ts)) (sum_lacks 10 (steps_in ts) (omega arith) (omega (arith, steps_few 1 ts is.traces, is.few)))) in
-    (first, lines_join (lines_from 1 ts) (end_line (steps_in ts) ∷ []) (traces_are_lines 1 ts (omega (arith, is.few)) is.traces) (end, tt))
+    let end = end_is_line (steps_in ts) (omega (arith, steps_few 1 ts is.traces, is.few)) in
+    (first_is_line, lines_join (lines_from 1 ts) (end_line (steps_in ts) ∷ []) (traces_are_lines 1 ts (omega (arith, is.few)) is.traces) (end, tt))
 
-same_first : (x y : List ℕ) (xs ys : List ℕ) → IsLine x → IsLine y → x ++ xs ≡ y ++ ys → (x ≡ y) × (xs ≡ ys)
+pub same_first : (x y : List ℕ) (xs ys : List ℕ) → IsLine x → IsLine y → x ++ xs ≡ y ++ ys → (x ≡ y) × (xs ≡ ys)
 same_first x y xs ys hx hy e =
     let wx : x ++ xs ≡ hx.words ++ 10 ∷ xs = ap (λ (bs : List ℕ). bs ++ xs) hx.whole ∙ append_assoc hx.words (10 ∷ []) xs in
     let wy : y ++ ys ≡ hy.words ++ 10 ∷ ys = ap (λ (bs : List ℕ). bs ++ ys) hy.whole ∙ append_assoc hy.words (10 ∷ []) ys in

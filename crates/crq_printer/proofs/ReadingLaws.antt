@@ -5,7 +5,7 @@ use Rattle.std.proofs.lemmas.List.{append-nil, length-map, nil_from_length}
 use Rattle.std.proofs.lemmas.Bool.Decides.{nat_tests}
 use Rattle.crq_sim.specs.declared.traces.ObjectTrace.{ObjectTrace}
 use Rattle.crq_printer.specs.Texts.{step_line, heading_line, object_lines, lines_from, first_line, end_line, steps_in, trace_lines, trace_text_of}
-use Rattle.crq_printer.specs.Reading.{IsTraceOf, IsReadable, IsFirstWrong, FaultIs}
+use Rattle.crq_printer.specs.Reading.{IsTraceOf, IsReadable, IsFirstUndue, FaultIs}
 use Rattle.crq_printer.specs.Parts.{IsPartWrong, PartFault}
 use Rattle.crq_printer.specs.declared.reading.TraceFault.{TraceFault}
 use Rattle.crq_printer.specs.declared.reading.TraceFault.TheVariants.{Line, Memory}
@@ -64,10 +64,10 @@ module _ (text rest : List ℕ) (done : List ObjectTrace) (total line at : ℕ) 
         few = omega (arith, so_far.few, long, steps, bytes);
       }
 
-  pub many_wrong : ((back : List ℕ) → rest ≡ end_line total ++ back → ⊥) → 65535 ≤ length done → IsFirstWrong line text
+  pub many_wrong : ((back : List ℕ) → rest ≡ end_line total ++ back → ⊥) → 65535 ≤ length done → IsFirstUndue line text
   many_wrong none many = heading_wrong done so_far.readable at next text rest line so_far.parts so_far.place (rw so_far.count at none) (inr many)
 
-  part_of : (n : ℕ) → length done < 65535 → ((back : List ℕ) → rest ≡ end_line total ++ back → ⊥) → IsPartWrong at rest line n → IsFirstWrong n text
+  part_of : (n : ℕ) → length done < 65535 → ((back : List ℕ) → rest ≡ end_line total ++ back → ⊥) → IsPartWrong at rest line n → IsFirstUndue n text
   part_of n few none (inl wrong) = heading_wrong done so_far.readable at next text rest n so_far.parts (omega (arith, so_far.place, wrong.1)) (rw so_far.count at none) (inl wrong.0)
   part_of n few none (inr o) =
       let w = o.wrong in
@@ -89,7 +89,7 @@ module _ (text rest : List ℕ) (done : List ObjectTrace) (total line at : ℕ) 
       let bytes : rest ≡ concat (end ∷ []) ++ behind = parts ∙ ap (λ (n : ℕ). end_line n ++ behind) so_far.count ∙ ap (λ (bs : List ℕ). bs ++ behind) (sym (append-nil end)) in
       so_far.parts ∙ ap (λ (bs : List ℕ). concat (first_line ∷ L) ++ bs) bytes ∙ sym (append_assoc (concat (first_line ∷ L)) (concat (end ∷ [])) behind) ∙ ap (λ (bs : List ℕ). bs ++ behind) (sym (concat-append (first_line ∷ L) (end ∷ [])))
 
-  pub more_wrong : (behind : List ℕ) → rest ≡ end_line total ++ behind → (behind ≡ [] → ⊥) → IsFirstWrong (line + 1) text
+  pub more_wrong : (behind : List ℕ) → rest ≡ end_line total ++ behind → (behind ≡ [] → ⊥) → IsFirstUndue (line + 1) text
   more_wrong behind parts some = end_wrong done so_far.readable at next text behind (line + 1) (ended behind parts) (omega (arith, so_far.place)) some
 
   pub all_done : (behind : List ℕ) → rest ≡ end_line total ++ behind → behind ≡ [] → trace_text_of done ≡ text

@@ -9,7 +9,8 @@ use Rattle.crq_sim.specs.declared.model.BehaviourName.{BehaviourName}
 use Rattle.crq_sim.specs.declared.model.BehaviourName.TheVariants.{Relay, Phold, Station, Fan, Sink}
 use Rattle.crq_sim.specs.declared.traces.Step.{Step}
 use Rattle.crq_sim.specs.declared.traces.ObjectTrace.{ObjectTrace}
-use Rattle.crq_printer.specs.Texts.{kind_word, step_line, heading_line, heading, lines_from, end_line, steps_in, trace_lines, trace_text_of}
+use Rattle.crq_sim.specs.Kinds.{kind_word}
+use Rattle.crq_printer.specs.Texts.{step_line, heading_line, heading, lines_from, end_line, steps_in, trace_lines, trace_text_of}
 use Rattle.crq_printer.specs.Reading.{IsStepOf, AreTracesFrom, IsReadable}
 use Rattle.crq_printer.proofs.FieldLaws.{same_field, same_number, kind_lacks}
 use Rattle.crq_printer.proofs.StepFields.{behind_time, behind_src, behind_seq, behind_load, behind_count}

@@ -1,4 +1,6 @@
+-- What public contracts cite: whoever believes them has to read these.
 pub mod Texts
-pub mod Fields
 pub mod Reading
+-- What only contracts inside the crate cite.
+pub mod Fields
 pub mod Parts

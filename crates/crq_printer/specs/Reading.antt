@@ -1,10 +1,12 @@
 -- Trace texts that are read back.
-use Rattle.std.specs.Prelude.{◌≡◌, true, ℕ, ◌+◌, ◌^◌, ◌<◌, ◌≤◌, List, [], ◌∷◌, ◌++◌, length, All}
+use Rattle.std.specs.Prelude.{◌≡◌, true, ℕ, zero, suc, ◌+◌, ◌^◌, ◌<◌, ◌≤◌, List, [], ◌∷◌, ◌++◌, ◌⊎◌, length, All}
 use Rattle.std.specs.List.{concat}
 use Rattle.crq_sim.specs.Names.{is_name}
 use Rattle.crq_sim.specs.declared.traces.Step.{Step}
 use Rattle.crq_sim.specs.declared.traces.ObjectTrace.{ObjectTrace}
-use Rattle.crq_printer.specs.Texts.{trace_lines, trace_text_of}
+use Rattle.crq_sim.specs.declared.model.BehaviourName.{BehaviourName}
+use Rattle.crq_sim.specs.declared.model.TheConstants.{MOST_OBJECTS}
+use Rattle.crq_printer.specs.Texts.{step_line, heading_line, first_line, end_line, trace_text_of}
 use Rattle.crq_printer.specs.declared.reading.TraceFault.{TraceFault}
 use Rattle.crq_printer.specs.declared.reading.TraceFault.TheVariants.{Line, Memory}
 
@@ -28,29 +30,58 @@ abbrev pub AreTracesFrom : ℕ → List ObjectTrace → Type 0
 AreTracesFrom number [] = Unit {0}
 AreTracesFrom number (o ∷ os) = IsTraceOf number o × AreTracesFrom (number + 1) os
 
--- traces that a text can give back: at most 65,535 objects, all numbers in range
+-- traces that a text can give back: as many objects as a model may have, all numbers in range
 pub record IsReadable (ts : List ObjectTrace) : Type 0 where
-  pub few : length ts ≤ 65535
+  pub few : length ts ≤ MOST_OBJECTS
   pub traces : AreTracesFrom 1 ts
 
 abbrev pub IsTraceText : List ℕ → Type 0
 IsTraceText text = (ts : List ObjectTrace) × IsReadable ts × (trace_text_of ts ≡ text)
 
--- the text of some traces begins with these lines
-abbrev pub AreDue : List (List ℕ) → Type 0
-AreDue lines = (ts : List ObjectTrace) × (more : List (List ℕ)) × IsReadable ts × (trace_lines ts ≡ lines ++ more)
+-- ---- what is due after the lines that were read
 
--- line n is the first that isn't due: the lines before it are, and it isn't, wherever it may end; the text may end before it
-pub record IsFirstWrong (n : ℕ) (text : List ℕ) : Type 0 where
+-- how far a text was read: not at all; some objects' headings, the steps that are left of the last of them, and all steps so far; the last line
+pub data Progress : Type 0 where
+  nothing : Progress
+  within : ℕ → ℕ → ℕ → Progress
+  whole : Progress
+
+-- the heading of the next object, behind so many objects and steps
+pub record IsHeadingDue (objects steps : ℕ) (bytes : List ℕ) (after : Progress) : Type 0 where
+  pub name : List ℕ
+  pub kind : BehaviourName
+  pub count : ℕ
+  pub named : is_name name ≡ true
+  pub fits : count < 2 ^ 64
+  pub few : objects < MOST_OBJECTS
+  pub is : bytes ≡ heading_line (objects + 1) name kind count
+  pub behind : after ≡ within (objects + 1) count steps
+
+-- the line is due there, and the text is then read so far
+abbrev pub IsDue : Progress → List ℕ → Progress → Type 0
+IsDue nothing bytes after = (bytes ≡ first_line) × (after ≡ within 0 0 0)
+IsDue (within objects zero steps) bytes after = IsHeadingDue objects steps bytes after ⊎ ((bytes ≡ end_line steps) × (after ≡ whole))
+IsDue (within objects (suc left) steps) bytes after = (s : Step) × IsStepOf objects s × (bytes ≡ step_line s) × (after ≡ within objects left (steps + 1))
+IsDue whole bytes after = ⊥
+
+-- one line after another
+abbrev pub AreDue : Progress → List (List ℕ) → Progress → Type 0
+AreDue before [] after = before ≡ after
+AreDue before (l ∷ lines) after = (next : Progress) × IsDue before l next × AreDue next lines after
+
+-- line n is the first that isn't due: each line before it is, none that is due stands there, wherever it may end, and the text isn't whole; it may end there
+pub record IsFirstUndue (n : ℕ) (text : List ℕ) : Type 0 where
   pub before : List (List ℕ)
   pub rest : List ℕ
+  pub progress : Progress
   pub parts : text ≡ concat before ++ rest
   pub number : n ≡ length before + 1
-  pub due : AreDue before
-  pub wrong : (next more : List ℕ) → rest ≡ next ++ more → AreDue (before ++ next ∷ []) → ⊥
+  pub due : AreDue nothing before progress
+  pub undue : (next more : List ℕ) (after : Progress) → rest ≡ next ++ more → IsDue progress next after → ⊥
+  pub unfinished : progress ≡ whole → rest ≡ [] → ⊥
   pub refused : IsTraceText text → ⊥
 
--- want of memory, or the first wrong line
+-- want of memory, or the first line that isn't due
 abbrev pub FaultIs : TraceFault → List ℕ → Type 0
-FaultIs (Line n) text = IsFirstWrong n text
+FaultIs (Line n) text = IsFirstUndue n text
 FaultIs Memory text = Unit {0}

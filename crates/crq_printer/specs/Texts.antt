@@ -2,8 +2,8 @@
 use Rattle.std.specs.Prelude.{ℕ, ◌+◌, ◌*◌, ◌%◌, ◌^◌, max, List, [], ◌∷◌, ◌++◌, map, length, codes}
 use Rattle.std.specs.Fmt.{decimal}
 use Rattle.std.specs.List.{concat, flat_map, sum_by, fold}
+use Rattle.crq_sim.specs.Kinds.{kind_word}
 use Rattle.crq_sim.specs.declared.model.BehaviourName.{BehaviourName}
-use Rattle.crq_sim.specs.declared.model.BehaviourName.TheVariants.{Relay, Phold, Station, Fan, Sink}
 use Rattle.crq_sim.specs.declared.traces.Step.{Step}
 use Rattle.crq_sim.specs.declared.traces.ObjectTrace.{ObjectTrace}
 use Rattle.crq_sim.specs.declared.outcome.Outcome.{Outcome}
@@ -13,14 +13,6 @@ abbrev pub line : List (List ℕ) → List ℕ
 line [] = 10 ∷ []
 line (field ∷ []) = field ++ (10 ∷ [])
 line (field ∷ next ∷ fields) = field ++ (32 ∷ line (next ∷ fields))
-
--- the word of the model language
-abbrev pub kind_word : BehaviourName → List ℕ
-kind_word Relay = codes "relay"
-kind_word Phold = codes "phold"
-kind_word Station = codes "station"
-kind_word Fan = codes "fan"
-kind_word Sink = codes "sink"
 
 -- the event, and the object's count and word after it
 abbrev pub step_line : Step → List ℕ

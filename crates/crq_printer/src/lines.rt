@@ -5,7 +5,6 @@ ghost use Rattle.std.specs.Fmt.{decimal};
 ghost use Rattle.std.specs.List.{concat};
 ghost use Rattle.crq_printer.specs.Texts.{heading, step_line};
 
-use crate::kinds::kind_word;
 use crq_sim::{ObjectTrace, Step};
 use itoa::write_digits;
 use std::alloc::{AllocError, Global};
@@ -62,7 +61,7 @@ pub(crate) fn heading(
     ensures { IfOk result (λ t. string_bytes t ≡ heading number trace.now) }
 {
     let name = trace.name.as_str();
-    let kind = kind_word(trace.behaviour);
+    let kind = trace.behaviour.word();
     let count = trace.steps.len();
     format!(in alloc; "object {number} {name} {kind} {count}\n")
 }

@@ -3,7 +3,8 @@
 ghost use Rattle.std.specs.Prelude.{◌≡◌, true, ℕ, List, ◌∷◌, ◌++◌, IfSome, IfNone};
 ghost use Rattle.crq_sim.specs.Names.{is_name};
 ghost use Rattle.crq_sim.specs.declared.model.BehaviourName.{BehaviourName};
-ghost use Rattle.crq_printer.specs.Texts.{first_line, end_line, kind_word, heading_line, step_line};
+ghost use Rattle.crq_sim.specs.Kinds.{kind_word};
+ghost use Rattle.crq_printer.specs.Texts.{first_line, end_line, heading_line, step_line};
 ghost use Rattle.crq_printer.specs.Reading.{IsStepOf};
 ghost use Rattle.crq_printer.specs.Parts.{NoStep, NoHeading};
 

@@ -1,18 +1,15 @@
 //! Traces from their text.
 
-ghost use Rattle.std.specs.Prelude.{◌≡◌, ℕ, ◌+◌, ◌<◌, ◌≤◌, ◌^◌, List, ◌++◌, All, length, map, IfOk, IfErr};
+ghost use Rattle.std.specs.Prelude.{◌≡◌, ℕ, ◌+◌, ◌<◌, ◌≤◌, ◌^◌, List, ◌++◌, ◌⊎◌, Err, All, length, map, IfOk, IfErr};
 ghost use Rattle.std.specs.List.{concat};
 ghost use Rattle.crq_printer.specs.Texts.{step_line, object_lines, trace_text_of};
-ghost use Rattle.crq_printer.specs.Reading.{IsStepOf, IsTraceOf, IsReadable, FaultIs};
+ghost use Rattle.crq_printer.specs.Reading.{IsStepOf, IsTraceOf, IsReadable, IsFirstUndue, FaultIs};
 ghost use Rattle.crq_sim.specs.declared.traces.ObjectTrace.{ObjectTrace};
 ghost use Rattle.crq_printer.specs.Parts.{StepFault, PartFault};
 
 use crate::parts::{read_heading, read_step, skip_end, skip_first};
-use crq_sim::{Name, ObjectTrace, Sequence, Step, Traces};
+use crq_sim::{MOST_OBJECTS, Name, ObjectTrace, Sequence, Step, Traces};
 use std::alloc::Global;
-
-/// The greatest number of objects in a text.
-const MOST_OBJECTS: usize = 65535;
 
 /// Why a text gives no traces.
 #[derive(Clone, Copy, Debug, PartialEq, Eq)]
@@ -81,10 +78,8 @@ fn read_object(
     Ok((trace, rest))
 }
 
-/// The traces of a text, in one pass over it.
-///
-/// A text is read only as `trace_text` writes it. A step's destination, which the text doesn't say, is the number of its object.
-pub fn read_traces(alloc: Global, text: &[u8]) -> Result<Traces, TraceFault>
+/// The traces of a text, object by object.
+fn traces_of(alloc: Global, text: &[u8]) -> Result<Traces, TraceFault>
     ensures readable { IfOk result (λ ts. IsReadable ts) }
     ensures text { IfOk result (λ ts. trace_text_of ts ≡ text.now) }
     ensures only { (ts : List ObjectTrace) → IsReadable ts → trace_text_of ts ≡ text.now → IfOk result (λ read. read ≡ ts) }
@@ -118,4 +113,23 @@ pub fn read_traces(alloc: Global, text: &[u8]) -> Result<Traces, TraceFault>
         line += 1 + count;
         rest = behind;
     }
+}
+
+/// The traces of a text, in one pass over it.
+///
+/// A text is read only as `trace_text` writes it. A step's destination, which the text doesn't say, is the number of its object.
+///
+/// A line is due by what was read before it: the first line, then the heading of the next object, a step of the present
+/// object while its heading's count says that some are left, or the last line with the number of all steps. The first
+/// line that isn't due is named, also where the text ends before it. A count takes no memory before its steps are read.
+pub fn read_traces(alloc: Global, text: &[u8]) -> Result<Traces, TraceFault>
+    ensures readable { IfOk result (λ ts. IsReadable ts) }
+    ensures text { IfOk result (λ ts. trace_text_of ts ≡ text.now) }
+    ensures only { (ts : List ObjectTrace) → IsReadable ts → trace_text_of ts ≡ text.now → IfOk result (λ read. read ≡ ts) }
+
+    // A line is named only where it is the first that isn't due, and there, but for want of memory.
+    ensures fault { IfErr result (λ e. FaultIs e text.now) }
+    ensures exactly { (n : ℕ) → IsFirstUndue n text.now → (result ≡ Err (TraceFault.Line n)) ⊎ (result ≡ Err TraceFault.Memory) }
+{
+    traces_of(alloc, text)
 }

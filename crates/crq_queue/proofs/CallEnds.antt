@@ -31,7 +31,7 @@ use Rattle.crq_queue.proofs.CallSteps.{IsAtWork, may_go, may_anew, called, calle
 use Rattle.crq_queue.proofs.CallStages.{fresh_on}
 
 -- a Begin doesn't make an event less fresh
-fresh_begun : (w span j k : ℕ) (history own : List Entry) (e : Event) → IsFresh w history own span j e → IsFresh w history (own ++ Begin k ∷ []) span j e
+pub fresh_begun : (w span j k : ℕ) (history own : List Entry) (e : Event) → IsFresh w history own span j e → IsFresh w history (own ++ Begin k ∷ []) span j e
 fresh_begun w span j k history own e fresh = (fresh.0, λ i f seen. fresh.1 i f (⊎_elim inl (λ a. ⊎_elim inr (λ is. absurd (not_begin is)) (in_snoc own (Begin k) (Put i f) a)) seen))
   where
     not_begin : {i k : ℕ} {f : Event} → Put i f ≡ Begin k → ⊥

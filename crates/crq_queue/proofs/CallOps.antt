@@ -16,12 +16,12 @@ use Rattle.crq_rule.specs.ListKinds.{IsFresh}
 use Rattle.crq_rows.specs.Passes.{caller, IsPassOf}
 use Rattle.crq_list.specs.declared.parts.ListAt.{ListAt}
 use Rattle.crq_list.specs.declared.parts.Spot.TheVariants.{Head}
-use Rattle.crq_list.specs.declared.seek.Seek.TheVariants.{Load}
+use Rattle.crq_list.specs.declared.seek.SeekState.TheVariants.{Load}
 use Rattle.crq_list.specs.declared.cut.CutOp.{CutOp}
 use Rattle.crq_list.specs.declared.insert.InsertOp.{InsertOp}
-use Rattle.crq_list.specs.declared.insert.Inserting.TheVariants.{Writing}
+use Rattle.crq_list.specs.declared.insert.InsertState.TheVariants.{Writing}
 use Rattle.crq_list.specs.declared.take.TakeOp.{TakeOp}
-use Rattle.crq_list.specs.declared.take.Taking.TheVariants.{Load as LoadHead, Marking}
+use Rattle.crq_list.specs.declared.take.TakeState.TheVariants.{Load as LoadHead, Marking}
 use Rattle.crq_list.specs.Spots.{IsListOf}
 use Rattle.crq_list.specs.Cutting.{IsCutting}
 use Rattle.crq_list.specs.Inserting.{IsInserting}
@@ -45,7 +45,7 @@ module _ {table : Table} {x : Control} {pass : Pass} (of : IsPassOf table pass) 
 
   -- a cut up to a row of an event
   pub may_cut : {n : ℕ} (op : CutOp) (list : ListAt) (e : Event) (r : ℕ) → n ≤ length (caller table pass).made → (list.generation ≡ x.generation) × (list.head ≡ head_of x e)
-      → op ≡ record { sought = record { list = list; target = Some (e, r) }; seek = Load (Head list.head) } → IsCutting n table x op (caller table pass)
+      → op ≡ record { sought = record { list = list; target = Some (e, r) }; state = Load (Head list.head) } → IsCutting n table x op (caller table pass)
   may_cut {n} op list e r counted names is = subst (λ op. IsCutting n table x op (caller table pass)) (sym is) record {
     counted = counted;
     on = inside.on;

@@ -26,11 +26,11 @@ use Rattle.crq_rows.specs.declared.recover.Recover.TheVariants.{Held as IsHeld, 
 use Rattle.crq_rows.specs.Passes.{caller, IsPassOf}
 use Rattle.crq_list.specs.declared.parts.ListAt.{ListAt}
 use Rattle.crq_list.specs.declared.insert.InsertOp.{InsertOp}
-use Rattle.crq_list.specs.declared.insert.Inserting.TheVariants.{Writing}
+use Rattle.crq_list.specs.declared.insert.InsertState.TheVariants.{Writing}
 use Rattle.crq_list.specs.declared.take.TakeOp.{TakeOp}
 use Rattle.crq_list.specs.declared.take.MarkEnd.{MarkEnd}
 use Rattle.crq_list.specs.declared.take.MarkEnd.TheVariants.{Marked, Beyond, Nothing, Lost, Frozen}
-use Rattle.crq_list.specs.declared.take.Taking.TheVariants.{Load as LoadHead}
+use Rattle.crq_list.specs.declared.take.TakeState.TheVariants.{Load as LoadHead}
 use Rattle.crq_list.specs.Inserting.{IsInserting}
 use Rattle.crq_list.specs.Taking.{IsTaking}
 use Rattle.crq_list.specs.Swaps.{Controlled}

@@ -14,18 +14,18 @@ use Rattle.crq_rule.specs.ListKinds.{put_entries, cut_debt, MayMiss}
 use Rattle.crq_rows.specs.Passes.{caller, IsPassOf}
 use Rattle.crq_rows.specs.Known.{Stays, turns_after}
 use Rattle.crq_list.specs.declared.cut.CutOp.{CutOp}
-use Rattle.crq_list.specs.declared.seek.Seek.{Seek}
-use Rattle.crq_list.specs.declared.seek.Seek.TheVariants.{Load, Reading, Passing, Cutting, Tagging, Retiring}
+use Rattle.crq_list.specs.declared.seek.SeekState.{SeekState}
+use Rattle.crq_list.specs.declared.seek.SeekState.TheVariants.{Load, Reading, Passing, Cutting, Tagging, Retiring}
 use Rattle.crq_list.specs.declared.seek.Sought.{Sought}
 use Rattle.crq_list.specs.declared.parts.Spot.TheVariants.{Head, Row}
 use Rattle.crq_list.specs.declared.insert.InsertOp.{InsertOp}
-use Rattle.crq_list.specs.declared.insert.Inserting.{Inserting}
-use Rattle.crq_list.specs.declared.insert.Inserting.TheVariants.{Writing, Seeking, Placing, Linking}
+use Rattle.crq_list.specs.declared.insert.InsertState.{InsertState}
+use Rattle.crq_list.specs.declared.insert.InsertState.TheVariants.{Writing, Seeking, Placing, Linking}
 use Rattle.crq_list.specs.declared.insert.InsertEnd.{InsertEnd}
 use Rattle.crq_list.specs.declared.insert.InsertEnd.TheVariants.{Linked}
 use Rattle.crq_list.specs.declared.take.TakeOp.{TakeOp}
-use Rattle.crq_list.specs.declared.take.Taking.{Taking}
-use Rattle.crq_list.specs.declared.take.Taking.TheVariants.{Load as LoadHead, Walking, Reading as ReadingRow, Marking}
+use Rattle.crq_list.specs.declared.take.TakeState.{TakeState}
+use Rattle.crq_list.specs.declared.take.TakeState.TheVariants.{Load as LoadHead, Walking, Reading as ReadingRow, Marking}
 use Rattle.crq_list.specs.declared.take.MarkEnd.{MarkEnd}
 use Rattle.crq_list.specs.declared.take.MarkEnd.TheVariants.{Marked, Beyond, Nothing, Lost, Frozen}
 use Rattle.crq_list.specs.declared.parts.Progress.{Progress}
@@ -62,7 +62,7 @@ falls false budget turns after left less is within low room small (inr fewer) = 
 
 -- A walk of a list
 
-seek_small : (seek : Seek) (p : Caller) → seek_left seek p < 2 ^ 166
+seek_small : (seek : SeekState) (p : Caller) → seek_left seek p < 2 ^ 166
 seek_small (Load (Head q)) p = omega arith
 seek_small (Load (Row r)) p = omega arith
 seek_small (Reading b place) p = omega arith
@@ -72,7 +72,7 @@ seek_small (Tagging spot row) p = omega arith
 seek_small (Retiring spot row tag) p = omega arith
 
 -- where the next step of a walk is an exchange, it has no cut row
-seek_uncut : (n : ℕ) (table : Table) (x : Control) (sought : Sought) (seek : Seek) (p : Caller) → IsSeeking n table x sought seek p → seek_exchanges seek ≡ true → p.cut ≡ None
+seek_uncut : (n : ℕ) (table : Table) (x : Control) (sought : Sought) (seek : SeekState) (p : Caller) → IsSeeking n table x sought seek p → seek_exchanges seek ≡ true → p.cut ≡ None
 seek_uncut n table x sought (Cutting b last) p i e = i.at.0
 seek_uncut n table x sought (Load spot) p i e = i.at.0
 seek_uncut n table x sought (Reading b place) p i e = i.at.0
@@ -80,19 +80,19 @@ seek_uncut n table x sought (Passing b) p i e = i.at.0
 seek_uncut n table x sought (Tagging spot row) p i e = absurd (false≢true e)
 seek_uncut n table x sought (Retiring spot row tag) p i e = absurd (false≢true e)
 
-state_small : (state : Inserting) (p : Caller) → state_left state p < big
+state_small : (state : InsertState) (p : Caller) → state_left state p < big
 state_small (Writing place) p = omega arith
 state_small (Seeking seek) p = let small = seek_small seek p in omega arith
 state_small (Placing b) p = omega arith
 state_small (Linking b) p = omega arith
 
-taking_small : (state : Taking) (p : Caller) → taking_left state p < big
+taking_small : (state : TakeState) (p : Caller) → taking_left state p < big
 taking_small LoadHead p = omega arith
 taking_small (Walking r) p = omega arith
 taking_small (ReadingRow r l place read) p = omega arith
 taking_small (Marking r l e) p = omega arith
 
-state_uncut : (n : ℕ) (table : Table) (x : Control) (op : InsertOp) (state : Inserting) (p : Caller) → IsInsertingAt n table x op state p → state_exchanges state ≡ true → p.cut ≡ None
+state_uncut : (n : ℕ) (table : Table) (x : Control) (op : InsertOp) (state : InsertState) (p : Caller) → IsInsertingAt n table x op state p → state_exchanges state ≡ true → p.cut ≡ None
 state_uncut n table x op (Writing place) p at e = at.0
 state_uncut n table x op (Seeking seek) p at e = seek_uncut n table x (sought_by op) seek p at.0 e
 state_uncut n table x op (Placing b) p at e = at.0.none
@@ -112,7 +112,7 @@ pub record CutGoes (table : Table) (n budget : ℕ) (x : Control) (op now : CutO
   pub ran : Ran table n budget old new []
   pub stays : Stays (caller table old) (caller table new)
   pub at : IsCutting n table x now (caller table new)
-  pub op_is : now ≡ record op { seek = now.seek }
+  pub op_is : now ≡ record op { state = now.state }
   pub free : new.free.items ≡ old.free.items
   pub debts : new.debts ≡ old.debts
   pub owed : ((caller table new).debts.cut ≡ None) ⊎ ((caller table new).debts.cut ≡ (caller table old).debts.cut)
@@ -127,23 +127,23 @@ module _ (table : Table) (n budget : ℕ) (x : Control) (op : CutOp) (old : Pass
   pub cut_begins : IsPassOf table old → old.turns ≤ budget → IsCutting n table x op (caller table old) → CutGoes table n budget x op op old old
   cut_begins of within at = record { ran = ran_none of (record { counted = at.counted; within = within; low = low }); stays = stays_none (caller table old); at = at; op_is = refl; free = refl; debts = refl; owed = inr refl }
 
-  module _ (now : CutOp) (mid : Pass) (g : CutGoes table n budget x op now old mid) (room : seek_exchanges now.seek ≡ true → mid.turns < budget) where
+  module _ (now : CutOp) (mid : Pass) (g : CutGoes table n budget x op now old mid) (room : seek_exchanges now.state ≡ true → mid.turns < budget) where
     cut_ran : {after : CutOp} {new : Pass} {answer : Progress CutEnd} → CutStepped n table x now after mid new answer → Ran table n budget old new []
-    cut_ran s = ran_trans g.ran (ran_inside g.at.on (seek_exchanges now.seek) [] (may_run_on low g.ran) room s.is s.number (ap (λ d. d.settle) s.debts) (ap (λ d. d.copy) s.debts) (ap (λ d. d.second_cut) s.debts) s.works s.turns (nothing_added s.own))
+    cut_ran s = ran_trans g.ran (ran_inside g.at.on (seek_exchanges now.state) [] (may_run_on low g.ran) room s.is s.number (ap (λ d. d.settle) s.debts) (ap (λ d. d.copy) s.debts) (ap (λ d. d.second_cut) s.debts) s.works s.turns (nothing_added s.own))
 
     pub cut_goes : (after : CutOp) (new : Pass) → CutStepped n table x now after mid new More → CutGoes table n budget x op after old new
     cut_goes after new s = record {
       ran = cut_ran s;
       stays = stays_trans g.stays s.works.stays;
       at = s.answers.0;
-      op_is = s.answers.1 ∙ ap (λ (o : CutOp). record o { seek = after.seek }) g.op_is;
+      op_is = s.answers.1 ∙ ap (λ (o : CutOp). record o { state = after.state }) g.op_is;
       free = s.free ∙ g.free;
       debts = s.debts ∙ g.debts;
       owed = owed_on g.owed s.owed;
     }
 
-    pub cut_falls : (after : CutOp) (new : Pass) → CutStepped n table x now after mid new More → all_left budget new.turns (seek_left after.seek (caller table new)) < all_left budget mid.turns (seek_left now.seek (caller table mid))
-    cut_falls after new s = let small = seek_small after.seek (caller table new) in falls (seek_exchanges now.seek) budget mid.turns new.turns (seek_left now.seek (caller table mid)) (seek_left after.seek (caller table new)) s.turns g.ran.within low room (omega arith) s.answers.2
+    pub cut_falls : (after : CutOp) (new : Pass) → CutStepped n table x now after mid new More → all_left budget new.turns (seek_left after.state (caller table new)) < all_left budget mid.turns (seek_left now.state (caller table mid))
+    cut_falls after new s = let small = seek_small after.state (caller table new) in falls (seek_exchanges now.state) budget mid.turns new.turns (seek_left now.state (caller table mid)) (seek_left after.state (caller table new)) s.turns g.ran.within low room (omega arith) s.answers.2
 
     pub cut_ends : (after : CutOp) (new : Pass) → CutStepped n table x now after mid new (Done Clean) → CutRan table n budget x op old new (Ok tt)
     cut_ends after new s = record {
@@ -155,10 +155,10 @@ module _ (table : Table) (n budget : ℕ) (x : Control) (op : CutOp) (old : Pass
       ended = λ d upto head. s.answers.1 d (ap (λ (o : CutOp). o.sought.target) g.op_is ∙ upto) (head ∙ sym (ap (λ (o : CutOp). o.sought.list.head) g.op_is));
     }
 
-  pub cut_spent : (now : CutOp) (new : Pass) (s : Spent) → CutGoes table n budget x op now old new → seek_exchanges now.seek ≡ true → budget ≤ new.turns → CutRan table n budget x op old new (Err s)
+  pub cut_spent : (now : CutOp) (new : Pass) (s : Spent) → CutGoes table n budget x op now old new → seek_exchanges now.state ≡ true → budget ≤ new.turns → CutRan table n budget x op old new (Err s)
   cut_spent now new s g exchanges used = record {
     ran = g.ran;
-    inside = record { on = g.at.on; uncut = seek_uncut n table x now.sought now.seek (caller table new) g.at exchanges; control = g.at.list_is.control };
+    inside = record { on = g.at.on; uncut = seek_uncut n table x now.sought now.state (caller table new) g.at exchanges; control = g.at.list_is.control };
     free = g.free;
     debts = g.debts;
     owed = g.owed;

@@ -36,7 +36,7 @@ no_room plain swaps = absurd (false≢true (sym plain ∙ swaps))
 
 module _ (table : Table) (n budget : ℕ) (x : Control) (op : CutOp) (old : Pass) (low : budget < 4294967296) where
   pub cut_runs_on : (now after : CutOp) (mid new : Pass) → CutGoes table n budget x op now old mid → (cut_exchanges now ≡ true → mid.turns < budget) → CutStretch n table x now after mid new More
-      → CutGoes table n budget x op after old new × (all_left budget new.turns (seek_left after.seek (caller table new)) < all_left budget mid.turns (seek_left now.seek (caller table mid)))
+      → CutGoes table n budget x op after old new × (all_left budget new.turns (seek_left after.state (caller table new)) < all_left budget mid.turns (seek_left now.state (caller table mid)))
   cut_runs_on now after mid new g room (ends _ _ _ _ _ s) = (cut_goes table n budget x op old low now mid g room after new s, cut_falls table n budget x op old low now mid g room after new s)
   cut_runs_on now after mid new g room (goes_on _ next _ _ between _ _ s plain rest) = let on = cut_goes table n budget x op old low now mid g room next between s in
       let less = cut_falls table n budget x op old low now mid g room next between s in let then = cut_runs_on next after between new on (no_room plain) rest in (then.0, let fell = then.1 in omega arith)

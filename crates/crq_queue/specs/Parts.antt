@@ -79,7 +79,7 @@ pub record UptoNeeds (n : ℕ) (table : Table) (upto : Target) (p : Caller) : Ty
   pub op : CutOp
   pub at : IsCutting n table control op p
   pub upto_is : op.sought.target ≡ upto
-  pub exchanges : seek_exchanges op.seek ≡ true
+  pub exchanges : seek_exchanges op.state ≡ true
 
 -- for the cut of the dead row that was owed; where none was, there is no such need
 pub record CutNeeds (n : ℕ) (table : Table) (owed : Option CutDebt) (p : Caller) : Type 0 where

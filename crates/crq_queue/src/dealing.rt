@@ -3,8 +3,7 @@ ghost use Rattle.std.specs.Prelude.{◌≤◌};
 ghost use Rattle.crq_queue.specs.Wholes.{AreResting, IsWhole, AreDealt};
 
 use crate::calendar::{Calendar, Whole};
-use crq_rows::{Passes, span_step};
-use crq_rule::FirstPart;
+use crq_rows::{Passes, span_step, wake_all};
 
 impl Calendar {
     /// Makes a pass for each caller, each with the same history. Each may put the events of `span` sources in a row, and
@@ -17,14 +16,6 @@ impl Calendar {
     {
         let Whole { mut seat, places } = whole;
         span_step(&self.table, &mut seat, span);
-        let mut passes = Passes { places };
-        let last = self.table.start.layout.workers - 1;
-        for number in 0..last {
-            let rest = self.table.inner.shared.split_seat::<FirstPart>(&mut seat);
-            passes.wake(number, seat);
-            seat = rest;
-        }
-        passes.wake(last, seat);
-        passes
+        wake_all(&self.table, seat, places)
     }
 }

@@ -2,8 +2,7 @@
 use Rattle.std.proofs.Common.{◌≡◌, ℕ, ◌+◌, ◌<◌, ◌≤◌, List, [], ◌∷◌, ◌++◌, length, get_or, drop, map, Bool, true, false, if◌then◌else◌, Option, Some, None, ok_or, Result, Ok, Err, refl, sym, ap, ◌∙◌, subst, arith, append_assoc, append-nil, length-append}
 use Rattle.std.specs.List.{AllZip, filter_map, cons_option}
 use Rattle.std.proofs.lemmas.List.{drop_more, drop_all, map-append}
-use Rattle.crq_reader.specs.Language.{and_then, each, told}
-use Rattle.crq_reader.specs.declared.fault.Fault.{Fault}
+use Rattle.crq_reader.specs.Language.{and_then, each, told, Flaw}
 use Rattle.crq_reader.specs.declared.fault.ModelFault.{ModelFault}
 
 -- ---- what an Ok tells
@@ -20,7 +19,7 @@ pub err_if : {A F : Type 0} (t : Bool) (r : Result A F) (m : A) (x : F) → (if 
 err_if true r m x e = absurd (cc)
 err_if false r m x e = (refl, e)
 
-pub told_ok : {A : Type 0} (p : Fault → ModelFault) (r : Result A Fault) (a : A) → told p r ≡ Ok a → r ≡ Ok a
+pub told_ok : {A : Type 0} (p : Flaw → ModelFault) (r : Result A Flaw) (a : A) → told p r ≡ Ok a → r ≡ Ok a
 told_ok p (Ok b) a e = cc
 told_ok p (Err f) a e = absurd (cc)
 

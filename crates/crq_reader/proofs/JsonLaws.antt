@@ -6,10 +6,10 @@ use Rattle.std.proofs.lemmas.Str.{IsUtf8-from_is_utf8, is_utf8-from_IsUtf8}
 use Rattle.serde_json.specs.Read.{read}
 use Rattle.serde_json.specs.Data.{Data}
 use Rattle.crq_sim.specs.Models.{ModelData}
-use Rattle.crq_reader.specs.Language.{language, model_of, in_file}
-use Rattle.crq_reader.specs.declared.fault.Fault.TheVariants.{NotJson}
+use Rattle.crq_reader.specs.Language.{language, model_of, in_file, as_whole}
+use Rattle.crq_reader.specs.declared.fault.FaultNumber.TheVariants.{NotJson}
 
-pub not_json : (text : List ℕ) → (IsUtf8 text → read text ≡ None) → language text ≡ Err (in_file NotJson)
+pub not_json : (text : List ℕ) → (IsUtf8 text → read text ≡ None) → language text ≡ Err (in_file (as_whole NotJson))
 unfolding language
 not_json text refused = elim (cases_Bool (is_utf8 text)) [ inl is ↦ rw (is, refused (IsUtf8-from_is_utf8 text is)) | inr is_not ↦ rw is_not ]
 

@@ -2,6 +2,8 @@ pub mod ElementLaws
 pub mod NumberLaws
 pub mod DraftLaws
 pub mod EachLaws
+pub mod FaultLaws
+pub mod KindLaws
 pub mod ReadLaws
 pub mod ModelLaws
 pub mod JsonLaws

@@ -1,14 +1,18 @@
 -- What the language tells of a model that it reads.
-use Rattle.std.proofs.Common.{◌≡◌, ℕ, suc, ◌<◌, ◌≤◌, List, [], ◌∷◌, length, Bool, true, false, cond, Option, Some, None, is_some, Result, Ok, Err, refl, sym, ap, ◌∙◌, subst, arith, zero-add, ◌==◌, nat_lt, codes}
+use Rattle.std.proofs.Common.{◌≡◌, ℕ, suc, ◌<◌, ◌≤◌, List, [], ◌∷◌, length, Bool, true, false, cond, Option, Some, None, is_some, Result, Ok, Err, refl, sym, ap, ◌∙◌, subst, arith, zero-add, ◌==◌, nat_lt}
 use Rattle.std.specs.List.{All, Contains, position_from, filter_map, list_all}
 use Rattle.std.specs.Str.{bytes_eq}
 use Rattle.std.proofs.lemmas.Bool.{ltb-false, eqb-false, and_parts}
 use Rattle.serde_json.specs.Data.{Data}
 use Rattle.serde_json.specs.Find.{as_str}
 use Rattle.crq_sim.specs.Names.{is_name}
-use Rattle.crq_reader.specs.Language.{whole, tick, delay, text, list, targets, relay_of, phold_of, station_of, fan_of, of_kind, sending_of, name, new_name, must_be_object, named_of, known, known_all, number_of, names_of, Sending, Named, relay, phold, station, fan, sink}
+use Rattle.crq_sim.specs.declared.model.BehaviourName.{BehaviourName}
+use Rattle.crq_sim.specs.declared.model.BehaviourName.TheVariants as kinds
+use Rattle.crq_reader.specs.Language.{Header, at_member, no_name, name_twice, whole, tick, delay, text, list, targets, relay_of, phold_of, station_of, fan_of, of_kind, kind, sending_of, name, new_name, must_be_object, named_of, known, known_all, number_of, names_of, Sending, Named, relay, phold, station, fan, sink}
 use Rattle.crq_reader.specs.Drafts.{IsSending, IsNamed}
-use Rattle.crq_reader.specs.declared.fault.Fault.TheVariants.{WrongKind, Range, UnknownName, Lookahead, TooMany}
+use Rattle.crq_reader.specs.declared.fault.FaultNumber.TheVariants.{WrongKind, Range, Lookahead, TooMany}
+use Rattle.crq_reader.specs.declared.member.Member.{Member}
+use Rattle.crq_reader.specs.declared.member.Member.TheVariants as members
 use Rattle.crq_reader.proofs.EachLaws.{and_then_ok, ok_if, err_if, length-each}
 
 -- ---- delays
@@ -20,10 +24,10 @@ IsAhead ahead (station n next) = ahead ≤ n
 IsAhead ahead (fan n ts) = ahead ≤ n
 IsAhead ahead sink = Unit {0}
 
-delay_ahead : (ahead : ℕ) (key : List ℕ) (d : Data) (n : ℕ) → delay ahead key d ≡ Ok n → ahead ≤ n
+delay_ahead : (ahead : ℕ) (key : Member) (d : Data) (n : ℕ) → delay ahead key d ≡ Ok n → ahead ≤ n
 delay_ahead ahead key d n e =
     let made = and_then_ok (tick key d) _ n e in
-    let kept = err_if (nat_lt made.0 ahead) (Ok made.0) n Lookahead made.2 in
+    let kept = err_if (nat_lt made.0 ahead) (Ok made.0) n (at_member Lookahead key) made.2 in
     let is : made.0 ≡ n = cc in
     omega (arith, ltb-false made.0 ahead kept.0)
 
@@ -45,63 +49,61 @@ texts_length (d ∷ ds) e =
 
 targets_few : (d : Data) (ts : List (List ℕ)) → targets d ≡ Ok ts → (0 < length ts) × (length ts ≤ 4)
 targets_few d ts e =
-    let made = and_then_ok (list (codes "targets") d) _ ts e in
+    let made = and_then_ok (list members.Targets d) _ ts e in
     let ds = made.0 in
-    let some = err_if (length ds == 0) _ ts Range made.2 in
-    let few = err_if (nat_lt 4 (length ds)) _ ts TooMany some.1 in
-    let all = ok_if (list_all (λ t. is_some (as_str t)) ds) (filter_map as_str ds) ts WrongKind few.1 in
+    let some = err_if (length ds == 0) _ ts (at_member Range members.Targets) made.2 in
+    let few = err_if (nat_lt 4 (length ds)) _ ts (at_member TooMany members.Targets) some.1 in
+    let all = ok_if (list_all (λ t. is_some (as_str t)) ds) (filter_map as_str ds) ts (at_member WrongKind members.Targets) few.1 in
     let same : length ts ≡ length ds = ap length (sym all.1) ∙ texts_length ds all.0 in
     (omega (arith, eqb-false (length ds) 0 some.0), omega (arith, ltb-false 4 (length ds) few.0))
 
-relay_sends : (ahead : ℕ) (d : Data) (s : Sending) → relay_of ahead d ≡ Ok s → Sends ahead s
-relay_sends ahead d s e =
-    let n = and_then_ok (delay ahead (codes "delay") d) _ s e in
-    let next = and_then_ok (text (codes "next") d) _ s n.2 in
+relay_sends : (h : Header) (d : Data) (s : Sending) → relay_of h d ≡ Ok s → Sends h.lookahead s
+relay_sends h d s e =
+    let n = and_then_ok (delay h.lookahead members.Delay d) _ s e in
+    let next = and_then_ok (text members.Next d) _ s n.2 in
     let is : relay n.0 next.0 ≡ s = cc in
-    subst (Sends ahead) is (tt, delay_ahead ahead (codes "delay") d n.0 n.1)
+    subst (Sends h.lookahead) is (tt, delay_ahead h.lookahead members.Delay d n.0 n.1)
 
 phold_sends : (ahead : ℕ) (d : Data) (s : Sending) → phold_of d ≡ Ok s → Sends ahead s
 phold_sends ahead d s e =
-    let seed = and_then_ok (whole (codes "seed") d) _ s e in
-    let spread = and_then_ok (tick (codes "spread") d) _ s seed.2 in
+    let seed = and_then_ok (whole members.Seed d) _ s e in
+    let spread = and_then_ok (tick members.Spread d) _ s seed.2 in
     let is : phold seed.0 spread.0 ≡ s = cc in
     subst (Sends ahead) is (tt, tt)
 
-station_sends : (ahead : ℕ) (d : Data) (s : Sending) → station_of ahead d ≡ Ok s → Sends ahead s
-station_sends ahead d s e =
-    let n = and_then_ok (delay ahead (codes "service") d) _ s e in
-    let next = and_then_ok (text (codes "next") d) _ s n.2 in
+station_sends : (h : Header) (d : Data) (s : Sending) → station_of h d ≡ Ok s → Sends h.lookahead s
+station_sends h d s e =
+    let n = and_then_ok (delay h.lookahead members.Service d) _ s e in
+    let next = and_then_ok (text members.Next d) _ s n.2 in
     let is : station n.0 next.0 ≡ s = cc in
-    subst (Sends ahead) is (tt, delay_ahead ahead (codes "service") d n.0 n.1)
+    subst (Sends h.lookahead) is (tt, delay_ahead h.lookahead members.Service d n.0 n.1)
 
-fan_sends : (ahead : ℕ) (d : Data) (s : Sending) → fan_of ahead d ≡ Ok s → Sends ahead s
-fan_sends ahead d s e =
-    let n = and_then_ok (delay ahead (codes "delay") d) _ s e in
+fan_sends : (h : Header) (d : Data) (s : Sending) → fan_of h d ≡ Ok s → Sends h.lookahead s
+fan_sends h d s e =
+    let n = and_then_ok (delay h.lookahead members.Delay d) _ s e in
     let ts = and_then_ok (targets d) _ s n.2 in
     let is : fan n.0 ts.0 ≡ s = cc in
-    subst (Sends ahead) is (targets_few d ts.0 ts.1, delay_ahead ahead (codes "delay") d n.0 n.1)
+    subst (Sends h.lookahead) is (targets_few d ts.0 ts.1, delay_ahead h.lookahead members.Delay d n.0 n.1)
 
-sink_sends : (ahead : ℕ) (t : Bool) (s : Sending) → (cond t (Ok sink) (Err UnknownName)) ≡ Ok s → Sends ahead s
-sink_sends ahead t s e = subst (Sends ahead) (ok_if t sink s UnknownName e).1 (tt, tt)
+sink_sends : (h : Header) (d : Data) (s : Sending) → of_kind h d kinds.Sink ≡ Ok s → Sends h.lookahead s
+sink_sends h d s e =
+    let is : sink ≡ s = cc in
+    subst (Sends h.lookahead) is (tt, tt)
 
-choice : {A F : Type 0} (P : A → Type 0) (t : Bool) (q r : Result A F) (a : A) → (q ≡ Ok a → P a) → (r ≡ Ok a → P a) → cond t q r ≡ Ok a → P a
-choice P true q r a f g e = f e
-choice P false q r a f g e = g e
+kind_sends : (h : Header) (d : Data) (kind : BehaviourName) (s : Sending) → of_kind h d kind ≡ Ok s → Sends h.lookahead s
+kind_sends h d kinds.Relay s = relay_sends h d s
+kind_sends h d kinds.Phold s = phold_sends h.lookahead d s
+kind_sends h d kinds.Station s = station_sends h d s
+kind_sends h d kinds.Fan s = fan_sends h d s
+kind_sends h d kinds.Sink s = sink_sends h d s
 
-kind_sends : (ahead : ℕ) (d : Data) (kind : List ℕ) (s : Sending) → of_kind ahead d kind ≡ Ok s → Sends ahead s
-kind_sends ahead d kind s =
-    choice (Sends ahead) _ _ _ s (relay_sends ahead d s)
-    (choice (Sends ahead) _ _ _ s (phold_sends ahead d s)
-    (choice (Sends ahead) _ _ _ s (station_sends ahead d s)
-    (choice (Sends ahead) _ _ _ s (fan_sends ahead d s) (sink_sends ahead _ s))))
-
-pub sending_sends : (ahead : ℕ) (d : Data) (s : Sending) → sending_of ahead d ≡ Ok s → Sends ahead s
-sending_sends ahead d s e = let kind = and_then_ok (text (codes "kind") d) (of_kind ahead d) s e in kind_sends ahead d kind.0 s kind.2
+pub sending_sends : (h : Header) (d : Data) (s : Sending) → sending_of h d ≡ Ok s → Sends h.lookahead s
+sending_sends h d s e = let made = and_then_ok (kind d) (of_kind h d) s e in kind_sends h d made.0 s made.2
 
 -- ---- names looked up
 
 pub length-known_all : (names ts : List (List ℕ)) (ns : List ℕ) → known_all names ts ≡ Ok ns → length ns ≡ length ts
-length-known_all names ts ns e = length-each (λ _ t. known names t) [] ts ns e ∙ zero-add (length ts)
+length-known_all names ts ns e = length-each (λ _ t. known members.Targets names t) [] ts ns e ∙ zero-add (length ts)
 
 -- ---- objects
 
@@ -114,19 +116,19 @@ no_number : (o : Option ℕ) → is_some o ≡ false → o ≡ None
 no_number None e = refl
 no_number (Some n) e = absurd (cc)
 
-pub named_tells : (ahead : ℕ) (before : List Named) (d : Data) (o : Named) → named_of ahead before d ≡ Ok o → Tells ahead before o
-named_tells ahead before d o e =
+pub named_tells : (h : Header) (before : List Named) (d : Data) (o : Named) → named_of h before d ≡ Ok o → Tells h.lookahead before o
+named_tells h before d o e =
     let thing = and_then_ok (must_be_object d) _ o e in
     let n = and_then_ok (name d) _ o thing.2 in
     let fresh = and_then_ok (new_name (names_of before) n.0) _ o n.2 in
-    let s = and_then_ok (sending_of ahead d) _ o fresh.2 in
-    let spelled = and_then_ok (text (codes "name") d) _ n.0 n.1 in
-    let proper = ok_if (is_name spelled.0) spelled.0 n.0 Range spelled.2 in
-    let unheard = err_if (is_some (number_of (names_of before) n.0)) (Ok n.0) fresh.0 Range fresh.1 in
+    let s = and_then_ok (sending_of h d) _ o fresh.2 in
+    let spelled = and_then_ok (text members.Name d) _ n.0 n.1 in
+    let proper = ok_if (is_name spelled.0) spelled.0 n.0 (no_name spelled.0) spelled.2 in
+    let unheard = err_if (is_some (number_of (names_of before) n.0)) (Ok n.0) fresh.0 (name_twice n.0) fresh.1 in
     let same : n.0 ≡ fresh.0 = cc in
-    let sends = sending_sends ahead d s.0 s.1 in
+    let sends = sending_sends h d s.0 s.1 in
     let is : record { name = fresh.0; sending = s.0 } ≡ o = cc in
-    subst (Tells ahead before) is
+    subst (Tells h.lookahead before) is
     (record {
       named = record { spelled = subst (λ x. is_name x ≡ true) (proper.1 ∙ same) proper.0; sends = sends.0 };
       new = subst (λ x. number_of (names_of before) x ≡ None) same (no_number _ unheard.0);

@@ -3,11 +3,13 @@ use Rattle.std.specs.Prelude.{ℕ, ◌-◌, ◌^◌, ◌<◌, List, [], ◌∷�
 use Rattle.serde_json.specs.Data.{Data, number, unsigned, string, array, object, Members, no_members, member}
 use Rattle.serde_json.specs.View.{items_of}
 use Rattle.serde_json.specs.Written.{compact_text}
+use Rattle.crq_sim.specs.Kinds.{kind_word}
 use Rattle.crq_sim.specs.Models.{ModelData}
 use Rattle.crq_sim.specs.declared.model.Object.{Object}
 use Rattle.crq_sim.specs.declared.model.Start.{Start}
 use Rattle.crq_sim.specs.declared.model.Behaviour.{Behaviour}
 use Rattle.crq_sim.specs.declared.model.Behaviour.TheVariants.{Relay, Phold, Station, Fan, Sink}
+use Rattle.crq_sim.specs.declared.model.BehaviourName.TheVariants as kinds
 
 abbrev pub whole_data : ℕ → Data
 whole_data n = number (unsigned n)
@@ -26,26 +28,26 @@ name_at names o = string (slice_index_or names (o - 1) [])
 abbrev pub object_members : List (List ℕ) → List ℕ → Behaviour → Members
 object_members names name (Relay delay next) =
     member (codes "delay") (whole_data delay)
-    (member (codes "kind") (string (codes "relay"))
+    (member (codes "kind") (string (kind_word kinds.Relay))
     (member (codes "name") (string name)
     (member (codes "next") (name_at names next) no_members)))
 object_members names name (Phold seed spread) =
-    member (codes "kind") (string (codes "phold"))
+    member (codes "kind") (string (kind_word kinds.Phold))
     (member (codes "name") (string name)
     (member (codes "seed") (whole_data seed)
     (member (codes "spread") (whole_data spread) no_members)))
 object_members names name (Station service next) =
-    member (codes "kind") (string (codes "station"))
+    member (codes "kind") (string (kind_word kinds.Station))
     (member (codes "name") (string name)
     (member (codes "next") (name_at names next)
     (member (codes "service") (whole_data service) no_members)))
 object_members names name (Fan delay targets) =
     member (codes "delay") (whole_data delay)
-    (member (codes "kind") (string (codes "fan"))
+    (member (codes "kind") (string (kind_word kinds.Fan))
     (member (codes "name") (string name)
     (member (codes "targets") (list_data (map (name_at names) targets)) no_members)))
 object_members names name Sink =
-    member (codes "kind") (string (codes "sink"))
+    member (codes "kind") (string (kind_word kinds.Sink))
     (member (codes "name") (string name) no_members)
 
 abbrev pub object_data : List (List ℕ) → Object → Data

@@ -8,27 +8,29 @@ use Rattle.std.specs.List.{filter_map}
 use Rattle.serde_json.specs.Find.{as_str}
 use Rattle.serde_json.specs.View.{view}
 use Rattle.crq_reader.specs.Language as language
-use Rattle.crq_reader.specs.Language.{Sending, Named, number_of, names_of, in_file}
+use Rattle.crq_reader.specs.Language.{Sending, Named, number_of, names_of, as_whole, at_member, no_kind, no_name, name_twice, no_object, no_memory}
 use Rattle.crq_sim.specs.Names.{is_name}
-use Rattle.crq_reader.specs.declared.fault.Fault.TheVariants.{Memory}
+use Rattle.crq_reader.specs.declared.fault.FaultNumber.TheVariants.{Memory}
 use Rattle.crq_reader.specs.declared.fault.ModelFault.{ModelFault}
+use Rattle.crq_reader.specs.declared.flaw.Flaw.{Flaw}
+use Rattle.crq_reader.specs.declared.flaw.Flaw.TheVariants as flaws
 use Rattle.crq_reader.specs.declared.draft.Draft.{Draft}
 use Rattle.crq_reader.specs.declared.draft.DraftBehaviour.{DraftBehaviour}
 use Rattle.crq_reader.specs.declared.draft.DraftBehaviour.TheVariants.{Relay, Phold, Station, Fan, Sink}
 use Rattle.crq_reader.specs.declared.header.Header.{Header}
 
-abbrev pub header_of : Header → language.Header
-header_of h = record { lookahead = h.lookahead; until = h.until; objects = map view h.objects.now; starts = map view h.starts.now }
+abbrev pub header_seen : Header → language.Header
+header_seen h = record { format = h.format; lookahead = h.lookahead; until = h.until; objects = map view h.objects.now; starts = map view h.starts.now }
 
-abbrev pub sending_of : DraftBehaviour → Sending
-sending_of (Relay n next) = language.relay n next.now
-sending_of (Phold seed spread) = language.phold seed spread
-sending_of (Station n next) = language.station n next.now
-sending_of (Fan n targets) = language.fan n (filter_map as_str (map view targets.now))
-sending_of Sink = language.sink
+abbrev pub sending_seen : DraftBehaviour → Sending
+sending_seen (Relay n next) = language.relay n next.now
+sending_seen (Phold seed spread) = language.phold seed spread
+sending_seen (Station n next) = language.station n next.now
+sending_seen (Fan n targets) = language.fan n (filter_map as_str (map view targets.now))
+sending_seen Sink = language.sink
 
-abbrev pub named_of : Draft → Named
-named_of d = record { name = d.name.now; sending = sending_of d.behaviour }
+abbrev pub named_seen : Draft → Named
+named_seen d = record { name = d.name.now; sending = sending_seen d.behaviour }
 
 -- ---- what is kept of the objects that were read
 
@@ -49,6 +51,22 @@ Finds numbers names = (name : List ℕ) → get_by (λ k. slice_cmp nat_cmp name
 
 -- ---- answers of the reader
 
--- want of memory, which is free, or the fault that comes first
+abbrev pub flaw_seen : Flaw → language.Flaw
+flaw_seen (flaws.Whole f) = as_whole f
+flaw_seen (flaws.Member f m) = at_member f m
+flaw_seen (flaws.NoKind word) = no_kind word.now
+flaw_seen (flaws.NoName word) = no_name word.now
+flaw_seen (flaws.NameTwice word) = name_twice word.now
+flaw_seen (flaws.NoObject m word) = no_object m word.now
+
+-- want of memory, which is free, or the flaw that comes first
+abbrev pub IsFlaw : {A : Type 0} → Flaw → Result A language.Flaw → Type 0
+IsFlaw f told = (flaw_seen f ≡ as_whole Memory) ⊎ (told ≡ Err (flaw_seen f))
+
+-- want of memory, or this fault
+abbrev pub IsToldAs : ModelFault → ModelFault → Type 0
+IsToldAs e fault = (e ≡ no_memory) ⊎ (e ≡ fault)
+
+-- want of memory, or the fault that comes first
 abbrev pub IsFault : {A : Type 0} → ModelFault → Result A ModelFault → Type 0
-IsFault e told = (e ≡ in_file Memory) ⊎ (told ≡ Err e)
+IsFault e told = (e ≡ no_memory) ⊎ (told ≡ Err e)

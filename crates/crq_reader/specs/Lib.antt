@@ -1,4 +1,6 @@
+-- What public contracts cite: whoever believes them has to read these.
 pub mod Language
 pub mod Canonical
-pub mod Drafts
 pub mod Wording
+-- What only contracts inside the crate cite.
+pub mod Drafts

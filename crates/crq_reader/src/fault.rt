@@ -2,12 +2,17 @@
 
 ghost use Rattle.std.specs.Prelude.{◌≡◌, ◌≤◌};
 ghost use Rattle.crq_reader.specs.Language as language;
+ghost use Rattle.crq_reader.specs.Drafts.{flaw_seen, IsToldAs};
 
-use std::fmt;
+use crate::flaw::Flaw;
+use crate::member::Member;
+use crate::word::Word;
+use crq_sim::{MOST_OBJECTS, MOST_STARTS};
+use std::alloc::Global;
 
 /// What is wrong with a text. The numbers are those that a caller prints.
 #[derive(Clone, Copy, Debug, PartialEq, Eq)]
-pub enum Fault {
+pub enum FaultNumber {
     /// 1: it isn't UTF-8, or isn't JSON.
     NotJson,
     /// 2: there was no memory to read it, which says nothing of the text.
@@ -26,43 +31,21 @@ pub enum Fault {
     TooMany,
 }
 
-impl Fault {
+impl FaultNumber {
     /// The number of the fault, 1 to 8.
     pub fn number(&self) -> u32
         ensures { result ≡ language.fault_number self.now }
     {
         match self {
-            Fault::NotJson => 1,
-            Fault::Memory => 2,
-            Fault::Missing => 3,
-            Fault::WrongKind => 4,
-            Fault::Range => 5,
-            Fault::UnknownName => 6,
-            Fault::Lookahead => 7,
-            Fault::TooMany => 8,
+            FaultNumber::NotJson => 1,
+            FaultNumber::Memory => 2,
+            FaultNumber::Missing => 3,
+            FaultNumber::WrongKind => 4,
+            FaultNumber::Range => 5,
+            FaultNumber::UnknownName => 6,
+            FaultNumber::Lookahead => 7,
+            FaultNumber::TooMany => 8,
         }
-    }
-}
-
-impl fmt::Display for Fault {
-    ghost use Rattle.std.specs.Prelude.{Some};
-    ghost use Rattle.crq_reader.specs.Wording.{fault_words};
-
-    ghost output = { λ fault. Some (fault_words fault) };
-
-    fn fmt<W: fmt::Write>(&self, f: &mut fmt::Formatter<W>) -> fmt::Result {
-        f.write_str(match self {
-            Fault::NotJson => "the text isn't JSON in UTF-8",
-            Fault::Memory => "there is no memory to read the text",
-            Fault::Missing => "a member is missing",
-            Fault::WrongKind => "something is of the wrong kind",
-            Fault::Range => {
-                "a number or a name is out of range, a name is given twice, or there is no target"
-            }
-            Fault::UnknownName => "there is no such kind, or no object of that name",
-            Fault::Lookahead => "the lookahead is 0, or a delay or service is below it",
-            Fault::TooMany => "there are more than 65535 objects or starts, or more than 4 targets",
-        })
     }
 }
 
@@ -77,81 +60,95 @@ pub enum Place {
     Start(u32),
 }
 
-impl fmt::Display for Place {
-    ghost use Rattle.std.specs.Prelude.{Some};
-    ghost use Rattle.crq_reader.specs.Wording.{place_words};
-
-    ghost output = { λ place. Some (place_words place) };
-
-    fn fmt<W: fmt::Write>(&self, f: &mut fmt::Formatter<W>) -> fmt::Result {
-        match self {
-            Place::File => f.write_str("the model"),
-            Place::Object(k) => write!(f, "object {k}"),
-            Place::Start(i) => write!(f, "start {i}"),
-        }
-    }
+/// What a fault is about.
+#[derive(Debug, Drop)]
+pub enum Subject {
+    /// The text, the object or the start as a whole.
+    Whole,
+    /// A member: it is missing, of the wrong kind, out of its range, too small for the lookahead, or too long.
+    Member(Member),
+    /// The kind of an object, which is no kind. Its number is 6.
+    NoKind(Word),
+    /// The name of an object, which isn't spelled as a name. Its number is 5.
+    NoName(Word),
+    /// The name of an object, which an object before it has. Its number is 5.
+    NameTwice(Word),
+    /// A member that names an object, and the name in it, which no object has. Its number is 6.
+    NoObject(Member, Word),
 }
 
 /// The first thing that is wrong with a text.
-#[derive(Clone, Copy, Debug, PartialEq, Eq)]
+#[derive(Debug, Drop)]
 pub struct ModelFault {
     /// What is wrong.
-    pub number: Fault,
+    pub number: FaultNumber,
     /// Where it is.
     pub place: Place,
     /// The place as one number: 0 for the file, `k` for object `k`, and the number of objects plus `i` for start `i`.
     pub at: u32,
+    /// Which member, kind or name it is about.
+    pub subject: Subject,
 }
 
-impl fmt::Display for ModelFault {
-    ghost use Rattle.std.specs.Prelude.{Some};
-    ghost use Rattle.crq_reader.specs.Wording.{model_fault_words};
-
-    ghost output = { λ fault. Some (model_fault_words fault) };
-
-    fn fmt<W: fmt::Write>(&self, f: &mut fmt::Formatter<W>) -> fmt::Result {
-        write!(f, "{}: {}", self.place, self.number)
-    }
-}
-
-/// There was no memory to read the text.
-pub(crate) fn no_memory() -> ModelFault
-    ensures { result ≡ language.in_file Fault.Memory }
-{
-    in_file(Fault::Memory)
-}
-
-/// A fault in the members of the file.
-pub(crate) fn in_file(fault: Fault) -> ModelFault
-    ensures { result ≡ language.in_file fault }
+/// A fault of the text as a whole, which takes no memory.
+pub(crate) fn in_text(fault: FaultNumber) -> ModelFault
+    ensures { result ≡ language.in_file (language.as_whole fault) }
 {
     ModelFault {
         number: fault,
         place: Place::File,
         at: 0,
+        subject: Subject::Whole,
     }
+}
+
+/// There was no memory to read the text.
+pub(crate) fn no_memory() -> ModelFault
+    ensures { result ≡ language.no_memory }
+{
+    in_text(FaultNumber::Memory)
+}
+
+/// The fault with this flaw at a place, or that there was no memory, which is at fault nowhere in the file.
+fn placed(alloc: Global, place: Place, at: u32, flaw: Flaw<'_>) -> ModelFault
+    ensures told { IsToldAs result (language.placed place at (flaw_seen flaw.entry)) }
+    ensures memory { flaw_seen flaw.entry ≡ language.as_whole FaultNumber.Memory → result ≡ language.no_memory }
+{
+    let number = flaw.number();
+    if let FaultNumber::Memory = number {
+        return no_memory();
+    }
+    match flaw.subject(alloc) {
+        Ok(subject) => ModelFault {
+            number,
+            place,
+            at,
+            subject,
+        },
+        Err(_) => no_memory(),
+    }
+}
+
+/// A fault in the members of the file.
+pub(crate) fn in_file(alloc: Global, flaw: Flaw<'_>) -> ModelFault
+    ensures { IsToldAs result (language.in_file (flaw_seen flaw.entry)) }
+{
+    placed(alloc, Place::File, 0, flaw)
 }
 
 /// A fault at object `k`.
-pub(crate) fn in_object(k: u32, fault: Fault) -> ModelFault
-    ensures { result ≡ language.in_object k fault }
+pub(crate) fn in_object(alloc: Global, k: u32, flaw: Flaw<'_>) -> ModelFault
+    ensures told { IsToldAs result (language.in_object k (flaw_seen flaw.entry)) }
+    ensures memory { flaw_seen flaw.entry ≡ language.as_whole FaultNumber.Memory → result ≡ language.no_memory }
 {
-    ModelFault {
-        number: fault,
-        place: Place::Object(k),
-        at: k,
-    }
+    placed(alloc, Place::Object(k), k, flaw)
 }
 
 /// A fault at start `i` of a file with so many objects.
-pub(crate) fn in_start(objects: u32, i: u32, fault: Fault) -> ModelFault
-    requires objects { objects ≤ 65535 }
-    requires starts { i ≤ 65535 }
-    ensures { result ≡ language.in_start objects i fault }
+pub(crate) fn in_start(alloc: Global, objects: u32, i: u32, flaw: Flaw<'_>) -> ModelFault
+    requires objects { objects ≤ MOST_OBJECTS }
+    requires starts { i ≤ MOST_STARTS }
+    ensures { IsToldAs result (language.in_start objects i (flaw_seen flaw.entry)) }
 {
-    ModelFault {
-        number: fault,
-        place: Place::Start(i),
-        at: objects + i,
-    }
+    placed(alloc, Place::Start(i), objects + i, flaw)
 }

@@ -3,19 +3,21 @@
 ghost use Rattle.std.specs.Prelude.{◌≡◌, ◌≤◌, map, length, IfOk};
 ghost use Rattle.std.specs.Result.{result_map_both};
 ghost use Rattle.serde_json.specs.View.{view};
-ghost use Rattle.crq_reader.specs.Drafts.{header_of};
+ghost use Rattle.crq_reader.specs.Drafts.{header_seen, flaw_seen};
 ghost use Rattle.crq_reader.specs.Language as language;
 
-use crate::fault::Fault;
+use crate::fault::FaultNumber;
+use crate::flaw::Flaw;
+use crate::member::Member;
 use crate::members::{list, must_be_object, tick, whole};
+use crq_sim::{MOST_OBJECTS, MOST_STARTS};
 use serde_json::Value;
-
-/// The most objects, and the most starts, that a file may have.
-const MOST: usize = 65_535;
 
 /// The members of a file, with the elements of its arrays not yet read.
 #[derive(Clone, Copy)]
 pub struct Header<'v> {
+    /// The version of the language, by which objects and starts are checked.
+    pub format: u64,
     pub lookahead: u32,
     pub until: u32,
     pub objects: &'v [Value],
@@ -23,54 +25,55 @@ pub struct Header<'v> {
 }
 
 /// The version of the language, which is 1.
-fn format(value: &Value) -> Result<u64, Fault>
-    ensures { result ≡ language.format (view value.now) }
+fn format(value: &Value) -> Result<u64, Flaw<'_>>
+    ensures { result_map_both (λ n. n) flaw_seen result ≡ language.format (view value.now) }
 {
-    let version = whole(value, "format")?;
+    let version = whole(value, Member::Format)?;
     if version == 1 {
         Ok(version)
     } else {
-        Err(Fault::Range)
+        Err(Flaw::Member(FaultNumber::Range, Member::Format))
     }
 }
 
 /// The lookahead, which is at least 1.
-fn lookahead(value: &Value) -> Result<u32, Fault>
-    ensures { result ≡ language.lookahead (view value.now) }
+fn lookahead(value: &Value) -> Result<u32, Flaw<'_>>
+    ensures { result_map_both (λ n. n) flaw_seen result ≡ language.lookahead (view value.now) }
 {
-    let ticks = tick(value, "lookahead")?;
+    let ticks = tick(value, Member::Lookahead)?;
     if ticks == 0 {
-        Err(Fault::Lookahead)
+        Err(Flaw::Member(FaultNumber::Lookahead, Member::Lookahead))
     } else {
         Ok(ticks)
     }
 }
 
 /// The elements of an array that isn't too long.
-fn many<'v>(value: &'v Value, name: &str) -> Result<&'v [Value], Fault>
-    ensures value { result_map_both (λ s. map view s.now) (λ f. f) result ≡ language.many name.now (view value.now) }
-    ensures few { IfOk result (λ s. length s.now ≤ 65535) }
+fn many<'v>(value: &'v Value, member: Member, most: usize) -> Result<&'v [Value], Flaw<'v>>
+    ensures value { result_map_both (λ s. map view s.now) flaw_seen result ≡ language.many most member (view value.now) }
+    ensures few { IfOk result (λ s. length s.now ≤ most) }
 {
-    let values = list(value, name)?;
-    if values.len() > MOST {
-        return Err(Fault::TooMany);
+    let values = list(value, member)?;
+    if values.len() > most {
+        return Err(Flaw::Member(FaultNumber::TooMany, member));
     }
     Ok(values)
 }
 
 /// The members of a file.
-pub fn read_header<'v>(value: &'v Value) -> Result<Header<'v>, Fault>
-    ensures value { result_map_both header_of (λ f. f) result ≡ language.header (view value.now) }
-    ensures few_objects { IfOk result (λ h. length h.objects.now ≤ 65535) }
-    ensures few_starts { IfOk result (λ h. length h.starts.now ≤ 65535) }
+pub fn read_header<'v>(value: &'v Value) -> Result<Header<'v>, Flaw<'v>>
+    ensures value { result_map_both header_seen flaw_seen result ≡ language.header (view value.now) }
+    ensures few_objects { IfOk result (λ h. length h.objects.now ≤ MOST_OBJECTS) }
+    ensures few_starts { IfOk result (λ h. length h.starts.now ≤ MOST_STARTS) }
 {
     must_be_object(value)?;
-    format(value)?;
+    let format = format(value)?;
     let lookahead = lookahead(value)?;
-    let until = tick(value, "until")?;
-    let objects = many(value, "objects")?;
-    let starts = many(value, "starts")?;
+    let until = tick(value, Member::Until)?;
+    let objects = many(value, Member::Objects, MOST_OBJECTS)?;
+    let starts = many(value, Member::Starts, MOST_STARTS)?;
     Ok(Header {
+        format,
         lookahead,
         until,
         objects,

@@ -4,7 +4,9 @@
 mod draft;
 mod drafts;
 mod fault;
+mod flaw;
 mod header;
+mod member;
 mod members;
 mod objects;
 mod read;
@@ -13,7 +15,12 @@ mod starts;
 #[cfg(test)]
 mod tests;
 mod text;
+mod word;
+mod wording;
 
-pub use fault::{Fault, ModelFault, Place};
+pub use fault::{FaultNumber, ModelFault, Place, Subject};
+pub use member::Member;
 pub use read::read_model;
 pub use text::model_text;
+pub use word::Word;
+pub use wording::ShownBytes;

@@ -5,7 +5,7 @@ ghost use Rattle.serde_json.specs.View.{view};
 ghost use Rattle.crq_reader.specs.Drafts.{IsFault};
 ghost use Rattle.crq_reader.specs.Language as language;
 
-use crate::fault::{Fault, ModelFault, in_file, no_memory};
+use crate::fault::{FaultNumber, ModelFault, in_file, in_text, no_memory};
 use crate::header::read_header;
 use crate::objects::read_objects;
 use crate::resolved::resolve_objects;
@@ -25,7 +25,7 @@ fn json(alloc: Global, text: &[u8]) -> Result<Value, ModelFault>
             if error.is_memory() {
                 Err(no_memory())
             } else {
-                Err(in_file(Fault::NotJson))
+                Err(in_text(FaultNumber::NotJson))
             }
         }
     }
@@ -38,11 +38,11 @@ fn model(alloc: Global, value: &Value) -> Result<Model, ModelFault>
 {
     let header = match read_header(value) {
         Ok(header) => header,
-        Err(fault) => return Err(in_file(fault)),
+        Err(flaw) => return Err(in_file(alloc, flaw)),
     };
-    let drafts = read_objects(alloc, header.lookahead, header.objects)?;
+    let drafts = read_objects(alloc, &header)?;
     let objects = resolve_objects(alloc, &drafts)?;
-    let starts = read_starts(alloc, &drafts, header.starts)?;
+    let starts = read_starts(alloc, &header, &drafts)?;
     Ok(Model::new(
         header.lookahead,
         header.until,

@@ -1,104 +1,111 @@
 //! Objects whose names are looked up.
 
-ghost use Rattle.std.specs.Prelude.{◌≡◌, ◌<◌, ◌≤◌, [], map, length, Ok, Err, ok_or, IfOk, IfErr, MatchOption};
+ghost use Rattle.std.specs.Prelude.{◌≡◌, ◌<◌, ◌≤◌, map, length, Ok, IfOk, IfErr};
 ghost use Rattle.std.specs.List.{filter_map};
+ghost use Rattle.std.specs.Result.{result_map_both};
 ghost use Rattle.serde_json.specs.Find.{as_str};
 ghost use Rattle.serde_json.specs.View.{view};
-ghost use Rattle.crq_reader.specs.Drafts.{named_of, sending_of, IsNamed, IsSending, IsFault};
-ghost use Rattle.crq_reader.specs.Language as language;
-ghost use Rattle.crq_reader.specs.Language.{names_of, known_all, behaviour_of, object_of, objects_of};
+ghost use Rattle.crq_reader.specs.Drafts.{named_seen, sending_seen, flaw_seen, IsNamed, IsSending, IsFlaw, IsFault};
+ghost use Rattle.crq_reader.specs.Language.{as_whole, names_of, known, known_all, behaviour_of, object_of, objects_of};
 
 use crate::draft::{Draft, DraftBehaviour};
 use crate::drafts::Drafts;
-use crate::fault::{Fault, ModelFault, in_object, no_memory};
+use crate::fault::{FaultNumber, ModelFault, in_object, no_memory};
+use crate::flaw::Flaw;
+use crate::member::Member;
 use crq_sim::{Behaviour, Name, Object, Targets};
 use serde_json::Value;
-use std::alloc::{AllocError, Global};
+use std::alloc::Global;
 
-/// The numbers of the objects that are named, or None where one of them isn't there.
-fn numbers(
-    alloc: Global,
-    drafts: &Drafts<'_>,
-    names: &[Value],
-) -> Result<Option<Vec<u32>>, AllocError>
-    ensures { IfOk result (λ o. MatchOption o
-        (known_all (names_of drafts.now) (filter_map as_str (map view names.now)) ≡ Err Fault.UnknownName)
-        (λ v. known_all (names_of drafts.now) (filter_map as_str (map view names.now)) ≡ Ok v.items)) }
+/// There was no memory.
+fn short<'v>() -> Flaw<'v>
+    ensures { flaw_seen result ≡ as_whole FaultNumber.Memory }
+{
+    Flaw::Whole(FaultNumber::Memory)
+}
+
+/// The number of the object that the member names.
+fn number<'v>(drafts: &Drafts<'_>, member: Member, name: &'v str) -> Result<u32, Flaw<'v>>
+    ensures { result_map_both (λ n. n) flaw_seen result ≡ known member (names_of drafts.now) name.now }
+{
+    drafts.number_of(name).ok_or(Flaw::NoObject(member, name))
+}
+
+/// The numbers of a fan's targets.
+fn numbers<'v>(alloc: Global, drafts: &Drafts<'_>, names: &'v [Value]) -> Result<Vec<u32>, Flaw<'v>>
+    ensures ok { IfOk result (λ v. known_all (names_of drafts.now) (filter_map as_str (map view names.now)) ≡ Ok v.items) }
+    ensures err { IfErr result (λ f. IsFlaw f (known_all (names_of drafts.now) (filter_map as_str (map view names.now)))) }
 {
     let mut numbers = Vec::new(alloc);
     for value in names {
         let Some(name) = value.as_str() else {
             continue;
         };
-        let Some(number) = drafts.number_of(name) else {
-            return Ok(None);
-        };
-        numbers.push(number)?;
+        match number(drafts, Member::Targets, name) {
+            Err(flaw) => return Err(flaw),
+            Ok(number) => {
+                if numbers.push(number).is_err() {
+                    return Err(short());
+                }
+            }
+        }
     }
-    Ok(Some(numbers))
+    Ok(numbers)
 }
 
-/// The targets that are named, or None where one of them isn't there.
-fn targets(
-    alloc: Global,
-    drafts: &Drafts<'_>,
-    names: &[Value],
-) -> Result<Option<Targets>, AllocError>
+/// A fan's targets.
+fn targets<'v>(alloc: Global, drafts: &Drafts<'_>, names: &'v [Value]) -> Result<Targets, Flaw<'v>>
     requires some { 0 < length (filter_map as_str (map view names.now)) }
     requires few { length (filter_map as_str (map view names.now)) ≤ 4 }
-    ensures { IfOk result (λ o. ok_or o Fault.UnknownName ≡ known_all (names_of drafts.now) (filter_map as_str (map view names.now))) }
+    ensures ok { IfOk result (λ ts. known_all (names_of drafts.now) (filter_map as_str (map view names.now)) ≡ Ok ts) }
+    ensures err { IfErr result (λ f. IsFlaw f (known_all (names_of drafts.now) (filter_map as_str (map view names.now)))) }
 {
-    match numbers(alloc, drafts, names)? {
-        Some(numbers) => Ok(Some(Targets::from_vec(numbers))),
-        None => Ok(None),
-    }
+    let numbers = numbers(alloc, drafts, names)?;
+    Ok(Targets::from_vec(numbers))
 }
 
-/// What an object does, or None where a name in it is of no object.
-fn resolve(
+/// What an object does, with its targets by number.
+fn resolve<'v>(
     alloc: Global,
     drafts: &Drafts<'_>,
-    behaviour: DraftBehaviour<'_>,
-) -> Result<Option<Behaviour>, AllocError>
-    requires { IsSending (sending_of behaviour) }
-    ensures { IfOk result (λ o. ok_or o Fault.UnknownName ≡ behaviour_of (names_of drafts.now) (sending_of behaviour.entry)) }
+    behaviour: DraftBehaviour<'v>,
+) -> Result<Behaviour, Flaw<'v>>
+    requires { IsSending (sending_seen behaviour) }
+    ensures ok { IfOk result (λ b. behaviour_of (names_of drafts.now) (sending_seen behaviour.entry) ≡ Ok b) }
+    ensures err { IfErr result (λ f. IsFlaw f (behaviour_of (names_of drafts.now) (sending_seen behaviour.entry))) }
 {
-    let behaviour = match behaviour {
+    match behaviour {
         DraftBehaviour::Relay { delay, next } => {
-            let next = drafts.number_of(next);
-            next.map(|next| Behaviour::Relay { delay, next })
+            let next = number(drafts, Member::Next, next)?;
+            Ok(Behaviour::Relay { delay, next })
         }
-        DraftBehaviour::Phold { seed, spread } => Some(Behaviour::Phold { seed, spread }),
+        DraftBehaviour::Phold { seed, spread } => Ok(Behaviour::Phold { seed, spread }),
         DraftBehaviour::Station { service, next } => {
-            let next = drafts.number_of(next);
-            next.map(|next| Behaviour::Station { service, next })
+            let next = number(drafts, Member::Next, next)?;
+            Ok(Behaviour::Station { service, next })
         }
         DraftBehaviour::Fan {
             delay,
             targets: names,
         } => {
             let targets = targets(alloc, drafts, names)?;
-            targets.map(|targets| Behaviour::Fan { delay, targets })
+            Ok(Behaviour::Fan { delay, targets })
         }
-        DraftBehaviour::Sink => Some(Behaviour::Sink),
-    };
-    Ok(behaviour)
+        DraftBehaviour::Sink => Ok(Behaviour::Sink),
+    }
 }
 
-/// The object with its targets by number, or None where a name in it is of no object.
-fn object(
-    alloc: Global,
-    drafts: &Drafts<'_>,
-    draft: &Draft<'_>,
-) -> Result<Option<Object>, AllocError>
-    requires { IsNamed (named_of draft.now) }
-    ensures { IfOk result (λ o. ok_or o Fault.UnknownName ≡ object_of (names_of drafts.now) (named_of draft.now)) }
+/// The object with its targets by number.
+fn object<'v>(alloc: Global, drafts: &Drafts<'_>, draft: &Draft<'v>) -> Result<Object, Flaw<'v>>
+    requires { IsNamed (named_seen draft.now) }
+    ensures ok { IfOk result (λ o. object_of (names_of drafts.now) (named_seen draft.now) ≡ Ok o) }
+    ensures err { IfErr result (λ f. IsFlaw f (object_of (names_of drafts.now) (named_seen draft.now))) }
 {
-    let Some(behaviour) = resolve(alloc, drafts, draft.behaviour)? else {
-        return Ok(None);
-    };
-    let name = Name::from_text(alloc, draft.name)?;
-    Ok(Some(Object { name, behaviour }))
+    let behaviour = resolve(alloc, drafts, draft.behaviour)?;
+    match Name::from_text(alloc, draft.name) {
+        Ok(name) => Ok(Object { name, behaviour }),
+        Err(_) => Err(short()),
+    }
 }
 
 /// All objects with their targets by number, or the first object in which a name is of no object.
@@ -110,9 +117,8 @@ pub fn resolve_objects(alloc: Global, drafts: &Drafts<'_>) -> Result<Vec<Object>
     for draft in drafts.as_slice() {
         let k = objects.len() as u32 + 1;
         match object(alloc, drafts, draft) {
-            Err(_) => return Err(no_memory()),
-            Ok(None) => return Err(in_object(k, Fault::UnknownName)),
-            Ok(Some(object)) => {
+            Err(flaw) => return Err(in_object(alloc, k, flaw)),
+            Ok(object) => {
                 if objects.push(object).is_err() {
                     return Err(no_memory());
                 }

@@ -16,11 +16,22 @@ const KINDS: &str =
 const KINDS_TEXT: &str =
     "{\"format\":1,\"lookahead\":3,\"objects\":[{\"kind\":\"phold\",\"name\":\"p.1\",\"seed\":18446744073709551615,\"spread\":0},{\"kind\":\"station\",\"name\":\"s\",\"next\":\"f\",\"service\":9},{\"delay\":3,\"kind\":\"fan\",\"name\":\"f\",\"targets\":[\"f\",\"z_Z-\",\"f\",\"s\"]},{\"kind\":\"sink\",\"name\":\"z_Z-\"}],\"starts\":[{\"data\":18446744073709551615,\"object\":\"p.1\",\"time\":4294967295}],\"until\":0}\n";
 
+const NO_OBJECTS: &str =
+    r#"{"format":1,"lookahead":5,"until":12,"objects":[],"starts":[{"time":0,"object":"a"}]}"#;
+
 /// The number and the place of a text's fault, or 0 and 0 for a model.
 fn fault_of(alloc: Global, text: &[u8]) -> (u32, u32) {
     match read_model(alloc, text) {
         Ok(_) => (0, 0),
         Err(fault) => (fault.number.number(), fault.at),
+    }
+}
+
+/// The words of a text's fault, or none for a model.
+fn words_of(alloc: Global, text: &[u8]) -> Result<String, AllocError> {
+    match read_model(alloc, text) {
+        Ok(_) => String::from_str(alloc, ""),
+        Err(fault) => format!(in alloc; "{fault}"),
     }
 }
 
@@ -51,104 +62,248 @@ fn changed(alloc: Global, text: &str, old: &str, new: &str) -> Result<String, Fa
     Ok(format!(in alloc; "{front}{new}{back}")?)
 }
 
+/// The second relay.
+const RELAY_B: &str = r#"{"name":"b","kind":"relay","delay":7,"next":"a"}"#;
+
+/// Texts that are no models: what stands in place of a part of `RELAYS`, the number and the place of the fault, and its
+/// words.
+const REFUSED: [(&str, &str, u32, u32, &str); 36] = [
+    ("]}", "]", 1, 0, "the text isn't JSON in UTF-8"),
+    (r#""format":1"#, r#""format":2,"format":1"#, 0, 0, ""),
+    (
+        r#""format":1"#,
+        r#""format":1,"format":2"#,
+        5,
+        0,
+        r#""format" isn't 1"#,
+    ),
+    (
+        r#""format":1"#,
+        r#""format":"1""#,
+        4,
+        0,
+        r#""format" isn't a whole number from 0 to 18446744073709551615 in digits alone"#,
+    ),
+    (r#""format":1,"#, "", 3, 0, r#""format" is missing"#),
+    (
+        r#""lookahead":5"#,
+        r#""lookahead":0"#,
+        7,
+        0,
+        r#""lookahead" is 0"#,
+    ),
+    (
+        r#""lookahead":5"#,
+        r#""lookahead":5.0"#,
+        4,
+        0,
+        r#""lookahead" isn't a whole number from 0 to 18446744073709551615 in digits alone"#,
+    ),
+    (
+        r#""until":12"#,
+        r#""until":-1"#,
+        4,
+        0,
+        r#""until" isn't a whole number from 0 to 18446744073709551615 in digits alone"#,
+    ),
+    (
+        r#""until":12"#,
+        r#""until":4294967296"#,
+        5,
+        0,
+        r#""until" is above 4294967295"#,
+    ),
+    (
+        r#""until":12"#,
+        r#""until":1e1"#,
+        4,
+        0,
+        r#""until" isn't a whole number from 0 to 18446744073709551615 in digits alone"#,
+    ),
+    (
+        r#"[{"time":0,"object":"a"}]"#,
+        "{}",
+        4,
+        0,
+        r#""starts" isn't an array"#,
+    ),
+    (
+        r#""delay":7"#,
+        r#""delay":4"#,
+        7,
+        2,
+        r#"object 2: "delay" is below the lookahead"#,
+    ),
+    (
+        r#""next":"b""#,
+        r#""next":"c""#,
+        6,
+        1,
+        r#"object 1: "next" names no object "c""#,
+    ),
+    (
+        r#""next":"b""#,
+        r#""next":0"#,
+        4,
+        1,
+        r#"object 1: "next" isn't a text"#,
+    ),
+    (
+        r#""next":"a""#,
+        r#""next":"A""#,
+        6,
+        2,
+        r#"object 2: "next" names no object "A""#,
+    ),
+    (
+        r#""object":"a""#,
+        r#""object":"c""#,
+        6,
+        3,
+        r#"start 1: "object" names no object "c""#,
+    ),
+    (
+        r#""name":"b""#,
+        r#""name":"a""#,
+        5,
+        2,
+        r#"object 2: the name "a" is given twice"#,
+    ),
+    (
+        r#""name":"b""#,
+        r#""name":"""#,
+        5,
+        2,
+        r#"object 2: the name "" isn't 1 to 32 letters and digits of ASCII, '_', '-' and '.'"#,
+    ),
+    (
+        r#""name":"b""#,
+        r#""name":"123456789012345678901234567890123""#,
+        5,
+        2,
+        r#"object 2: the name "123456789012345678901234567890123" isn't 1 to 32 letters and digits of ASCII, '_', '-' and '.'"#,
+    ),
+    (
+        r#""name":"b""#,
+        r#""name":"b \u0007\u007f\"\\~é""#,
+        5,
+        2,
+        r#"object 2: the name "b \x07\x7f\x22\x5c~\xc3\xa9" isn't 1 to 32 letters and digits of ASCII, '_', '-' and '.'"#,
+    ),
+    (
+        r#""kind":"relay","delay":5"#,
+        r#""delay":5"#,
+        3,
+        1,
+        r#"object 1: "kind" is missing"#,
+    ),
+    (
+        r#""kind":"relay","delay":7"#,
+        r#""kind":"realy","delay":7"#,
+        6,
+        2,
+        r#"object 2: no kind "realy""#,
+    ),
+    (
+        r#""kind":"relay","delay":7"#,
+        r#""kind":"1234567890123456789012345678901234567890123456789012345678901234","delay":7"#,
+        6,
+        2,
+        r#"object 2: no kind "1234567890123456789012345678901234567890123456789012345678901234""#,
+    ),
+    (
+        r#""kind":"relay","delay":7"#,
+        r#""kind":"12345678901234567890123456789012345678901234567890123456789012345","delay":7"#,
+        6,
+        2,
+        r#"object 2: no kind "1234567890123456789012345678901234567890123456789012345678901234"..."#,
+    ),
+    (
+        r#""time":0"#,
+        r#""time":4294967296"#,
+        5,
+        3,
+        r#"start 1: "time" is above 4294967295"#,
+    ),
+    (r#""time":0,"#, "", 3, 3, r#"start 1: "time" is missing"#),
+    (
+        r#""object":"a""#,
+        r#""object":"a","data":null"#,
+        4,
+        3,
+        r#"start 1: "data" isn't a whole number from 0 to 18446744073709551615 in digits alone"#,
+    ),
+    (
+        r#""object":"a""#,
+        r#""object":"a","data":18446744073709551616"#,
+        4,
+        3,
+        r#"start 1: "data" isn't a whole number from 0 to 18446744073709551615 in digits alone"#,
+    ),
+    (RELAY_B, "7", 4, 2, "object 2: it isn't a JSON object"),
+    (
+        RELAY_B,
+        r#"{"name":"b","kind":"fan","delay":7,"targets":[]}"#,
+        5,
+        2,
+        r#"object 2: "targets" is empty"#,
+    ),
+    (
+        RELAY_B,
+        r#"{"name":"b","kind":"fan","delay":7,"targets":["a",1,"a","a","a"]}"#,
+        8,
+        2,
+        r#"object 2: "targets" has more than 4 elements"#,
+    ),
+    (
+        RELAY_B,
+        r#"{"name":"b","kind":"fan","delay":7,"targets":["a",1]}"#,
+        4,
+        2,
+        r#"object 2: "targets" isn't an array of texts"#,
+    ),
+    (
+        RELAY_B,
+        r#"{"name":"b","kind":"fan","delay":7,"targets":["a","c","d"]}"#,
+        6,
+        2,
+        r#"object 2: "targets" names no object "c""#,
+    ),
+    (
+        RELAY_B,
+        r#"{"name":"b","kind":"phold","seed":18446744073709551616,"spread":0}"#,
+        4,
+        2,
+        r#"object 2: "seed" isn't a whole number from 0 to 18446744073709551615 in digits alone"#,
+    ),
+    (
+        RELAY_B,
+        r#"{"name":"b","kind":"station","service":4,"next":"a"}"#,
+        7,
+        2,
+        r#"object 2: "service" is below the lookahead"#,
+    ),
+    (
+        RELAY_B,
+        r#"{"name":"b","kind":"sink"},null"#,
+        4,
+        3,
+        "object 3: it isn't a JSON object",
+    ),
+];
+
 #[test]
 fn texts_that_are_none(rt: HostRuntime) -> Result<(), Fail> {
     let alloc = rt.alloc();
-    let b = r#"{"name":"b","kind":"relay","delay":7,"next":"a"}"#;
-    let rows = [
-        ("]}", "]", 1, 0),
-        ("\"format\":1", "\"format\":2,\"format\":1", 0, 0),
-        ("\"format\":1", "\"format\":1,\"format\":2", 5, 0),
-        ("\"format\":1", "\"format\":\"1\"", 4, 0),
-        ("\"format\":1,", "", 3, 0),
-        ("\"lookahead\":5", "\"lookahead\":0", 7, 0),
-        ("\"lookahead\":5", "\"lookahead\":5.0", 4, 0),
-        ("\"until\":12", "\"until\":-1", 4, 0),
-        ("\"until\":12", "\"until\":4294967296", 5, 0),
-        ("\"until\":12", "\"until\":1e1", 4, 0),
-        ("[{\"time\":0,\"object\":\"a\"}]", "{}", 4, 0),
-        ("\"delay\":7", "\"delay\":4", 7, 2),
-        ("\"next\":\"b\"", "\"next\":\"c\"", 6, 1),
-        ("\"next\":\"b\"", "\"next\":0", 4, 1),
-        ("\"next\":\"a\"", "\"next\":\"A\"", 6, 2),
-        ("\"object\":\"a\"", "\"object\":\"c\"", 6, 3),
-        ("\"name\":\"b\"", "\"name\":\"a\"", 5, 2),
-        ("\"name\":\"b\"", "\"name\":\"\"", 5, 2),
-        ("\"name\":\"b\"", "\"name\":\"b b\"", 5, 2),
-        (
-            "\"name\":\"b\"",
-            "\"name\":\"123456789012345678901234567890123\"",
-            5,
-            2,
-        ),
-        ("\"kind\":\"relay\",\"delay\":5", "\"delay\":5", 3, 1),
-        (
-            "\"kind\":\"relay\",\"delay\":7",
-            "\"kind\":\"relais\",\"delay\":7",
-            6,
-            2,
-        ),
-        (b, "7", 4, 2),
-        (
-            b,
-            r#"{"name":"b","kind":"fan","delay":7,"targets":[]}"#,
-            5,
-            2,
-        ),
-        (
-            b,
-            r#"{"name":"b","kind":"fan","delay":7,"targets":["a",1,"a","a","a"]}"#,
-            8,
-            2,
-        ),
-        (
-            b,
-            r#"{"name":"b","kind":"fan","delay":7,"targets":["a",1]}"#,
-            4,
-            2,
-        ),
-        (
-            b,
-            r#"{"name":"b","kind":"fan","delay":7,"targets":["a","c"]}"#,
-            6,
-            2,
-        ),
-        (
-            b,
-            r#"{"name":"b","kind":"phold","seed":18446744073709551616,"spread":0}"#,
-            4,
-            2,
-        ),
-        (
-            b,
-            r#"{"name":"b","kind":"station","service":4,"next":"a"}"#,
-            7,
-            2,
-        ),
-        (b, r#"{"name":"b","kind":"sink"},null"#, 4, 3),
-        ("\"time\":0", "\"time\":4294967296", 5, 3),
-        ("\"time\":0,", "", 3, 3),
-        ("\"object\":\"a\"", "\"object\":\"a\",\"data\":null", 4, 3),
-        (
-            "\"object\":\"a\"",
-            "\"object\":\"a\",\"data\":18446744073709551616",
-            4,
-            3,
-        ),
-    ];
-    for (old, new, number, at) in rows {
+    for (old, new, number, at, words) in REFUSED {
         let text = changed(alloc, RELAYS, old, new)?;
         assert_eq!(rt;
             fault_of(alloc, text.as_bytes()),
             (number, at),
             "{new} for {old}"
         );
-    }
-    let alone = changed(alloc, RELAYS, b, "")?;
-    let no_objects =
-        r#"{"format":1,"lookahead":5,"until":12,"objects":[],"starts":[{"time":0,"object":"a"}]}"#;
-    for (text, number, at) in [(alone.as_str(), 1, 0), (no_objects, 6, 1), ("7", 4, 0)] {
-        assert_eq!(rt; fault_of(alloc, text.as_bytes()), (number, at), "{text}");
+        let said = words_of(alloc, text.as_bytes())?;
+        assert_eq!(rt; said.as_str(), words, "{new} for {old}");
     }
     Ok(())
 }
@@ -198,7 +353,7 @@ fn members(alloc: Global, count: u32) -> Result<String, AllocError> {
 }
 
 #[test]
-fn hostile_texts(rt: HostRuntime) -> Result<(), Fail> {
+fn long_texts_of_one_byte(rt: HostRuntime) -> Result<(), Fail> {
     let alloc = rt.alloc();
     for byte in *b"[{\"0 1a,:-\\\x00\xff" {
         let text = vec![in alloc; byte; 16_777_216]?;
@@ -208,43 +363,27 @@ fn hostile_texts(rt: HostRuntime) -> Result<(), Fail> {
             "16 MiB of byte {byte}"
         );
     }
+    Ok(())
+}
+
+#[test]
+fn long_words(rt: HostRuntime) -> Result<(), Fail> {
+    let alloc = rt.alloc();
     let deep = repeated(alloc, "[", 1000)?;
     let nested = repeated(alloc, "{\"format\":", 1_600_000)?;
     let long = repeated(alloc, "1", 16_000_000)?;
     let long_number = changed(alloc, RELAYS, "12", long.as_str())?;
-    let long_name = changed(
-        alloc,
-        RELAYS,
-        "\"b\"",
-        format!(in alloc; "\"{long}\"")?.as_str(),
-    )?;
-    let past = changed(alloc, RELAYS, "12", "18446744073709551616")?;
-    let full = ring(alloc, 65_535)?;
-    let twice = changed(
-        alloc,
-        full.as_str(),
-        "\"name\":\"n65534\"",
-        "\"name\":\"n0\"",
-    )?;
-    let unknown = changed(
-        alloc,
-        full.as_str(),
-        "\"object\":\"n65534\"",
-        "\"object\":\"m\"",
-    )?;
-    let more = ring(alloc, 65_536)?;
+    let quoted = format!(in alloc; "\"{long}\"")?;
+    let long_name = changed(alloc, RELAYS, "\"b\"", quoted.as_str())?;
     let members = members(alloc, 1_200_000)?;
+    let no_objects = String::from_str(alloc, NO_OBJECTS)?;
     for (text, number, at) in [
         (&deep, 1, 0),
         (&nested, 1, 0),
         (&long_number, 1, 0),
         (&long_name, 6, 1),
-        (&past, 4, 0),
-        (&full, 0, 0),
-        (&twice, 5, 65_535),
-        (&unknown, 6, 131_070),
-        (&more, 8, 0),
         (&members, 3, 0),
+        (&no_objects, 6, 1),
     ] {
         assert_eq!(rt; fault_of(alloc, text.as_bytes()), (number, at));
     }
@@ -254,30 +393,33 @@ fn hostile_texts(rt: HostRuntime) -> Result<(), Fail> {
 }
 
 #[test]
-fn faults_in_words(rt: HostRuntime) -> Result<(), Fail> {
+fn full_models(rt: HostRuntime) -> Result<(), Fail> {
     let alloc = rt.alloc();
-    let rows = [
+    let full = ring(alloc, 65_535)?;
+    let more = ring(alloc, 65_536)?;
+    let last = "\"name\":\"n65534\"";
+    let twice = changed(alloc, full.as_str(), last, "\"name\":\"n0\"")?;
+    let start = "\"object\":\"n65534\"";
+    let unknown = changed(alloc, full.as_str(), start, "\"object\":\"m\"")?;
+    for (text, number, at, words) in [
+        (&full, 0, 0, ""),
         (
-            "\"lookahead\":5",
-            "\"lookahead\":0",
-            "the model: the lookahead is 0, or a delay or service is below it",
+            &twice,
+            5,
+            65_535,
+            "object 65535: the name \"n0\" is given twice",
         ),
         (
-            "\"next\":\"a\"",
-            "\"next\":\"c\"",
-            "object 2: there is no such kind, or no object of that name",
+            &unknown,
+            6,
+            131_070,
+            "start 65535: \"object\" names no object \"m\"",
         ),
-        ("\"time\":0,", "", "start 1: a member is missing"),
-    ];
-    for (old, new, words) in rows {
-        let text = changed(alloc, RELAYS, old, new)?;
-        match read_model(alloc, text.as_bytes()) {
-            Ok(_) => assert!(rt; false, "{new} for {old}"),
-            Err(fault) => {
-                let said = format!(in alloc; "{fault}")?;
-                assert_eq!(rt; said.as_str(), words);
-            }
-        }
+        (&more, 8, 0, "\"objects\" has more than 65535 elements"),
+    ] {
+        assert_eq!(rt; fault_of(alloc, text.as_bytes()), (number, at));
+        let said = words_of(alloc, text.as_bytes())?;
+        assert_eq!(rt; said.as_str(), words);
     }
     Ok(())
 }

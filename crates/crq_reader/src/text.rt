@@ -43,23 +43,24 @@ fn object_value(alloc: Global, objects: &[Object], object: &Object) -> Result<Va
     ensures ticks { OnOk result (IsTicks object.now.behaviour) }
 {
     let name = object.name.as_str();
+    let kind = object.behaviour.kind().word();
     match &object.behaviour {
         Behaviour::Relay { delay, next } => {
             let next = name_of(objects, *next);
-            json!(in alloc; {"delay": *delay, "kind": "relay", "name": name, "next": next})
+            json!(in alloc; {"delay": *delay, "kind": kind, "name": name, "next": next})
         }
         Behaviour::Phold { seed, spread } => {
-            json!(in alloc; {"kind": "phold", "name": name, "seed": *seed, "spread": *spread})
+            json!(in alloc; {"kind": kind, "name": name, "seed": *seed, "spread": *spread})
         }
         Behaviour::Station { service, next } => {
             let next = name_of(objects, *next);
-            json!(in alloc; {"kind": "station", "name": name, "next": next, "service": *service})
+            json!(in alloc; {"kind": kind, "name": name, "next": next, "service": *service})
         }
         Behaviour::Fan { delay, targets } => {
             let targets = targets_value(alloc, objects, targets)?;
-            json!(in alloc; {"delay": *delay, "kind": "fan", "name": name, "targets": targets})
+            json!(in alloc; {"delay": *delay, "kind": kind, "name": name, "targets": targets})
         }
-        Behaviour::Sink => json!(in alloc; {"kind": "sink", "name": name}),
+        Behaviour::Sink => json!(in alloc; {"kind": kind, "name": name}),
     }
 }
 

@@ -4,6 +4,7 @@ pub mod StampWords
 pub mod Slots
 pub mod Reached
 pub mod Readings
+pub mod Wakings
 pub mod Deals
 pub mod Ticks
 pub mod Owns

@@ -1,10 +1,29 @@
-//! Making the passes of a new table.
+//! Making passes of callers that rest, as those of a new table do.
 ghost use Rattle.std.specs.Prelude.{◌≡◌};
 ghost use Rattle.crq_rule.specs.Opening.{IsOpening};
 ghost use Rattle.crq_rows.specs.Passes.{AreNew};
+ghost use Rattle.crq_rows.specs.Waking.{AllRest, AllWoken};
 
 use crate::places::Passes;
-use crq_rule::{FirstPart, Opened, Table};
+use atomic_table::Seat;
+use crq_rule::{FirstPart, Opened, Seating, Table, View};
+
+/// Makes the pass of each caller that rests, of the seat that carries them all. It takes no memory.
+pub fn wake_all(table: &Table, seat: Seat<(), View>, places: Vec<Seating>) -> Passes
+    requires { AllRest table.now seat places.items }
+    ensures { AllWoken table.now seat places.items result.places.items }
+{
+    let mut left = seat;
+    let mut passes = Passes { places };
+    let last = table.start.layout.workers - 1;
+    for number in 0..last {
+        let rest = table.inner.shared.split_seat::<FirstPart>(&mut left);
+        passes.wake(number, left);
+        left = rest;
+    }
+    passes.wake(last, left);
+    passes
+}
 
 /// The table, and a pass for each caller, none of which has made a step. Each pass may put the events of one source, that
 /// of its number, and the last one those of all greater sources too. It takes no memory.
@@ -15,16 +34,9 @@ pub fn passes(opened: Opened) -> (Table, Passes)
 {
     let Opened {
         table,
-        mut seat,
+        seat,
         places,
     } = opened;
-    let mut passes = Passes { places };
-    let last = table.start.layout.workers - 1;
-    for number in 0..last {
-        let rest = table.inner.shared.split_seat::<FirstPart>(&mut seat);
-        passes.wake(number, seat);
-        seat = rest;
-    }
-    passes.wake(last, seat);
+    let passes = wake_all(&table, seat, places);
     (table, passes)
 }

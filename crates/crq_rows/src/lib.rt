@@ -19,7 +19,7 @@ mod tick;
 
 pub use crq_base::{Holder, Stamp};
 pub use crq_rule::{Owes, Pass, Seating, Table};
-pub use dealing::passes;
+pub use dealing::{passes, wake_all};
 pub use gathering::{gather_step, span_step};
 pub use kinds::{
     Change, Does, Turn, TurnsBy, exchange_as, exchange_seated, load_as, load_turning, store_as,

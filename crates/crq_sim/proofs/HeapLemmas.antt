@@ -8,7 +8,7 @@ use Rattle.std.proofs.lemmas.List.Sorted.{IsPermutation-keeps, IsPermutation-map
 use Rattle.crq_base.specs.declared.event.Event.{Event}
 use Rattle.crq_base.specs.Keys.{event_cmp, IsBefore}
 use Rattle.crq_base.proofs.KeyOrder.{before_trans, before_else, before_not_itself}
-use Rattle.crq_sim.specs.EventLists.{with_event, with_events, IsFirst}
+use Rattle.crq_sim.specs.EventLists.{with_event, with_events, IsHead}
 use Rattle.crq_sim.specs.Heaps.{listed}
 use Rattle.crq_sim.proofs.EventListLemmas.{same_event, equal_is, bool_cases, All-with_events}
 
@@ -125,8 +125,8 @@ pub listed_popped : (x : Reverse Event) (items items' : List (Reverse Event)) �
 listed_popped x items items' same all = sym (listed_permutation items (x ∷ items') same) ∙ listed_first x items' all
 
 pub listed_top : (x : Reverse Event) (items : List (Reverse Event)) (pending : List Event) → 0 < length items → x ≡ get_or items 0 x → AllByRecursion (λ (y : Reverse Event). is_lt (event_cmp y.0 x.0) ≡ false) items
-    → listed items ≡ pending → IsFirst x.0 pending
+    → listed items ≡ pending → IsHead x.0 pending
 listed_top x [] pending some top all same = absurd (omega arith)
 listed_top x (y ∷ ys) pending some top all same =
     let tail : AllByRecursion (λ (z : Reverse Event). is_lt (event_cmp z.0 y.0) ≡ false) ys = subst (λ (w : Reverse Event). AllByRecursion (λ (z : Reverse Event). is_lt (event_cmp z.0 w.0) ≡ false) ys) top all.1 in
-    subst (IsFirst x.0) (sym (listed_first y ys tail) ∙ same) (ap event_of top)
+    subst (IsHead x.0) (sym (listed_first y ys tail) ∙ same) (ap event_of top)

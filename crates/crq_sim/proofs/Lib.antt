@@ -1,7 +1,9 @@
 pub mod AfterLemmas
 pub mod EventListLemmas
+pub mod ExampleWindows
 pub mod GeneratedLemmas
 pub mod HeapLemmas
+pub mod KeyLemmas
 pub mod Members
 pub mod NextWindow
 pub mod OrderLemmas
@@ -13,5 +15,6 @@ pub mod StartLemmas
 pub mod TestModels
 pub mod TraceLemmas
 pub mod WindowCounts
+pub mod WindowFacts
 pub mod WindowLemmas
 pub mod WindowRunLemmas

@@ -4,7 +4,7 @@ use Rattle.std.proofs.lemmas.Bool.{cases_lt}
 use Rattle.std.specs.List.{AllByRecursion}
 use Rattle.crq_base.specs.declared.event.Event.{Event}
 use Rattle.crq_base.specs.Keys.{IsBefore}
-use Rattle.crq_sim.specs.EventLists.{AreInOrder, IsFirst}
+use Rattle.crq_sim.specs.EventLists.{AreInOrder, IsHead}
 use Rattle.crq_sim.specs.Models.{ModelData, IsModel}
 use Rattle.crq_sim.specs.Runs.{Simulation, after_events}
 use Rattle.crq_sim.specs.Simulations.{IsDue, IsSimulation}
@@ -48,7 +48,7 @@ both P Q [] h k = tt
 both P Q (x ∷ xs) h k = ((h.0, k.0), both P Q xs h.1 k.1)
 
 -- no event of the list is before its first
-first_earliest : (es : List Event) (e : Event) → AreInOrder es → IsFirst e es → AreFrom e.time es
+first_earliest : (es : List Event) (e : Event) → AreInOrder es → IsHead e es → AreFrom e.time es
 first_earliest [] e h first = tt
 first_earliest (x ∷ xs) e h first =
     let same : e.time ≡ x.time = ap (λ (f : Event). f.time) first in
@@ -59,7 +59,7 @@ none_below edge [] from next = next
 none_below edge (e ∷ es) from next = (let a : edge ≤ e.time = from.0 in let b : e.time < edge = next in omega arith)
 
 -- an event below the edge stands in front
-some_below : (edge : ℕ) (e : Event) (below rest : List Event) → IsFirst e (below ++ rest) → e.time < edge → AreFrom edge rest → 0 < length below
+some_below : (edge : ℕ) (e : Event) (below rest : List Event) → IsHead e (below ++ rest) → e.time < edge → AreFrom edge rest → 0 < length below
 some_below edge e [] [] first lt from = absurd first
 some_below edge e [] (x ∷ rest) first lt from = (let same : e.time ≡ x.time = ap (λ (f : Event). f.time) first in let a : edge ≤ x.time = from.0 in absurd (omega arith))
 some_below edge e (b ∷ below) rest first lt from = omega arith
@@ -72,7 +72,7 @@ ends_there m w edge below rest is edge_is whole can from some end =
     (some, inside, (λ next. none_below edge (after_events m w (length below)).pending end (subst (λ z. IsNextBelow z (after_events m w (length below)).pending) edge_is next)))
 
 -- the events below the edge are the window's, and running them is the run's next part
-pub next_window : (m : ModelData) (w : Simulation) (e : Event) → IsModel m → IsSimulation m w → IsFirst e w.pending
+pub next_window : (m : ModelData) (w : Simulation) (e : Event) → IsModel m → IsSimulation m w → IsHead e w.pending
     → (below : List Event) × (rest : List Event) × (w.pending ≡ below ++ rest) × AreBelow (e.time + m.lookahead) below × AreFrom (e.time + m.lookahead) rest
     × EndsWindow m w (length below) × RunsWindow m (e.time + m.lookahead) w below rest
 next_window m w e is known first =
@@ -82,7 +82,7 @@ next_window m w e is known first =
     let can : AllByRecursion (CanRun m edge) s.below = All-weaker _ (CanRun m edge) (λ f k. (k.0, (let t = k.1.1 in omega arith), k.1.0.there)) s.below s.before in
     let run : RunsWindow m edge w s.below s.rest = window_run m edge s.below s.rest w is known.many s.whole can s.after in
     let ahead = is.ahead in
-    let some : 0 < length s.below = some_below edge e s.below s.rest (subst (IsFirst e) s.whole first) (omega arith) s.after in (
+    let some : 0 < length s.below = some_below edge e s.below s.rest (subst (IsHead e) s.whole first) (omega arith) s.after in (
       s.below,
       s.rest,
       s.whole,

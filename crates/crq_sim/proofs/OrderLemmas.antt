@@ -7,7 +7,7 @@ use Rattle.std.proofs.lemmas.Cmp.{tied_itself}
 use Rattle.crq_base.specs.declared.event.Event.{Event}
 use Rattle.crq_base.specs.Keys.{event_cmp, IsBefore}
 use Rattle.crq_base.proofs.KeyOrder.{event_total, before_trans, before_not_itself}
-use Rattle.crq_sim.specs.EventLists.{with_event, with_events, without_event, AreInOrder, IsFirst}
+use Rattle.crq_sim.specs.EventLists.{with_event, with_events, without_event, AreInOrder, IsHead}
 use Rattle.crq_sim.proofs.EventListLemmas.{bool_cases, same_event, equal_is}
 use Rattle.crq_sim.proofs.Members.{none_in, into_cons, from_cons}
 
@@ -16,7 +16,7 @@ All-at P [] x all at = absurd (none_in x at)
 All-at P (e ∷ es) x all at = elim (from_cons e x es at) [ inl same ↦ subst P same all.0 | inr later ↦ All-at P es x all.1 later ]
 
 -- the first event of a list in order is the least
-pub first_least : (es : List Event) (e f : Event) → AreInOrder es → IsFirst e es → Contains es f → (f ≡ e) ⊎ IsBefore e f
+pub first_least : (es : List Event) (e f : Event) → AreInOrder es → IsHead e es → Contains es f → (f ≡ e) ⊎ IsBefore e f
 first_least [] e f h first at = absurd first
 first_least (x ∷ xs) e f h first at =
     elim (from_cons x f xs at) [

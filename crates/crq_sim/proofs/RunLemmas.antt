@@ -8,7 +8,7 @@ use Rattle.crq_sim.specs.declared.reaction.ObjectState.{ObjectState}
 use Rattle.crq_sim.specs.declared.run.Run.{Run}
 use Rattle.crq_sim.specs.declared.traces.ObjectTrace.{ObjectTrace}
 use Rattle.crq_sim.specs.declared.traces.Step.{Step}
-use Rattle.crq_sim.specs.EventLists.{with_events, without_events, IsFirst}
+use Rattle.crq_sim.specs.EventLists.{with_events, without_events, IsHead}
 use Rattle.crq_sim.specs.Models.{ModelData, IsModel, IsObject}
 use Rattle.crq_sim.specs.Reactions.{behaviour_at, sends_of, state_after, IsWordOf}
 use Rattle.crq_sim.specs.Runs.{Simulation, state_of, step_of, run_first, run_next, after_events, beginning, simulation_at, traces_of, IsOverWithin, traces_within}
@@ -48,7 +48,7 @@ run_first_at : (m : ModelData) (states : List ObjectState) (pending rest : List 
     → run_first m states pending log ≡ (record {
       states = set states (e.dst - 1) (state_after m e.dst (state_of states e.dst) e);
       pending = with_events (sends_of m e.dst (state_of states e.dst) e) rest;
-      log = log ++ step_of m (state_of states e.dst) e ∷ [];
+      log = log ++ step_of e (state_after m e.dst (state_of states e.dst) e) ∷ [];
     })
 unfolding run_first
 run_first_at m states pending rest log e h =
@@ -56,7 +56,7 @@ run_first_at m states pending rest log e h =
     rw h (ap (λ (gone : List Event). record {
       states = set states (e.dst - 1) (state_after m e.dst s e);
       pending = with_events (sends_of m e.dst s e) (without_events gone rest);
-      log = log ++ step_of m s e ∷ [];
+      log = log ++ step_of e (state_after m e.dst s e) ∷ [];
     }) (nothing_withdrawn m e.dst s e))
 
 -- what the variables hold after the event was run
@@ -64,7 +64,7 @@ pub record Ran (m : ModelData) (r : Run) (e : Event) (s : ObjectState) (states :
   pub state : s ≡ state_after m e.dst (state_of r.states.items e.dst) e
   pub states_are : states ≡ set r.states.items (e.dst - 1) s
   pub pending_is : pending ≡ with_events (sends_of m e.dst (state_of r.states.items e.dst) e) r.pending
-  pub log_is : log ≡ r.log.items ++ record { event = e; count = s.count; word = s.word } ∷ []
+  pub log_is : log ≡ r.log.items ++ step_of e s ∷ []
 
 pub ran_shows : (m : ModelData) (r r' : Run) (e : Event) (s : ObjectState) → IsModel m → IsNext m r e → Ran m r e s r'.states.items r'.pending r'.log.items → r'.made ≡ r.made + 1 → Shows m r'
 ran_shows m r r' e s is h ran made =
@@ -74,9 +74,9 @@ ran_shows m r r' e s is h ran made =
     let now : simulation_at m r'.made ≡ run_next m w = ap (simulation_at m) made ∙ after_one m (beginning m) r.made in
     let next = now ∙ run_first_at m w.states w.pending r.pending w.log e h.pending in
     let here : state_of r.states.items e.dst ≡ state_of w.states e.dst = ap (λ (xs : List ObjectState). state_of xs e.dst) h.states in
-    let step : Step = record { event = e; count = s.count; word = s.word } in
+    let step : Step = step_of e s in
     let s_is : s ≡ state_after m e.dst (state_of w.states e.dst) e = ran.state ∙ ap (λ x. state_after m e.dst x e) here in
-    let step_is : step ≡ step_of m (state_of w.states e.dst) e = ap (λ (x : ObjectState). record { event = e; count = x.count; word = x.word }) s_is in
+    let step_is : step ≡ step_of e (state_after m e.dst (state_of w.states e.dst) e) = ap (step_of e) s_is in
     record {
       states = ran.states_are ∙ ap (λ (xs : List ObjectState). set xs (e.dst - 1) s) h.states ∙ ap (λ (x : ObjectState). set w.states (e.dst - 1) x) s_is ∙ sym (ap (λ (x : Simulation). x.states) next);
       pending = ran.pending_is ∙ ap (λ (x : ObjectState). with_events (sends_of m e.dst x e) r.pending) here ∙ sym (ap (λ (x : Simulation). x.pending) next);
@@ -92,7 +92,7 @@ step_there : (m : ModelData) (states : List ObjectState) (pending : List Event) 
     → AllByRecursion (λ (s : Step). IsObject (length m.objects) s.event.dst) log → AllByRecursion (λ (s : Step). IsObject (length m.objects) s.event.dst) (run_first m states pending log).log
 unfolding run_first
 step_there m states [] log due all = all
-step_there m states (e ∷ es) log due all = All-push (λ (s : Step). IsObject (length m.objects) s.event.dst) log (step_of m (state_of states e.dst) e) all due.0.there
+step_there m states (e ∷ es) log due all = All-push (λ (s : Step). IsObject (length m.objects) s.event.dst) log (step_of e (state_after m e.dst (state_of states e.dst) e)) all due.0.there
 
 steps_there : (m : ModelData) (w : Simulation) (n : ℕ) → IsModel m → IsSimulation m w → AllByRecursion (λ (s : Step). IsObject (length m.objects) s.event.dst) w.log
     → AllByRecursion (λ (s : Step). IsObject (length m.objects) s.event.dst) (after_events m w n).log
@@ -115,9 +115,9 @@ over_within m made cap traces le none is =
     let same : simulation_at m cap ≡ simulation_at m made = ap (simulation_at m) (sym all) ∙ kept m (beginning m) made (cap - made) none in
     (ap (λ (w : Simulation). w.pending) same ∙ none, is ∙ ap (λ (w : Simulation). traces_of m.objects w.log) (sym same))
 
-not_over : (e : Event) (pending : List Event) → IsFirst e pending → pending ≡ [] → ⊥
-not_over e pending first none = subst (IsFirst e) none first
+not_over : (e : Event) (pending : List Event) → IsHead e pending → pending ≡ [] → ⊥
+not_over e pending first none = subst (IsHead e) none first
 
 -- where an event is pending after as many events as the cap allows, the run has more
-pub more_than : (m : ModelData) (cap : ℕ) (pending : List Event) (e : Event) → pending ≡ (simulation_at m cap).pending → IsFirst e pending → IsOverWithin m cap → ⊥
+pub more_than : (m : ModelData) (cap : ℕ) (pending : List Event) (e : Event) → pending ≡ (simulation_at m cap).pending → IsHead e pending → IsOverWithin m cap → ⊥
 more_than m cap pending e is first none = not_over e pending first (is ∙ none)

@@ -126,7 +126,7 @@ after_set states i j s h =
     ]
 
 -- the numbers rise
-more_sent : (m : ModelData) (states : List ObjectState) (i : ℕ) (s : ObjectState) (src : ℕ) → i < length states → (get_or states i no_state).sent ≤ s.sent → next_number m states src ≤ next_number m (set states i s) src
+pub more_sent : (m : ModelData) (states : List ObjectState) (i : ℕ) (s : ObjectState) (src : ℕ) → i < length states → (get_or states i no_state).sent ≤ s.sent → next_number m states src ≤ next_number m (set states i s) src
 more_sent m states i s src h le =
     elim (nat_eq src 0) as (λ b. cond b (length m.starts) (state_of states src).sent ≤ cond b (length m.starts) (state_of (set states i s) src).sent) [
       | true ↦ omega arith
@@ -137,7 +137,7 @@ more_sent m states i s src h le =
     ]
 
 -- the next number of the object that was changed
-next_here : (m : ModelData) (states : List ObjectState) (o : ℕ) (s : ObjectState) → 0 < o → o ≤ length states → next_number m (set states (o - 1) s) o ≡ s.sent
+pub next_here : (m : ModelData) (states : List ObjectState) (o : ℕ) (s : ObjectState) → 0 < o → o ≤ length states → next_number m (set states (o - 1) s) o ≡ s.sent
 next_here m states o s po le =
     let not_file : nat_eq o 0 ≡ false = grind (arith, nat_tests) in
     let inside : o - 1 < length states = omega arith in
@@ -148,7 +148,7 @@ after_word : (m : ModelData) (o : ℕ) (s : ObjectState) (e : Event) → (state_
 unfolding reaction_of
 after_word m o s e = refl
 
-after_sent : (m : ModelData) (o : ℕ) (s : ObjectState) (e : Event) → (state_after m o s e).sent ≡ s.sent + length (sends_of m o s e)
+pub after_sent : (m : ModelData) (o : ℕ) (s : ObjectState) (e : Event) → (state_after m o s e).sent ≡ s.sent + length (sends_of m o s e)
 unfolding reaction_of
 after_sent m o s e = refl
 

@@ -2,7 +2,7 @@
 use Rattle.std.proofs.Common.{◌≡◌, ℕ, zero, suc, ◌+◌, ◌-◌, ◌<◌, ◌≤◌, ◌⊎◌, List, [], ◌∷◌, length, refl, arith, ap, sym, ◌∙◌, subst, inl, inr}
 use Rattle.std.proofs.lemmas.Bool.{cases_eq, cases_lt}
 use Rattle.crq_base.specs.declared.event.Event.{Event}
-use Rattle.crq_sim.specs.EventLists.{IsFirst}
+use Rattle.crq_sim.specs.EventLists.{IsHead}
 use Rattle.crq_sim.specs.Models.{ModelData, IsModel}
 use Rattle.crq_sim.specs.Runs.{Simulation, after_events}
 use Rattle.crq_sim.specs.Simulations.{IsSimulation}
@@ -66,7 +66,7 @@ one_window m w (suc k) (suc k') n h g =
     ]
 
 -- an event list has a first event or none
-first_or_none : (es : List Event) → (es ≡ []) ⊎ ((e : Event) × IsFirst e es)
+pub first_or_none : (es : List Event) → (es ≡ []) ⊎ ((e : Event) × IsHead e es)
 first_or_none [] = inl refl
 first_or_none (e ∷ es) = inr (e, refl)
 

@@ -2,7 +2,7 @@
 use Rattle.std.proofs.Common.{◌≡◌, ℕ, zero, suc, ◌+◌, ◌-◌, ◌<◌, ◌≤◌, List, [], ◌∷◌, refl, arith, ap, sym, ◌∙◌, subst, inl, inr, add-one}
 use Rattle.std.proofs.lemmas.Bool.{cases_eq}
 use Rattle.crq_base.specs.declared.event.Event.{Event}
-use Rattle.crq_sim.specs.EventLists.{IsFirst}
+use Rattle.crq_sim.specs.EventLists.{IsHead}
 use Rattle.crq_sim.specs.Models.{ModelData, IsModel}
 use Rattle.crq_sim.specs.Runs.{Simulation, after_events, beginning, simulation_at}
 use Rattle.crq_sim.specs.Shown.{IsCurrentWindow, Tracks}
@@ -10,15 +10,15 @@ use Rattle.crq_sim.specs.Windows.{IsNextBelow, edge_of, AreBelowEdge, EndsWindow
 use Rattle.crq_sim.proofs.AfterLemmas.{after_more}
 
 -- the first pending event tells the edge of a window that begins with it
-pub first_edge : (lookahead : ℕ) (pending : List Event) (e : Event) → IsFirst e pending → edge_of lookahead pending ≡ e.time + lookahead
+pub first_edge : (lookahead : ℕ) (pending : List Event) (e : Event) → IsHead e pending → edge_of lookahead pending ≡ e.time + lookahead
 first_edge lookahead [] e h = absurd h
 first_edge lookahead (f ∷ fs) e h = ap (λ (x : Event). x.time + lookahead) (sym h)
 
-next_below : (edge : ℕ) (pending : List Event) (e : Event) → IsFirst e pending → e.time < edge → IsNextBelow edge pending
+next_below : (edge : ℕ) (pending : List Event) (e : Event) → IsHead e pending → e.time < edge → IsNextBelow edge pending
 next_below edge [] e h lt = absurd h
 next_below edge (f ∷ fs) e h lt = (let same = ap (λ (x : Event). x.time) h in omega arith)
 
-not_below : (edge : ℕ) (pending : List Event) (e : Event) → IsFirst e pending → edge ≤ e.time → IsNextBelow edge pending → ⊥
+not_below : (edge : ℕ) (pending : List Event) (e : Event) → IsHead e pending → edge ≤ e.time → IsNextBelow edge pending → ⊥
 not_below edge [] e h le below = below
 not_below edge (f ∷ fs) e h le below = (let same = ap (λ (x : Event). x.time) h in let k : f.time < edge = below in omega arith)
 
@@ -35,11 +35,11 @@ from_earlier : (m : ModelData) (i n : ℕ) → i ≤ n → after_events m (simul
 from_earlier m i n le = sym (after_more m (beginning m) i (n - i)) ∙ ap (simulation_at m) (let z : i + (n - i) ≡ n = omega arith in z)
 
 -- the window that begins with the next event
-at_start : (m : ModelData) (w : Simulation) (e : Event) → IsFirst e w.pending → edge_of m.lookahead w.pending ≡ e.time + m.lookahead → 0 < m.lookahead → IsNextBelow (edge_of m.lookahead w.pending) (after_events m w 0).pending
+at_start : (m : ModelData) (w : Simulation) (e : Event) → IsHead e w.pending → edge_of m.lookahead w.pending ≡ e.time + m.lookahead → 0 < m.lookahead → IsNextBelow (edge_of m.lookahead w.pending) (after_events m w 0).pending
 unfolding after_events
 at_start m w e first edge ahead = next_below (edge_of m.lookahead w.pending) w.pending e first (omega arith)
 
-begin_window : (m : ModelData) (n before : ℕ) (e : Event) → IsModel m → IsFirst e (simulation_at m n).pending → IsWindowEnd m (beginning m) before n → IsCurrentWindow m (n + 1) (before + 1) (e.time + m.lookahead)
+begin_window : (m : ModelData) (n before : ℕ) (e : Event) → IsModel m → IsHead e (simulation_at m n).pending → IsWindowEnd m (beginning m) before n → IsCurrentWindow m (n + 1) (before + 1) (e.time + m.lookahead)
 begin_window m n before e is first end =
     let w : Simulation = simulation_at m n in
     let edge : edge_of m.lookahead w.pending ≡ e.time + m.lookahead = first_edge m.lookahead w.pending e first in
@@ -55,7 +55,7 @@ begin_window m n before e is first end =
     }
 
 -- the next event is below the edge
-pub tracks_same : (m : ModelData) (n number edge : ℕ) (e : Event) → IsFirst e (simulation_at m n).pending → e.time < edge → Tracks m n number edge → Tracks m (n + 1) number edge
+pub tracks_same : (m : ModelData) (n number edge : ℕ) (e : Event) → IsHead e (simulation_at m n).pending → e.time < edge → Tracks m n number edge → Tracks m (n + 1) number edge
 tracks_same m n number edge e first lt (inl none) = absurd (let z = none.2 in omega arith)
 tracks_same m n number edge e first lt (inr w) =
     let v : Simulation = simulation_at m w.first in
@@ -74,7 +74,7 @@ tracks_same m n number edge e first lt (inr w) =
     })
 
 -- the next event begins a window
-pub tracks_next : (m : ModelData) (n number edge : ℕ) (e : Event) → IsModel m → IsFirst e (simulation_at m n).pending → edge ≤ e.time → Tracks m n number edge → Tracks m (n + 1) (number + 1) (e.time + m.lookahead)
+pub tracks_next : (m : ModelData) (n number edge : ℕ) (e : Event) → IsModel m → IsHead e (simulation_at m n).pending → edge ≤ e.time → Tracks m n number edge → Tracks m (n + 1) (number + 1) (e.time + m.lookahead)
 tracks_next m n number edge e is first le (inl none) =
     let w = begin_window m n 0 e is first none.0 in
     inr (subst (λ z. IsCurrentWindow m (n + 1) (z + 1) (e.time + m.lookahead)) (sym none.1) w)

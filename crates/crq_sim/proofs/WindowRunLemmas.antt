@@ -88,17 +88,17 @@ state_on m o states b es there po =
 
 -- its steps
 steps_on : (m : ModelData) (o : ℕ) (states : List ObjectState) (log : List Step) (b : Event) (es : List Event) → IsObject (length states) b.dst → 0 < o
-    → steps_of o (log ++ step_of m (state_of states b.dst) b ∷ []) ++ object_steps m o (state_of (next_states m states b) o) (events_of o es)
+    → steps_of o (log ++ step_of b (state_after m b.dst (state_of states b.dst) b) ∷ []) ++ object_steps m o (state_of (next_states m states b) o) (events_of o es)
     ≡ steps_of o log ++ object_steps m o (state_of states o) (events_of o (b ∷ es))
 unfolding object_steps
 steps_on m o states log b es there po =
     let p : Step → Bool = λ x. nat_eq x.event.dst o in
-    let st : Step = step_of m (state_of states b.dst) b in
+    let st : Step = step_of b (state_after m b.dst (state_of states b.dst) b) in
     let later : List Step = object_steps m o (state_of (next_states m states b) o) (events_of o es) in
     elim (cases_eq b.dst o) [
       | inl same ↦ (let t : nat_eq b.dst o ≡ true = grind (arith, nat_tests) in
           let now : state_after m b.dst (state_of states b.dst) b ≡ state_after m o (state_of states o) b = ap (λ n. state_after m n (state_of states n) b) same in
-          let st_is : st ≡ (record { event = b; count = (state_after m o (state_of states o) b).count; word = (state_after m o (state_of states o) b).word }) = ap (λ (x : ObjectState). record { event = b; count = x.count; word = x.word }) now in
+          let st_is : st ≡ step_of b (state_after m o (state_of states o) b) = ap (step_of b) now in
           ap (λ xs. xs ++ later) (filter_push_in p log st t)
           ∙ append_assoc (steps_of o log) (st ∷ []) later
           ∙ ap (λ x. steps_of o log ++ st ∷ object_steps m o x (events_of o es)) (here m o states b there same)
@@ -222,7 +222,7 @@ window_steps m edge [] rest states log is many all from = record {
 window_steps m edge (b ∷ below) rest states log is many all from =
     let s : ObjectState = state_of states b.dst in
     let states' : List ObjectState = next_states m states b in
-    let log' : List Step = log ++ step_of m s b ∷ [] in
+    let log' : List Step = log ++ step_of b (state_after m b.dst s b) ∷ [] in
     let rest' : List Event = with_events (sends_of m b.dst s b) rest in
     let late = pending_after m edge s b below rest is all.0 all.1 from in
     let there : IsObject (length states) b.dst = subst (λ n. IsObject n b.dst) (sym many) all.0.2 in
@@ -232,7 +232,7 @@ window_steps m edge (b ∷ below) rest states log is many all from =
     let v : Simulation = record { states = states'; pending = below ++ rest'; log = log' } in
     let R : RunsTo m edge w (b ∷ below) rest (after_events m v (length below)) (b ∷ events_run m v (length below)) (sends_of m b.dst s b ++ events_sent m v (length below)) = record {
       events = ap (λ xs. b ∷ xs) ih.events;
-      log_is = ih.log_is ∙ ap (λ xs. xs ++ below) (map-append (λ (x : Step). x.event) log (step_of m s b ∷ [])) ∙ append_assoc (map (λ (x : Step). x.event) log) (b ∷ []) below;
+      log_is = ih.log_is ∙ ap (λ xs. xs ++ below) (map-append (λ (x : Step). x.event) log (step_of b (state_after m b.dst s b) ∷ [])) ∙ append_assoc (map (λ (x : Step). x.event) log) (b ∷ []) below;
       late = ih.late;
       members = (λ x. ((λ at. members_to m states b below rest x there ((ih.members x).0 at)), (λ h. (ih.members x).1 (members_from m states b below rest x there h))));
       sends = (λ x. sends_to m states b below (events_sent m v (length below)) x there (ih.sends x));
@@ -271,8 +271,8 @@ inside_steps m edge zero (b ∷ below) rest states log is all from lt = all.0.0
 inside_steps m edge (suc j) (b ∷ below) rest states log is all from lt =
     let s : ObjectState = state_of states b.dst in
     let late = pending_after m edge s b below rest is all.0 all.1 from in
-    let ih = inside_steps m edge j below (with_events (sends_of m b.dst s b) rest) (next_states m states b) (log ++ step_of m s b ∷ []) is all.1 late.1 (omega arith) in
-    subst (λ (es : List Event). IsNextBelow edge (after_events m (record { states = next_states m states b; pending = es; log = log ++ step_of m s b ∷ [] }) j).pending) (sym late.0) ih
+    let ih = inside_steps m edge j below (with_events (sends_of m b.dst s b) rest) (next_states m states b) (log ++ step_of b (state_after m b.dst s b) ∷ []) is all.1 late.1 (omega arith) in
+    subst (λ (es : List Event). IsNextBelow edge (after_events m (record { states = next_states m states b; pending = es; log = log ++ step_of b (state_after m b.dst s b) ∷ [] }) j).pending) (sym late.0) ih
 
 pub inside_window : (m : ModelData) (edge : ℕ) (j : ℕ) (below rest : List Event) (w : Simulation) → IsModel m → w.pending ≡ below ++ rest
     → AllByRecursion (CanRun m edge) below → AreFrom edge rest → j < length below → IsNextBelow edge (after_events m w j).pending

@@ -31,9 +31,9 @@ AreInOrder [] = Unit {0}
 AreInOrder (e ∷ es) = AllByRecursion (IsBefore e) es × AreInOrder es
 
 -- an event is the first of the list
-abbrev pub IsFirst : Event → List Event → Type 0
-IsFirst x [] = ⊥
-IsFirst x (y ∷ ys) = x ≡ y
+abbrev pub IsHead : Event → List Event → Type 0
+IsHead x [] = ⊥
+IsHead x (y ∷ ys) = x ≡ y
 
 -- the key of an event: its time, its source, and the source's number for it
 abbrev pub HaveOneKey : Event → Event → Type 0

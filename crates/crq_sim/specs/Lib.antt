@@ -11,6 +11,7 @@ pub mod Simulations
 pub mod Windows
 pub mod WindowRuns
 pub mod Ends
+pub mod Examples
 -- What only contracts inside the crate cite.
 pub mod Shown
 pub mod Heaps

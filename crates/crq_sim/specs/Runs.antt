@@ -21,9 +21,9 @@ pub record Simulation : Type 0 where
 abbrev pub state_of : List ObjectState → ℕ → ObjectState
 state_of states o = slice_index_or states (o - 1) (record { count = 0; word = 0; sent = 0 })
 
--- an event and what its object has after it
-abbrev pub step_of : ModelData → ObjectState → Event → Step
-step_of m s e = record { event = e; count = (state_after m e.dst s e).count; word = (state_after m e.dst s e).word }
+-- an event that is run, with what is seen of its object's state after it
+abbrev pub step_of : Event → ObjectState → Step
+step_of e s = record { event = e; count = s.count; word = s.word }
 
 -- the least pending event is run at its object; what that withdraws is removed from the pending events, and what it sends is added
 unfoldable pub run_first : ModelData → List ObjectState → List Event → List Step → Simulation
@@ -31,7 +31,7 @@ run_first m states [] log = record { states = states; pending = []; log = log }
 run_first m states (e ∷ es) log = record {
   states = slice_set states (e.dst - 1) (state_after m e.dst (state_of states e.dst) e);
   pending = with_events (sends_of m e.dst (state_of states e.dst) e) (without_events (withdrawn_by m e.dst (state_of states e.dst) e) es);
-  log = log ++ step_of m (state_of states e.dst) e ∷ [];
+  log = log ++ step_of e (state_after m e.dst (state_of states e.dst) e) ∷ [];
 }
 
 abbrev pub run_next : ModelData → Simulation → Simulation

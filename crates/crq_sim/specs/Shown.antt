@@ -4,7 +4,7 @@ use Rattle.crq_base.specs.declared.event.Event.{Event}
 use Rattle.crq_sim.specs.declared.run.Run.{Run}
 use Rattle.crq_sim.specs.declared.traces.ObjectTrace.{ObjectTrace}
 use Rattle.crq_sim.specs.declared.traces.Step.{Step}
-use Rattle.crq_sim.specs.EventLists.{IsFirst}
+use Rattle.crq_sim.specs.EventLists.{IsHead}
 use Rattle.crq_sim.specs.Models.{ModelData}
 use Rattle.crq_sim.specs.Runs.{beginning, simulation_at}
 use Rattle.crq_sim.specs.Windows.{edge_of, AreBelowEdge, IsWindowEnd}
@@ -24,7 +24,7 @@ pub record IsNext (m : ModelData) (run : Run) (e : Event) : Type 0 where
 -- the least pending event was run, which has this time; or nothing was pending
 abbrev pub Advances : ModelData → Run → Run → Option ℕ → Type 0
 Advances m old new None = ((simulation_at m old.made).pending ≡ []) × Shows m new × (new.made ≡ old.made)
-Advances m old new (Some time) = ((e : Event) × IsFirst e (simulation_at m old.made).pending × (e.time ≡ time)) × Shows m new × (new.made ≡ old.made + 1)
+Advances m old new (Some time) = ((e : Event) × IsHead e (simulation_at m old.made).pending × (e.time ≡ time)) × Shows m new × (new.made ≡ old.made + 1)
 
 -- one more step in the trace of its object
 abbrev pub with_step : List ObjectTrace → ObjectTrace → Step → List ObjectTrace

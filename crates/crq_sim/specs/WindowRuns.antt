@@ -6,7 +6,7 @@ use Rattle.crq_sim.specs.declared.reaction.ObjectState.{ObjectState}
 use Rattle.crq_sim.specs.declared.traces.Step.{Step}
 use Rattle.crq_sim.specs.Models.{ModelData, IsObject}
 use Rattle.crq_sim.specs.Reactions.{state_after, sends_of, withdrawn_by}
-use Rattle.crq_sim.specs.Runs.{Simulation, state_of, after_events, events_run, events_sent, steps_of}
+use Rattle.crq_sim.specs.Runs.{Simulation, state_of, step_of, after_events, events_run, events_sent, steps_of}
 
 -- the state of one object after its events
 unfoldable pub object_after : ModelData → ℕ → ObjectState → List Event → ObjectState
@@ -16,7 +16,7 @@ object_after m o s (e ∷ es) = object_after m o (state_after m o s e) es
 -- its steps
 unfoldable pub object_steps : ModelData → ℕ → ObjectState → List Event → List Step
 object_steps m o s [] = []
-object_steps m o s (e ∷ es) = record { event = e; count = (state_after m o s e).count; word = (state_after m o s e).word } ∷ object_steps m o (state_after m o s e) es
+object_steps m o s (e ∷ es) = step_of e (state_after m o s e) ∷ object_steps m o (state_after m o s e) es
 
 -- what it sends
 unfoldable pub object_sends : ModelData → ℕ → ObjectState → List Event → List Event

@@ -1,7 +1,7 @@
 //! The event list of a serial run.
 
 ghost use Rattle.std.specs.Prelude.{◌≡◌, [], ◌∷◌, OnOk, MatchOption};
-ghost use Rattle.crq_sim.specs.EventLists.{with_event, with_events, IsFirst};
+ghost use Rattle.crq_sim.specs.EventLists.{with_event, with_events, IsHead};
 
 use crq_base::Event;
 use std::alloc::{AllocError, Global};
@@ -67,7 +67,7 @@ impl Pending {
 
     /// The least event.
     pub fn first(&self) -> Option<Event>
-        ensures { MatchOption result (self.now ≡ []) (λ e. IsFirst e self.now) }
+        ensures { MatchOption result (self.now ≡ []) (λ e. IsHead e self.now) }
     {
         let item = self.events.peek()?;
         Some(item.0)

@@ -2,7 +2,7 @@
 
 ghost use Rattle.std.specs.Prelude.{◌≡◌, ℕ, ◌+◌, ◌-◌, ◌<◌, ◌≤◌, length, IfOk, OnOk, MatchOption, [], slice_index_or, vec_len, All};
 ghost use Rattle.crq_base.specs.declared.event.Event.{Event};
-ghost use Rattle.crq_sim.specs.EventLists.{with_events, IsFirst};
+ghost use Rattle.crq_sim.specs.EventLists.{with_events, IsHead};
 ghost use Rattle.crq_sim.specs.Models.{ModelData, IsModel, IsObject};
 ghost use Rattle.crq_sim.specs.Kinds.{kind_of};
 ghost use Rattle.crq_sim.specs.Runs.{simulation_at, first_states, scheduled_starts, traces_of};
@@ -140,7 +140,7 @@ impl Run {
 
     /// The time of the least pending event.
     pub fn next_time(&self) -> Option<u32>
-        ensures { MatchOption result (self.now.pending ≡ []) (λ time. (e : Event) × IsFirst e self.now.pending × (e.time ≡ time)) }
+        ensures { MatchOption result (self.now.pending ≡ []) (λ time. (e : Event) × IsHead e self.now.pending × (e.time ≡ time)) }
     {
         let event = self.pending.first()?;
         Some(event.time)

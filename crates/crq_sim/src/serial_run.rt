@@ -3,7 +3,7 @@
 ghost use Rattle.std.specs.Prelude.{◌≡◌, ◌+◌, ◌≤◌, ◌<◌, IfOk, IfErr, IfSome, MatchOption, []};
 ghost use Rattle.crq_base.specs.declared.event.Event.{Event};
 ghost use Rattle.crq_sim.specs.Ends.{IsEndOf};
-ghost use Rattle.crq_sim.specs.EventLists.{IsFirst};
+ghost use Rattle.crq_sim.specs.EventLists.{IsHead};
 ghost use Rattle.crq_sim.specs.Models.{IsModel};
 ghost use Rattle.crq_sim.specs.Runs.{simulation_at, IsOverWithin, traces_within};
 ghost use Rattle.crq_sim.specs.Shown.{Tracks};
@@ -47,11 +47,9 @@ struct Window {
 
 impl Window {
     /// Before the first event.
-    fn before_all(model: &Model) -> Window
-        ensures tracks { Tracks model.now result.events result.number result.edge }
-        ensures none { result.events ≡ 0 }
+    fn before_all() -> Window
+        ensures { result ≡ record { events = 0; number = 0; edge = 0 } }
     {
-        let _ = model;
         Window {
             events: 0,
             number: 0,
@@ -62,7 +60,7 @@ impl Window {
     /// Passes the next event, which has this time.
     fn pass(&mut self, model: &Model, time: u32)
         requires tracks { Tracks model.now self.old.events self.old.number self.old.edge }
-        requires next { (e : Event) × IsFirst e (simulation_at model.now self.old.events).pending × (e.time ≡ time) }
+        requires next { (e : Event) × IsHead e (simulation_at model.now self.old.events).pending × (e.time ≡ time) }
         requires few { self.old.events ≤ MOST_EVENTS }
         ensures tracks { Tracks model.now self.new.events self.new.number self.new.edge }
         ensures passed { self.new.events ≡ self.old.events + 1 }
@@ -85,7 +83,7 @@ pub fn serial(alloc: Global, model: &Model, cap: u32) -> Result<Traces, SimEnd>
     ensures ends { IfErr result (λ e. IsEndOf model.now cap e) }
 {
     let mut run = Run::begin(alloc, model)?;
-    let mut window = Window::before_all(model);
+    let mut window = Window::before_all();
     for _event in 0..cap {
         match run.step(model)? {
             Some(time) => window.pass(model, time),

@@ -1,25 +1,67 @@
--- A list of words spells one command at most.
-use Rattle.std.proofs.Common.{◌≡◌, ◌≤◌, ◌<◌, ◌^◌, ℕ, List, [], ◌∷◌, ap, sym, ◌∙◌, arith}
-use Rattle.std.specs.Prelude.{codes}
+-- A list of words spells one command at most, and none where its words don't fit.
+use Rattle.std.proofs.Common.{◌≡◌, ◌⊎◌, ◌≤◌, ◌<◌, ◌^◌, ℕ, List, [], ◌∷◌, refl, ap, sym, subst, ◌∙◌, inl, inr, arith}
+use Rattle.std.specs.Prelude.{codes, bytes_eq, if◌then◌else◌}
 use Rattle.std.specs.Fmt.{decimal}
 use Rattle.std.specs.Str.Parse.{digits_value}
 use Rattle.std.proofs.lemmas.Fmt.{decimal_is_IsNumeral}
-use Rattle.crq_top.specs.Commands.{Asked, run, check, serial, gen, words_of, IsInRange, IsOfRun, IsOfInspect, AsksRun, AsksInspect}
+use Rattle.crq_top.specs.declared.command.Call.{Call}
+use Rattle.crq_top.specs.declared.forms.Parameter.{Parameter}
+use Rattle.crq_top.specs.declared.forms.Verb.{Verb}
+use Rattle.crq_top.specs.declared.forms.Verb.TheVariants.{Run, Check, Serial, Gen}
+use Rattle.crq_top.specs.Commands.{Asked, run, check, serial, gen, Problem, Asks, AllFit, Fits, IsProblemOf, IsFirstProblem, IsInRange, Spells, form_of, name_of, operands_of, verb_of}
 
 -- two numbers with one spelling are the same
 decimal_once : (a b : ℕ) → a < 2 ^ 64 → b < 2 ^ 64 → decimal a ≡ decimal b → a ≡ b
 decimal_once a b la lb same = sym ((decimal_is_IsNumeral a la).1) ∙ ap (digits_value 10) same ∙ (decimal_is_IsNumeral b lb).1
 
 -- the heads of equal lists, and their rests
-heads : (x y : List ℕ) (xs ys : List (List ℕ)) → x ∷ xs ≡ y ∷ ys → x ≡ y
-heads x y xs ys h = cc
+head_same : (x y : List ℕ) (xs ys : List (List ℕ)) → x ∷ xs ≡ y ∷ ys → x ≡ y
+head_same x y xs ys h = cc
 
-rests : (x y : List ℕ) (xs ys : List (List ℕ)) → x ∷ xs ≡ y ∷ ys → xs ≡ ys
-rests x y xs ys h = cc
+rest_same : (x y : List ℕ) (xs ys : List (List ℕ)) → x ∷ xs ≡ y ∷ ys → xs ≡ ys
+rest_same x y xs ys h = cc
 
--- a list of one isn't one of more
-longer : (x y z : List ℕ) (zs : List (List ℕ)) → x ∷ [] ≡ y ∷ z ∷ zs → ⊥
-longer x y z zs h = cc
+-- the command of a name
+named : List ℕ → Verb
+named word = if bytes_eq word (codes "run") then Run else if bytes_eq word (codes "check") then Check else if bytes_eq word (codes "serial") then Serial else Gen
+
+named_is : (v : Verb) → named (name_of v) ≡ v
+unfolding named
+named_is Run = refl
+named_is Check = refl
+named_is Serial = refl
+named_is Gen = refl
+
+-- no two commands begin with the same word
+same_verb : (v w : Verb) → name_of v ≡ name_of w → v ≡ w
+same_verb v w h = sym (named_is v) ∙ ap named h ∙ named_is w
+
+-- words that all fit have nothing that is wrong
+pub fit_or_not : (ps : List Parameter) (ws : List (List ℕ)) (x : Problem) → AllFit ps ws → IsProblemOf ps ws x → ⊥
+fit_or_not [] [] x h k = k
+fit_or_not [] (w ∷ ws) x h k = h
+fit_or_not (p ∷ ps) [] x h k = h
+fit_or_not (p ∷ ps) (w ∷ ws) x h k = elim k [ inl bad ↦ bad.0 h.0 | inr later ↦ fit_or_not ps ws x h.1 later.1 ]
+
+-- the words of a command in range fit its form
+pub operands_fit : (a : Asked) → IsInRange a → AllFit (form_of (verb_of a)) (operands_of a)
+operands_fit (run model rows events) h = (tt, ((1, (omega arith, omega arith), refl), ((rows, h.0, refl), ((events, h.1, refl), tt))))
+operands_fit (check model) h = (tt, tt)
+operands_fit (serial model events) h = (tt, ((events, h, refl), tt))
+operands_fit (gen seed objects population) h = ((seed, (omega arith, omega arith), refl), ((objects, h.1, refl), ((population, (omega arith, h.2), refl), tt)))
+
+-- words with something wrong spell no command
+pub spells_none : (words : List (List ℕ)) (x : Problem) → IsFirstProblem words x → (a : Asked) → Spells words a → ⊥
+spells_none [] x h a k = (let s = k.spelled in cc)
+spells_none (w ∷ ws) x h a k =
+    let first : w ≡ name_of (verb_of a) = head_same _ _ _ _ k.spelled in
+    let rest : ws ≡ operands_of a = rest_same _ _ _ _ k.spelled in
+    elim h [
+      | inl none ↦ none.0 (verb_of a) first
+      | inr one ↦ (let same : one.0 ≡ verb_of a = same_verb one.0 (verb_of a) (sym one.1 ∙ first) in
+          let wrong : IsProblemOf (form_of (verb_of a)) (operands_of a) x = subst (λ ys. IsProblemOf (form_of (verb_of a)) ys x) rest (subst (λ v. IsProblemOf (form_of v) ws x) same one.2) in
+          fit_or_not (form_of (verb_of a)) (operands_of a) x (operands_fit a k.in_range) wrong)
+    ]
 
 same_run : (m n : List ℕ) (r s e f : ℕ) → m ≡ n → r ≡ s → e ≡ f → run m r e ≡ run n s f
 same_run m n r s e f h k l = cc
@@ -30,50 +72,38 @@ same_serial m n e f h k = cc
 same_gen : (s t o p q r : ℕ) → s ≡ t → o ≡ p → q ≡ r → gen s o q ≡ gen t p r
 same_gen s t o p q r h k l = cc
 
-pub one_run : (words : List (List ℕ)) (a b : Asked) → AsksRun words a → AsksRun words b → a ≡ b
-one_run words (run m r e) (run n s f) h k =
-    let same : codes "run" ∷ m ∷ codes "1" ∷ decimal r ∷ decimal e ∷ [] ≡ codes "run" ∷ n ∷ codes "1" ∷ decimal s ∷ decimal f ∷ [] = sym h.spelled ∙ k.spelled in
-    let one = rests _ _ _ _ same in
-    let two = rests _ _ _ _ one in
-    let three = rests _ _ _ _ two in
-    let four = rests _ _ _ _ three in
-    let hr = h.in_range in
-    let kr = k.in_range in
-    same_run m n r s e f (heads _ _ _ _ one) (decimal_once r s (omega arith) (omega arith) (heads _ _ _ _ three)) (decimal_once e f (omega arith) (omega arith) (heads _ _ _ _ four))
-one_run words (run m r e) (check n) h k = absurd k.its_own
-one_run words (run m r e) (serial n f) h k = absurd k.its_own
-one_run words (run m r e) (gen t p q) h k = absurd k.its_own
-one_run words (check m) b h k = absurd h.its_own
-one_run words (serial m e) b h k = absurd h.its_own
-one_run words (gen s o p) b h k = absurd h.its_own
+-- commands with one name and the same words behind it are the same
+same_command : (a b : Asked) → verb_of a ≡ verb_of b → operands_of a ≡ operands_of b → IsInRange a → IsInRange b → a ≡ b
+same_command (run m r e) (run n s f) v h ka kb =
+    let two = rest_same _ _ _ _ (rest_same _ _ _ _ h) in
+    let hr = ka.0 in let he = ka.1 in let kr = kb.0 in let ke = kb.1 in
+    same_run m n r s e f (head_same _ _ _ _ h) (decimal_once r s (omega arith) (omega arith) (head_same _ _ _ _ two)) (decimal_once e f (omega arith) (omega arith) (head_same _ _ _ _ (rest_same _ _ _ _ two)))
+same_command (run m r e) (check n) v h ka kb = absurd (cc)
+same_command (run m r e) (serial n f) v h ka kb = absurd (cc)
+same_command (run m r e) (gen t p q) v h ka kb = absurd (cc)
+same_command (check m) (run n s f) v h ka kb = absurd (cc)
+same_command (check m) (check n) v h ka kb = ap check (head_same _ _ _ _ h)
+same_command (check m) (serial n f) v h ka kb = absurd (cc)
+same_command (check m) (gen t p q) v h ka kb = absurd (cc)
+same_command (serial m e) (run n s f) v h ka kb = absurd (cc)
+same_command (serial m e) (check n) v h ka kb = absurd (cc)
+same_command (serial m e) (serial n f) v h ka kb =
+    same_serial m n e f (head_same _ _ _ _ h) (decimal_once e f (omega arith) (omega arith) (head_same _ _ _ _ (rest_same _ _ _ _ h)))
+same_command (serial m e) (gen t p q) v h ka kb = absurd (cc)
+same_command (gen s o p) (run n r f) v h ka kb = absurd (cc)
+same_command (gen s o p) (check n) v h ka kb = absurd (cc)
+same_command (gen s o p) (serial n f) v h ka kb = absurd (cc)
+same_command (gen s o p) (gen t q r) v h ka kb =
+    let one = rest_same _ _ _ _ h in
+    let two = rest_same _ _ _ _ one in
+    let ho = ka.1 in let ko = kb.1 in let hp = ka.2 in let kp = kb.2 in
+    same_gen s t o q p r (decimal_once s t ka.0 kb.0 (head_same _ _ _ _ h)) (decimal_once o q (omega arith) (omega arith) (head_same _ _ _ _ one)) (decimal_once p r (omega arith) (omega arith) (head_same _ _ _ _ two))
 
--- words of different length, or whose first words differ
-pub one_inspect : (words : List (List ℕ)) (a b : Asked) → AsksInspect words a → AsksInspect words b → a ≡ b
-one_inspect words (run m r e) b h k = absurd h.its_own
-one_inspect words (check m) (run n r e) h k = absurd k.its_own
-one_inspect words (check m) (check n) h k =
-    let same : codes "check" ∷ m ∷ [] ≡ codes "check" ∷ n ∷ [] = sym h.spelled ∙ k.spelled in
-    ap check (heads _ _ _ _ (rests _ _ _ _ same))
-one_inspect words (check m) (serial n f) h k = absurd (let same = sym h.spelled ∙ k.spelled in longer _ _ _ _ (rests _ _ _ _ same))
-one_inspect words (check m) (gen t p q) h k = absurd (let same = sym h.spelled ∙ k.spelled in longer _ _ _ _ (rests _ _ _ _ same))
-one_inspect words (serial m e) (run n r f) h k = absurd k.its_own
-one_inspect words (serial m e) (check n) h k = absurd (let same = sym k.spelled ∙ h.spelled in longer _ _ _ _ (rests _ _ _ _ same))
-one_inspect words (serial m e) (serial n f) h k =
-    let same : codes "serial" ∷ m ∷ decimal e ∷ [] ≡ codes "serial" ∷ n ∷ decimal f ∷ [] = sym h.spelled ∙ k.spelled in
-    let one = rests _ _ _ _ same in
-    let two = rests _ _ _ _ one in
-    let hr = h.in_range in
-    let kr = k.in_range in
-    same_serial m n e f (heads _ _ _ _ one) (decimal_once e f (omega arith) (omega arith) (heads _ _ _ _ two))
-one_inspect words (serial m e) (gen t p q) h k = absurd (let same = sym h.spelled ∙ k.spelled in longer _ _ _ _ (rests _ _ _ _ (rests _ _ _ _ same)))
-one_inspect words (gen s o p) (run n r f) h k = absurd k.its_own
-one_inspect words (gen s o p) (check n) h k = absurd (let same = sym k.spelled ∙ h.spelled in longer _ _ _ _ (rests _ _ _ _ same))
-one_inspect words (gen s o p) (serial n f) h k = absurd (let same = sym k.spelled ∙ h.spelled in longer _ _ _ _ (rests _ _ _ _ (rests _ _ _ _ same)))
-one_inspect words (gen s o p) (gen t q r) h k =
-    let same : codes "gen" ∷ decimal s ∷ decimal o ∷ decimal p ∷ [] ≡ codes "gen" ∷ decimal t ∷ decimal q ∷ decimal r ∷ [] = sym h.spelled ∙ k.spelled in
-    let one = rests _ _ _ _ same in
-    let two = rests _ _ _ _ one in
-    let three = rests _ _ _ _ two in
-    let hr = h.in_range in
-    let kr = k.in_range in
-    same_gen s t o q p r (decimal_once s t hr.0 kr.0 (heads _ _ _ _ one)) (decimal_once o q (omega arith) (omega arith) (heads _ _ _ _ two)) (decimal_once p r (omega arith) (omega arith) (heads _ _ _ _ three))
+pub one_spelled : (words : List (List ℕ)) (a b : Asked) → Spells words a → Spells words b → a ≡ b
+one_spelled words a b h k =
+    let same = sym h.spelled ∙ k.spelled in
+    same_command a b (same_verb (verb_of a) (verb_of b) (head_same _ _ _ _ same)) (rest_same _ _ _ _ same) h.in_range k.in_range
+
+-- so words ask a call for one command at most
+pub one_asked : (call : Call) (words : List (List ℕ)) (a b : Asked) → Asks call words a → Asks call words b → a ≡ b
+one_asked call words a b h k = one_spelled words a b h.spells k.spells

@@ -1,8 +1,87 @@
--- The command line: what a list of words asks for. Each command has one spelling alone: numbers are written as `decimal` writes them.
-use Rattle.std.specs.Prelude.{◌≡◌, ℕ, ◌<◌, ◌≤◌, ◌^◌, List, [], ◌∷◌, codes}
+-- The command line: the forms of the commands, what a list of words asks for, and the first word that doesn't fit. Each
+-- command has one spelling alone: numbers are written as `decimal` writes them.
+use Rattle.std.specs.Prelude.{◌≡◌, ◌⊎◌, ℕ, ◌<◌, ◌≤◌, ◌^◌, ◌-◌, List, [], ◌∷◌, Option, Some, None, codes}
 use Rattle.std.specs.Fmt.{decimal}
+use Rattle.crq_top.specs.declared.command.Call.{Call}
+use Rattle.crq_top.specs.declared.command.Call.TheVariants as calls
 use Rattle.crq_top.specs.declared.command.Command.{Command}
 use Rattle.crq_top.specs.declared.command.Command.TheVariants as command
+use Rattle.crq_top.specs.declared.forms.Misfit.{Misfit}
+use Rattle.crq_top.specs.declared.forms.Misfit.TheVariants as misfits
+use Rattle.crq_top.specs.declared.forms.Parameter.{Parameter}
+use Rattle.crq_top.specs.declared.forms.Parameter.TheVariants.{Model, Workers, Rows, Events, Seed, Objects, Population}
+use Rattle.crq_top.specs.declared.forms.Verb.{Verb}
+use Rattle.crq_top.specs.declared.forms.Verb.TheVariants.{Run, Check, Serial, Gen}
+
+-- the word with which a command begins
+abbrev pub name_of : Verb → List ℕ
+name_of Run = codes "run"
+name_of Check = codes "check"
+name_of Serial = codes "serial"
+name_of Gen = codes "gen"
+
+-- what its further words stand for, in order
+abbrev pub form_of : Verb → List Parameter
+form_of Run = Model ∷ Workers ∷ Rows ∷ Events ∷ []
+form_of Check = Model ∷ []
+form_of Serial = Model ∷ Events ∷ []
+form_of Gen = Seed ∷ Objects ∷ Population ∷ []
+
+-- the least and the greatest number that may stand for a parameter. A model is any word; one worker is all that there is
+abbrev pub range_of : Parameter → Option (ℕ × ℕ)
+range_of Model = None
+range_of Workers = Some (1, 1)
+range_of Rows = Some (4, 131072)
+range_of Events = Some (1, 4194304)
+range_of Seed = Some (0, 18446744073709551615)
+range_of Objects = Some (1, 65535)
+range_of Population = Some (0, 65535)
+
+abbrev pub IsBetween : ℕ → ℕ → ℕ → Type 0
+IsBetween least most n = (least ≤ n) × (n ≤ most)
+
+abbrev pub IsNumberIn : Option (ℕ × ℕ) → List ℕ → Type 0
+IsNumberIn None word = Unit {0}
+IsNumberIn (Some r) word = (n : ℕ) × IsBetween r.0 r.1 n × (word ≡ decimal n)
+
+-- the word may stand for the parameter
+abbrev pub Fits : Parameter → List ℕ → Type 0
+Fits p word = IsNumberIn (range_of p) word
+
+-- each parameter has a word that fits, and there is no word more
+abbrev pub AllFit : List Parameter → List (List ℕ) → Type 0
+AllFit [] [] = Unit {0}
+AllFit [] (w ∷ ws) = ⊥
+AllFit (p ∷ ps) [] = ⊥
+AllFit (p ∷ ps) (w ∷ ws) = Fits p w × AllFit ps ws
+
+-- what is wrong with the words of a command
+pub data Problem : Type 0 where
+  no_command : Problem
+  unknown : (word : List ℕ) → Problem
+  missing : (parameter : Parameter) → Problem
+  unfit : (parameter : Parameter) → (word : List ℕ) → Problem
+  extra : (word : List ℕ) → Problem
+
+-- the first thing that is wrong with the words behind a command's name
+abbrev pub IsProblemOf : List Parameter → List (List ℕ) → Problem → Type 0
+IsProblemOf [] [] x = ⊥
+IsProblemOf [] (w ∷ ws) x = x ≡ extra w
+IsProblemOf (p ∷ ps) [] x = x ≡ missing p
+IsProblemOf (p ∷ ps) (w ∷ ws) x = ((Fits p w → ⊥) × (x ≡ unfit p w)) ⊎ (Fits p w × IsProblemOf ps ws x)
+
+-- the first thing that is wrong with the words of a command line
+abbrev pub IsFirstProblem : List (List ℕ) → Problem → Type 0
+IsFirstProblem [] x = x ≡ no_command
+IsFirstProblem (w ∷ ws) x = (((v : Verb) → w ≡ name_of v → ⊥) × (x ≡ unknown w)) ⊎ ((v : Verb) × (w ≡ name_of v) × IsProblemOf (form_of v) ws x)
+
+-- as the program tells it
+abbrev pub problem_of : Misfit → Problem
+problem_of misfits.NoCommand = no_command
+problem_of (misfits.Unknown word) = unknown word.now
+problem_of (misfits.Missing parameter) = missing parameter
+problem_of (misfits.Unfit parameter word) = unfit parameter word.now
+problem_of (misfits.Extra word) = extra word.now
 
 -- a command with its numbers
 pub data Asked : Type 0 where
@@ -11,15 +90,18 @@ pub data Asked : Type 0 where
   serial : (model : List ℕ) → (events : ℕ) → Asked
   gen : (seed objects population : ℕ) → Asked
 
--- the words that spell it; one worker is all that there is
-abbrev pub words_of : Asked → List (List ℕ)
-words_of (run model rows events) = codes "run" ∷ model ∷ codes "1" ∷ decimal rows ∷ decimal events ∷ []
-words_of (check model) = codes "check" ∷ model ∷ []
-words_of (serial model events) = codes "serial" ∷ model ∷ decimal events ∷ []
-words_of (gen seed objects population) = codes "gen" ∷ decimal seed ∷ decimal objects ∷ decimal population ∷ []
+abbrev pub verb_of : Asked → Verb
+verb_of (run model rows events) = Run
+verb_of (check model) = Check
+verb_of (serial model events) = Serial
+verb_of (gen seed objects population) = Gen
 
-abbrev pub IsBetween : ℕ → ℕ → ℕ → Type 0
-IsBetween least most n = (least ≤ n) × (n ≤ most)
+-- the words behind its name
+abbrev pub operands_of : Asked → List (List ℕ)
+operands_of (run model rows events) = model ∷ decimal 1 ∷ decimal rows ∷ decimal events ∷ []
+operands_of (check model) = model ∷ []
+operands_of (serial model events) = model ∷ decimal events ∷ []
+operands_of (gen seed objects population) = decimal seed ∷ decimal objects ∷ decimal population ∷ []
 
 -- its numbers are in range
 abbrev pub IsInRange : Asked → Type 0
@@ -28,30 +110,22 @@ IsInRange (check model) = Unit {0}
 IsInRange (serial model events) = IsBetween 1 4194304 events
 IsInRange (gen seed objects population) = (seed < 2 ^ 64) × IsBetween 1 65535 objects × (population ≤ 65535)
 
--- which of the two calls it belongs to
-abbrev pub IsOfRun : Asked → Type 0
-IsOfRun (run model rows events) = Unit {0}
-IsOfRun (check model) = ⊥
-IsOfRun (serial model events) = ⊥
-IsOfRun (gen seed objects population) = ⊥
-
-abbrev pub IsOfInspect : Asked → Type 0
-IsOfInspect (run model rows events) = ⊥
-IsOfInspect (check model) = Unit {0}
-IsOfInspect (serial model events) = Unit {0}
-IsOfInspect (gen seed objects population) = Unit {0}
-
--- the words ask `run` for this command
-pub record AsksRun (words : List (List ℕ)) (a : Asked) : Type 0 where
-  pub spelled : words ≡ words_of a
+-- the words spell this command
+pub record Spells (words : List (List ℕ)) (a : Asked) : Type 0 where
+  pub spelled : words ≡ name_of (verb_of a) ∷ operands_of a
   pub in_range : IsInRange a
-  pub its_own : IsOfRun a
 
--- the words ask `inspect` for this command
-pub record AsksInspect (words : List (List ℕ)) (a : Asked) : Type 0 where
-  pub spelled : words ≡ words_of a
-  pub in_range : IsInRange a
-  pub its_own : IsOfInspect a
+-- the call that carries a command out
+abbrev pub call_of : Asked → Call
+call_of (run model rows events) = calls.Run
+call_of (check model) = calls.Inspect
+call_of (serial model events) = calls.Inspect
+call_of (gen seed objects population) = calls.Inspect
+
+-- the words ask a call for this command
+pub record Asks (call : Call) (words : List (List ℕ)) (a : Asked) : Type 0 where
+  pub spells : Spells words a
+  pub its_own : call_of a ≡ call
 
 -- the command that the program has read
 abbrev pub asked_of : Command → Asked

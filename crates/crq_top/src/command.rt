@@ -1,10 +1,18 @@
-//! The command line.
+//! The command that the words of a command line spell.
 
-ghost use Rattle.std.specs.Prelude.{◌≡◌, ℕ, ◌≤◌, ◌<◌, ◌^◌, List, MatchOption, map, string_bytes, codes, [], ◌∷◌};
-ghost use Rattle.std.specs.Fmt.{decimal};
-ghost use Rattle.crq_top.specs.Commands.{Asked, AsksRun, AsksInspect, IsBetween, asked_of};
+ghost use Rattle.std.specs.Prelude.{◌≡◌, ℕ, List, IfOk, IfErr, MatchOption, map, string_bytes, ◌∷◌};
+ghost use Rattle.crq_top.specs.Commands.{Asked, Asks, Spells, AllFit, IsInRange, IsFirstProblem, asked_of, call_of, form_of, operands_of, problem_of, verb_of};
 
-use itoa::Buffer;
+use crate::forms::{Misfit, Parameter, Verb, misfit_of};
+
+/// The two top calls.
+#[derive(Clone, Copy, Debug, PartialEq, Eq)]
+pub enum Call {
+    /// `run`, which may wait for threads.
+    Run,
+    /// `inspect`, which always returns.
+    Inspect,
+}
 
 /// What a list of words asks for.
 #[derive(Clone, Copy, Debug)]
@@ -32,111 +40,70 @@ pub enum Command<'w> {
     },
 }
 
-/// A number that is written as a decimal without sign and without a leading zero.
-fn plain(word: &str) -> Option<u64>
-    ensures { MatchOption result ((n : ℕ) → n < 2 ^ 64 → word.now ≡ decimal n → ⊥) (λ n. (word.now ≡ decimal n) × ((k : ℕ) → k < 2 ^ 64 → word.now ≡ decimal k → k ≡ n)) }
-{
-    match word.parse::<u64>() {
-        Ok(value) => {
-            let mut buffer = Buffer::new();
-            if buffer.format(value) == word {
-                Some(value)
-            } else {
-                None
-            }
+impl Command<'_> {
+    /// The call that carries it out.
+    fn call(&self) -> Call
+        ensures { result ≡ call_of (asked_of self.now) }
+    {
+        match self {
+            Command::Run { .. } => Call::Run,
+            Command::Check { .. } | Command::Serial { .. } | Command::Gen { .. } => Call::Inspect,
         }
-        Err(_) => None,
     }
 }
 
-/// Such a number within these bounds.
-fn number(word: &str, least: u64, most: u64) -> Option<u64>
-    ensures { MatchOption result ((n : ℕ) → IsBetween least most n → word.now ≡ decimal n → ⊥) (λ n. IsBetween least most n × (word.now ≡ decimal n)) }
+/// The command whose name is followed by these words.
+fn command_of<'w>(verb: Verb, words: &'w [String]) -> Command<'w>
+    requires { AllFit (form_of verb) (map string_bytes words.now) }
+    ensures verb { verb_of (asked_of result) ≡ verb }
+    ensures operands { operands_of (asked_of result) ≡ map string_bytes words.entry.now }
+    ensures in_range { IsInRange (asked_of result) }
 {
-    match plain(word) {
-        Some(value) if least <= value && value <= most => Some(value),
-        _ => None,
+    match verb {
+        Verb::Run => Command::Run {
+            model: words[0].as_str(),
+            rows: Parameter::Rows.value(words[2].as_str()) as u32,
+            events: Parameter::Events.value(words[3].as_str()) as u32,
+        },
+        Verb::Check => Command::Check {
+            model: words[0].as_str(),
+        },
+        Verb::Serial => Command::Serial {
+            model: words[0].as_str(),
+            events: Parameter::Events.value(words[1].as_str()) as u32,
+        },
+        Verb::Gen => Command::Gen {
+            seed: Parameter::Seed.value(words[0].as_str()),
+            objects: Parameter::Objects.value(words[1].as_str()) as u32,
+            population: Parameter::Population.value(words[2].as_str()) as u32,
+        },
     }
 }
 
-/// A command of `run`, from its words but for the first.
-fn run_of<'w>(model: &'w str, workers: &str, rows: &str, events: &str) -> Option<Command<'w>>
-    ensures { MatchOption result ((a : Asked) → AsksRun (codes "run" ∷ model.entry.now ∷ workers.now ∷ rows.now ∷ events.now ∷ []) a → ⊥)
-        (λ c. AsksRun (codes "run" ∷ model.entry.now ∷ workers.now ∷ rows.now ∷ events.now ∷ []) (asked_of c)) }
+/// The command that the words spell, or the first thing that is wrong with them.
+pub(crate) fn read<'w>(words: &'w [String]) -> Result<Command<'w>, Misfit<'w>>
+    ensures ok { IfOk result (λ c. Spells (map string_bytes words.entry.now) (asked_of c)) }
+    ensures err { IfErr result (λ m. IsFirstProblem (map string_bytes words.entry.now) (problem_of m)) }
+    ensures none { IfErr result (λ m. (a : Asked) → Spells (map string_bytes words.entry.now) a → ⊥) }
 {
-    if workers != "1" {
-        return None;
-    }
-    let rows = number(rows, 4, 131_072)?;
-    let events = number(events, 1, 4_194_304)?;
-    Some(Command::Run {
-        model,
-        rows: rows as u32,
-        events: events as u32,
-    })
-}
-
-/// The command of `run` that the words spell.
-pub(crate) fn run_command<'w>(words: &'w [String]) -> Option<Command<'w>>
-    ensures { MatchOption result ((a : Asked) → AsksRun (map string_bytes words.entry.now) a → ⊥) (λ c. AsksRun (map string_bytes words.entry.now) (asked_of c)) }
-{
-    match words {
-        [name, model, workers, rows, events] if name.as_str() == "run" => run_of(
-            model.as_str(),
-            workers.as_str(),
-            rows.as_str(),
-            events.as_str(),
-        ),
-        _ => None,
+    let Some((name, operands)) = words.split_first() else {
+        return Err(Misfit::NoCommand);
+    };
+    let Some(verb) = Verb::named(name.as_str()) else {
+        return Err(Misfit::Unknown(name.as_str()));
+    };
+    match misfit_of(verb.form(), operands) {
+        Some(misfit) => Err(misfit),
+        None => Ok(command_of(verb, operands)),
     }
 }
 
-/// The `check` of a model.
-fn check_of<'w>(model: &'w str) -> Command<'w>
-    ensures { AsksInspect (codes "check" ∷ model.entry.now ∷ []) (asked_of result) }
+/// The command that the words ask a call for.
+pub(crate) fn command_for<'w>(call: Call, words: &'w [String]) -> Option<Command<'w>>
+    ensures { MatchOption result ((a : Asked) → Asks call (map string_bytes words.entry.now) a → ⊥) (λ c. Asks call (map string_bytes words.entry.now) (asked_of c)) }
 {
-    Command::Check { model }
-}
-
-/// A `serial` from its words but for the first.
-fn serial_of<'w>(model: &'w str, events: &str) -> Option<Command<'w>>
-    ensures { MatchOption result ((a : Asked) → AsksInspect (codes "serial" ∷ model.entry.now ∷ events.now ∷ []) a → ⊥)
-        (λ c. AsksInspect (codes "serial" ∷ model.entry.now ∷ events.now ∷ []) (asked_of c)) }
-{
-    let events = number(events, 1, 4_194_304)?;
-    Some(Command::Serial {
-        model,
-        events: events as u32,
-    })
-}
-
-/// A `gen` from its words but for the first.
-fn gen_of<'w>(seed: &str, objects: &str, population: &str) -> Option<Command<'w>>
-    ensures { MatchOption result ((a : Asked) → AsksInspect (codes "gen" ∷ seed.now ∷ objects.now ∷ population.now ∷ []) a → ⊥)
-        (λ c. AsksInspect (codes "gen" ∷ seed.now ∷ objects.now ∷ population.now ∷ []) (asked_of c)) }
-{
-    let seed = number(seed, 0, u64::MAX)?;
-    let objects = number(objects, 1, 65_535)?;
-    let population = number(population, 0, 65_535)?;
-    Some(Command::Gen {
-        seed,
-        objects: objects as u32,
-        population: population as u32,
-    })
-}
-
-/// The command of `inspect` that the words spell.
-pub(crate) fn inspect_command<'w>(words: &'w [String]) -> Option<Command<'w>>
-    ensures { MatchOption result ((a : Asked) → AsksInspect (map string_bytes words.entry.now) a → ⊥) (λ c. AsksInspect (map string_bytes words.entry.now) (asked_of c)) }
-{
-    match words {
-        [name, model] if name.as_str() == "check" => Some(check_of(model.as_str())),
-        [name, model, events] if name.as_str() == "serial" => {
-            serial_of(model.as_str(), events.as_str())
-        }
-        [name, seed, objects, population] if name.as_str() == "gen" => {
-            gen_of(seed.as_str(), objects.as_str(), population.as_str())
-        }
+    match read(words) {
+        Ok(command) if command.call() == call => Some(command),
         _ => None,
     }
 }

@@ -29,7 +29,7 @@ pub enum Status {
 }
 
 /// How a top call ended, with what its fault line tells.
-#[derive(Clone, Copy, Debug, PartialEq, Eq)]
+#[derive(Debug, Drop)]
 pub enum Ending {
     Ok,
     Usage,

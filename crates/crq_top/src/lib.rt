@@ -1,19 +1,22 @@
 //! The top calls: from the words of a command line and the bytes of a file to the bytes that are printed.
 #![tactic(auto)]
 
+mod calls;
 mod command;
 mod ending;
 mod explanation;
-mod inspecting;
+mod forms;
 mod line;
 mod output;
-mod running;
+mod performing;
 mod texts;
 
+pub use calls::{call_to_ending, inspect, run};
+pub use command::Call;
 pub use ending::{Ending, Status};
-pub use explanation::Explanation;
-pub use inspecting::{inspect, inspect_to_ending};
-pub use running::{run, run_to_ending};
+pub use explanation::{Explanation, explanation_of};
+pub use forms::{Misfit, Parameter};
+pub use performing::{perform, program};
 
 #[cfg(test)]
 mod tests;

@@ -1,6 +1,7 @@
-use crate::{Explanation, inspect, run, run_to_ending};
+use crate::{Call, call_to_ending, explanation_of, inspect, program, run};
 use crq_io::{MemFiles, MemSink, Memory};
 use std::alloc::{AllocError, Global};
+use std::env::{Env, FillError};
 use std::test::Fail;
 use std::thread::Threads;
 
@@ -235,50 +236,167 @@ fn counted_faults(rt: HostRuntime) -> Result<(), Fail> {
     Ok(())
 }
 
+/// A command line, of which the first word is the program's name.
+#[derive(Drop)]
+struct CommandLine<'a> {
+    words: &'a [&'a [u8]],
+}
+
+impl Env for CommandLine<'_> {
+    fn arg(&self, i: usize, buf: &mut [u8]) -> Result<usize, FillError> {
+        let Some(word) = self.words.get(i) else {
+            return Err(FillError::NotPresent);
+        };
+        if word.len() > buf.len() {
+            return Err(FillError::TooLong);
+        }
+        buf[..word.len()].copy_from_slice(word);
+        Ok(word.len())
+    }
+
+    fn var(&self, _name: &str, _buf: &mut [u8]) -> Result<usize, FillError> {
+        Err(FillError::NotPresent)
+    }
+
+    fn var_at(&self, _i: usize, _buf: &mut [u8]) -> Result<usize, FillError> {
+        Err(FillError::NotPresent)
+    }
+}
+
+/// What the program writes to its two streams, and its exit status as it is shown.
+fn performed<R: Threads + Sync>(
+    rt: &R,
+    alloc: Global,
+    words: &[&[u8]],
+) -> Result<(String, String, String), Fail> {
+    let mut files = models(alloc)?;
+    let mut out = MemSink::new(alloc, 1 << 12, 1 << 12, &[])?;
+    let mut errors = MemSink::new(alloc, 1 << 12, 7, &[])?;
+    let code = program(
+        rt,
+        &CommandLine { words },
+        alloc,
+        &mut files,
+        &mut out,
+        &mut errors,
+    );
+    Ok((
+        String::from_utf8_lossy(alloc, out.bytes())?,
+        String::from_utf8_lossy(alloc, errors.bytes())?,
+        format!(in alloc; "{code:?}")?,
+    ))
+}
+
 #[test]
 fn endings_in_words(rt: HostRuntime) -> Result<(), Fail> {
     let alloc = rt.alloc();
     let mut files = models(alloc)?;
-    files.add(
-        alloc,
-        "late",
-        changed(alloc, "\"delay\":7", "\"delay\":4")?.as_bytes(),
-    )?;
-    files.add(
-        alloc,
-        "lost",
-        changed(alloc, "\"object\":\"a\"", "\"object\":\"c\"")?.as_bytes(),
-    )?;
+    for (name, from, to) in [
+        ("late", "\"delay\":7", "\"delay\":4"),
+        ("lost", "\"object\":\"a\"", "\"object\":\"c\""),
+    ] {
+        files.add(alloc, name, changed(alloc, from, to)?.as_bytes())?;
+    }
     let rows = [
         (
+            "",
+            "there is no command; the commands are: run MODEL WORKERS ROWS EVENTS, check MODEL, serial MODEL EVENTS, gen SEED OBJECTS POPULATION",
+        ),
+        (
+            "rnu A 1 16 100",
+            "no command \"rnu\"; the commands are: run MODEL WORKERS ROWS EVENTS, check MODEL, serial MODEL EVENTS, gen SEED OBJECTS POPULATION",
+        ),
+        ("run", "MODEL is missing; it has to be the name of a file"),
+        ("run A 2 3 0", "WORKERS is 2; it has to be 1"),
+        ("run A 1 3 0", "ROWS is 3; it has to be 4 to 131072"),
+        ("run A 1 16", "EVENTS is missing; it has to be 1 to 4194304"),
+        ("serial A 007", "EVENTS is 007; it has to be 1 to 4194304"),
+        ("check A B", "\"B\" is one word too many"),
+        (
+            "gen -1 1 0",
+            "SEED is -1; it has to be 0 to 18446744073709551615",
+        ),
+        ("gen 0 0 0", "OBJECTS is 0; it has to be 1 to 65535"),
+        (
+            "gen 0 1 65536",
+            "POPULATION is 65536; it has to be 0 to 65535",
+        ),
+        (
             "run late 1 16 100",
-            "crq: late: object 2: the lookahead is 0, or a delay or service is below it",
+            "late: object 2: \"delay\" is below the lookahead",
         ),
         (
             "run lost 1 16 100",
-            "crq: lost: start 1: there is no such kind, or no object of that name",
+            "lost: start 1: \"object\" names no object \"c\"",
         ),
         (
             "run not_json 1 16 100",
-            "crq: not_json: the model: the text isn't JSON in UTF-8",
+            "not_json: the text isn't JSON in UTF-8",
         ),
-        (
-            "run nowhere 1 16 100",
-            "crq: nowhere: the file can't be read",
-        ),
+        ("run now\u{7}here 1 16 100", "now\\x07here: the file can't be read"),
         (
             "run A 1 16 2",
-            "crq: A: the run has more events than EVENTS; the first one past them is in window 3",
+            "A: the run has more events than EVENTS; the first one past them is in window 3",
         ),
-        ("run A 1 16 100", ""),
     ];
     for (line, wanted) in rows {
         let words = words_of(alloc, line)?;
         let words = words.as_slice();
         let mut out = MemSink::new(alloc, 1000, 1000, &[])?;
-        let ending = run_to_ending(&rt, alloc, words, &mut files, &mut out);
-        let told = format!(in alloc; "{}", Explanation { ending, words })?;
-        assert_eq!(rt; told.as_str(), wanted, "{line}");
+        let call = if line.starts_with("run") {
+            Call::Run
+        } else {
+            Call::Inspect
+        };
+        let ending = call_to_ending(&rt, alloc, call, words, &mut files, &mut out);
+        let told = format!(in alloc; "{}", explanation_of(&ending, words))?;
+        assert_eq!(rt; told.as_str().strip_prefix("crq: "), Some(wanted), "{line}");
+    }
+    Ok(())
+}
+
+#[test]
+fn the_whole_program(rt: HostRuntime) -> Result<(), Fail> {
+    let alloc = rt.alloc();
+    let rows: [(&[&[u8]], &str, &str, &str); 6] = [
+        (
+            &[b"crq", b"run", b"A", b"1", b"16", b"100"],
+            A_TEXT,
+            "",
+            "0",
+        ),
+        (&[b"crq", b"check", b"A"], "model 2 1 5 12\n", "", "0"),
+        (
+            &[b"crq", b"run", b"A", b"1", b"16", b"100", b"more"],
+            "fault 1\n",
+            "crq: \"more\" is one word too many\n",
+            "1",
+        ),
+        (
+            &[b"crq", b"check", b"\xff"],
+            "",
+            "crq: a word of the command line isn't UTF-8\n",
+            "1",
+        ),
+        (
+            &[b"crq", b"check", b"nowhere"],
+            "fault 4\n",
+            "crq: nowhere: the file can't be read\n",
+            "4",
+        ),
+        (
+            &[b"crq", b"serial", b"A", b"2"],
+            "fault 7 3\n",
+            "crq: A: the run has more events than EVENTS; the first one past them is in window 3\n",
+            "7",
+        ),
+    ];
+    for (words, text, said, status) in rows {
+        let got = performed(&rt, alloc, words)?;
+        let code = format!(in alloc; "ExitCode(unix_exit_status({status}))")?;
+        assert_eq!(rt; got.0.as_str(), text, "{status}");
+        assert_eq!(rt; got.1.as_str(), said, "{status}");
+        assert_eq!(rt; got.2.as_str(), code.as_str(), "{status}");
     }
     Ok(())
 }

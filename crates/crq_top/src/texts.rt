@@ -1,7 +1,6 @@
 //! The text of each command, or why there is none.
 
 ghost use Rattle.std.specs.Prelude.{◌≡◌, ℕ, ◌⊎◌, ◌≤◌, IfOk, IfErr, List, Some, Ok};
-ghost use Rattle.crq_io.specs.Faults.{Rose, NoFault};
 ghost use Rattle.crq_reader.specs.Canonical.{canonical};
 ghost use Rattle.crq_sim.specs.Ends.{IsEndOf};
 ghost use Rattle.crq_sim.specs.Generated.{generated};
@@ -10,32 +9,50 @@ ghost use Rattle.crq_sim.specs.Runs.{IsOverWithin, traces_within};
 ghost use Rattle.crq_printer.specs.Texts.{trace_text_of};
 ghost use Rattle.crq_top.specs.Commands.{Asked, IsBetween, IsInRange, asked_of};
 ghost use Rattle.crq_top.specs.Lines.{check_line};
-ghost use Rattle.crq_top.specs.Meanings.{Names, IsCap, IsModelOf, IsTextOf, IsCause, IsEndingOf, IsEndingOfRun, AreBytesOf};
+ghost use Rattle.crq_top.specs.Meanings.{Names, IsCap, IsModelOf, IsTextOf, IsCause, IsEndingOf, IsEndingOfRun, AreBytesOf, limit_of};
 
 use crate::command::Command;
 use crate::ending::Ending;
 use crq_io::{Fetch, Files};
 use crq_printer::trace_text;
-use crq_reader::{Fault, ModelFault, model_text, read_model};
+use crq_reader::{FaultNumber, ModelFault, model_text, read_model};
 use crq_sim::{Memory, Model, SimEnd, Traces, generate, serial};
 use std::alloc::{AllocError, Global};
 use std::thread::Threads;
 
-/// How many bytes a model file may have.
-const MOST_BYTES: u64 = 16_777_216;
+/// What a command reads a file for.
+#[derive(Clone, Copy, Debug, PartialEq, Eq)]
+pub enum Role {
+    /// The model that it is about.
+    Model,
+}
 
-/// The bytes of a model file.
+impl Role {
+    /// How many bytes a file may have in this role.
+    fn limit(&self) -> u64
+        ensures { result ≡ limit_of self.now }
+    {
+        match self {
+            Role::Model => 16_777_216,
+        }
+    }
+}
+
+/// The bytes of the file that a command reads in a role.
 fn bytes_of<F: Files>(
     alloc: Global,
     files: &mut F,
+    role: Role,
     name: &str,
     command: &Command,
 ) -> Result<Vec<u8>, Ending>
-    requires { Names (asked_of command.now) name.now }
-    ensures ok { IfOk result (λ bytes. AreBytesOf (F.found files.old) (asked_of command.now) bytes.items) }
-    ensures err { IfErr result (λ e. IsCause (F.found files.old) (F.faults files.old) (F.faults files.new) (asked_of command.now) e) }
+    requires { Names (asked_of command.now) role name.now }
+    ensures ok { IfOk result (λ bytes. AreBytesOf (F.found files.old) (asked_of command.now) role bytes.items) }
+    ensures err { IfErr result (λ e. IsCause (record { found = F.found files.old; faults = F.faults files.old }) (record { found = F.found files.new; faults = F.faults files.new }) (asked_of command.now) e) }
+    ensures kept { (other : List ℕ) → F.found files.new other ≡ F.found files.old other }
+    ensures later { F.faults files.old ≤ F.faults files.new }
 {
-    match files.fetch(alloc, name, MOST_BYTES) {
+    match files.fetch(alloc, name, role.limit()) {
         Ok(bytes) => Ok(bytes),
         Err(Fetch::Memory) => Err(Ending::Memory),
         Err(Fetch::Long) => Err(Ending::Long),
@@ -49,7 +66,7 @@ fn ending_of(fault: ModelFault) -> Ending
     ensures { IsEndingOf fault result }
 {
     match fault.number {
-        Fault::Memory => Ending::Memory,
+        FaultNumber::Memory => Ending::Memory,
         _ => Ending::Model(fault),
     }
 }
@@ -61,11 +78,13 @@ fn model_of<F: Files>(
     name: &str,
     command: &Command,
 ) -> Result<Model, Ending>
-    requires { Names (asked_of command.now) name.now }
+    requires { Names (asked_of command.now) Role.Model name.now }
     ensures ok { IfOk result (λ m. IsModelOf (F.found files.old) (asked_of command.now) m) }
-    ensures err { IfErr result (λ e. IsCause (F.found files.old) (F.faults files.old) (F.faults files.new) (asked_of command.now) e) }
+    ensures err { IfErr result (λ e. IsCause (record { found = F.found files.old; faults = F.faults files.old }) (record { found = F.found files.new; faults = F.faults files.new }) (asked_of command.now) e) }
+    ensures kept { (other : List ℕ) → F.found files.new other ≡ F.found files.old other }
+    ensures later { F.faults files.old ≤ F.faults files.new }
 {
-    let bytes = bytes_of(alloc, files, name, command)?;
+    let bytes = bytes_of(alloc, files, Role::Model, name, command)?;
     match read_model(alloc, bytes.as_slice()) {
         Ok(model) => Ok(model),
         Err(fault) => Err(ending_of(fault)),
@@ -112,11 +131,13 @@ fn run_text<F: Files, R: Threads + Sync>(
     events: u32,
     command: &Command,
 ) -> Result<Vec<u8>, Ending>
-    requires named { Names (asked_of command.now) name.now }
+    requires named { Names (asked_of command.now) Role.Model name.now }
     requires capped { IsCap (asked_of command.now) events }
     requires few { events ≤ 4194304 }
     ensures ok { IfOk result (λ t. (m : ModelData) × IsModelOf (F.found files.old) (asked_of command.now) m × IsOverWithin m events × (t.items ≡ trace_text_of (traces_within m events))) }
-    ensures err { IfErr result (λ e. IsCause (F.found files.old) (F.faults files.old) (F.faults files.new) (asked_of command.now) e) }
+    ensures err { IfErr result (λ e. IsCause (record { found = F.found files.old; faults = F.faults files.old }) (record { found = F.found files.new; faults = F.faults files.new }) (asked_of command.now) e) }
+    ensures kept { (other : List ℕ) → F.found files.new other ≡ F.found files.old other }
+    ensures later { F.faults files.old ≤ F.faults files.new }
 {
     let model = model_of(alloc, files, name, command)?;
     text_of_run(rt, alloc, &model, events)
@@ -175,7 +196,9 @@ pub(crate) fn text_of<F: Files, R: Threads + Sync>(
 ) -> Result<Vec<u8>, Ending>
     requires { IsInRange (asked_of command.now) }
     ensures ok { IfOk result (λ t. IsTextOf (F.found files.old) (asked_of command.now) t.items) }
-    ensures err { IfErr result (λ e. IsCause (F.found files.old) (F.faults files.old) (F.faults files.new) (asked_of command.now) e) }
+    ensures err { IfErr result (λ e. IsCause (record { found = F.found files.old; faults = F.faults files.old }) (record { found = F.found files.new; faults = F.faults files.new }) (asked_of command.now) e) }
+    ensures kept { (other : List ℕ) → F.found files.new other ≡ F.found files.old other }
+    ensures later { F.faults files.old ≤ F.faults files.new }
 {
     match command {
         Command::Run { model, events, .. } | Command::Serial { model, events } => {

@@ -6,4 +6,4 @@ pub put_surely-requires : goal.put_surely-requires
 put_surely-requires g c = let all = c.loop-i.invariant in worker_at _ _ all _ _ (mod-lt c.loop-i.i (some_worker _ _ all))
 
 pub loop-i-preserved : goal.loop-i-preserved
-loop-i-preserved g c = let all = c.loop-i.invariant in one_on _ _ all _ _ _ (mod-lt c.loop-i.i (some_worker _ _ all)) c.put_surely.ensures
+loop-i-preserved g c = let all = c.loop-i.invariant in one_on _ _ all _ _ _ (mod-lt c.loop-i.i (some_worker _ _ all)) c.put_surely.ensures.on

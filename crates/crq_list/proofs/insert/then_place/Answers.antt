@@ -1,5 +1,5 @@
 use Rattle.std.proofs.Common.{refl}
-use Rattle.crq_list.specs.declared.insert.Inserting.TheVariants.{Placing}
+use Rattle.crq_list.specs.declared.insert.InsertState.TheVariants.{Placing}
 use Rattle.crq_list.specs.Stretches.{ends}
 use Rattle.crq_list.proofs.Stretching.{insert_part, insert_on}
 use Rattle.crq_list.proofs.insert.then_place.Goals as goal

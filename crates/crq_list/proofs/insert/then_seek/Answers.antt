@@ -1,5 +1,5 @@
 use Rattle.std.proofs.Common.{sym, ◌∙◌}
-use Rattle.crq_list.specs.declared.insert.Inserting.TheVariants.{Seeking}
+use Rattle.crq_list.specs.declared.insert.InsertState.TheVariants.{Seeking}
 use Rattle.crq_list.proofs.Stretching.{insert_part, insert_on}
 use Rattle.crq_list.proofs.insert.then_seek.Goals as goal
 

@@ -5,7 +5,7 @@ use Rattle.crq_list.specs.declared.parts.Progress.{Progress}
 use Rattle.crq_list.specs.declared.parts.Progress.TheVariants.{More}
 use Rattle.crq_list.specs.declared.insert.InsertOp.{InsertOp}
 use Rattle.crq_list.specs.declared.insert.InsertEnd.{InsertEnd}
-use Rattle.crq_list.specs.declared.insert.Inserting.TheVariants.{Writing}
+use Rattle.crq_list.specs.declared.insert.InsertState.TheVariants.{Writing}
 use Rattle.crq_list.specs.Inserting.{IsInserting, InsertStepped, insert_exchanges, state_left}
 use Rattle.crq_list.proofs.Stretching.{Goes}
 use Rattle.crq_list.proofs.insert.write_words.Given as goal

@@ -1,8 +1,8 @@
 use Rattle.std.proofs.Common.{ℕ}
 use Rattle.crq_base.specs.declared.words.Control.{Control}
 use Rattle.crq_rows.specs.Passes.{caller, IsPassOf}
-use Rattle.crq_list.specs.declared.seek.Seek.{Seek}
-use Rattle.crq_list.specs.declared.seek.Seek.TheVariants.{Reading}
+use Rattle.crq_list.specs.declared.seek.SeekState.{SeekState}
+use Rattle.crq_list.specs.declared.seek.SeekState.TheVariants.{Reading}
 use Rattle.crq_list.specs.declared.seek.SeekEnd.{SeekEnd}
 use Rattle.crq_list.specs.declared.parts.Progress.{Progress}
 use Rattle.crq_list.specs.declared.parts.Progress.TheVariants.{More}
@@ -12,7 +12,7 @@ use Rattle.crq_list.proofs.stretch.compare.Given as goal
 
 abbrev pub invariant-loop-next : goal.invariant-loop-next
 invariant-loop-next l = IsPassOf l.table l.pass × ((n : ℕ) (x : Control) → IsSeeking n l.table x l.sought (Reading l.fn.before l.fn.first) (caller l.table l.fn.pass)
-    → IsSeeking n l.table x l.sought (Reading l.before l.place) (caller l.table l.pass) × Goes Seek (Progress SeekEnd) (SeekStepped n l.table x l.sought) seek_exchanges More (Reading l.fn.before l.fn.first) (Reading l.before l.place) l.fn.pass l.pass)
+    → IsSeeking n l.table x l.sought (Reading l.before l.place) (caller l.table l.pass) × Goes SeekState (Progress SeekEnd) (SeekStepped n l.table x l.sought) seek_exchanges More (Reading l.fn.before l.fn.first) (Reading l.before l.place) l.fn.pass l.pass)
 
 abbrev pub decreases-loop-next : goal.decreases-loop-next
 decreases-loop-next l = seek_left (Reading l.before l.place) (caller l.table l.pass)

@@ -1,5 +1,5 @@
 use Rattle.std.proofs.Common.{refl}
-use Rattle.crq_list.specs.declared.seek.Seek.TheVariants.{Load}
+use Rattle.crq_list.specs.declared.seek.SeekState.TheVariants.{Load}
 use Rattle.crq_list.specs.Stretches.{ends}
 use Rattle.crq_list.proofs.Stretching.{seek_part, seek_on}
 use Rattle.crq_list.proofs.stretch.then_load.Goals as goal

@@ -1,5 +1,5 @@
 use Rattle.std.proofs.Common.{refl}
-use Rattle.crq_list.specs.declared.seek.Seek.TheVariants.{Passing}
+use Rattle.crq_list.specs.declared.seek.SeekState.TheVariants.{Passing}
 use Rattle.crq_list.proofs.Stretching.{seek_part, seek_on}
 use Rattle.crq_list.proofs.stretch.then_pass.Goals as goal
 

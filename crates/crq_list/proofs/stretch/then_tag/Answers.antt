@@ -1,5 +1,5 @@
 use Rattle.std.proofs.Common.{refl}
-use Rattle.crq_list.specs.declared.seek.Seek.TheVariants.{Tagging}
+use Rattle.crq_list.specs.declared.seek.SeekState.TheVariants.{Tagging}
 use Rattle.crq_list.specs.Stretches.{ends}
 use Rattle.crq_list.proofs.Stretching.{seek_part, seek_on}
 use Rattle.crq_list.proofs.stretch.then_tag.Goals as goal

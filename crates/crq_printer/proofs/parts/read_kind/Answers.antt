@@ -1,6 +1,6 @@
 use Rattle.std.proofs.Common.{◌≡◌, List, ℕ, ◌++◌, ◌∷◌, sym, ◌∙◌}
 use Rattle.crq_sim.specs.declared.model.BehaviourName.{BehaviourName}
-use Rattle.crq_printer.specs.Texts.{kind_word}
+use Rattle.crq_sim.specs.Kinds.{kind_word}
 use Rattle.crq_printer.proofs.FieldLaws.{same_field, kind_lacks, if_none}
 use Rattle.crq_printer.proofs.parts.read_kind.Goals as goal
 

@@ -11,4 +11,4 @@ returns-in-Ok-clause-ok c = rw (is_utf8-from_IsUtf8 c.args.text.now c.in-Ok.ensu
 
 pub returns-else-is_memory-clause-err : goal.returns-else-is_memory-clause-err
 returns-else-is_memory-clause-err c =
-    inr (not_json c.args.text.now (c.in-Err.ensures.err (iff_false c.is_memory.ensures c.if-is_memory.false)) ∙ ap Err (sym c.in_file.ensures))
+    inr (not_json c.args.text.now (c.in-Err.ensures.err (iff_false c.is_memory.ensures c.if-is_memory.false)) ∙ ap Err (sym c.in_text.ensures))

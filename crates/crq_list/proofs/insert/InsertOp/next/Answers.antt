@@ -1,5 +1,5 @@
 use Rattle.std.proofs.Common.{refl}
-use Rattle.crq_list.specs.declared.insert.Inserting.TheVariants.{Seeking, Placing, Linking}
+use Rattle.crq_list.specs.declared.insert.InsertState.TheVariants.{Seeking, Placing, Linking}
 use Rattle.crq_list.specs.Stretches.{ends}
 use Rattle.crq_list.proofs.Stretching.{insert_from}
 use Rattle.crq_list.proofs.insert.InsertOp.next.Goals as goal

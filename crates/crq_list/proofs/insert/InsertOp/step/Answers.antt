@@ -1,4 +1,4 @@
-use Rattle.crq_list.specs.declared.insert.Inserting.TheVariants.{Writing, Seeking, Placing, Linking}
+use Rattle.crq_list.specs.declared.insert.InsertState.TheVariants.{Writing, Seeking, Placing, Linking}
 use Rattle.crq_list.proofs.InsertLaws.{steps_from}
 use Rattle.crq_list.proofs.insert.InsertOp.step.Goals.{in-Writing, in-Seeking, in-Placing, in-Linking}
 use Rattle.crq_list.proofs.insert.InsertOp.step.Goals as goal

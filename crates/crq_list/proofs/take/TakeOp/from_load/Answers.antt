@@ -1,5 +1,5 @@
 use Rattle.std.proofs.Common.{refl}
-use Rattle.crq_list.specs.declared.take.Taking.TheVariants.{Load, Walking}
+use Rattle.crq_list.specs.declared.take.TakeState.TheVariants.{Load, Walking}
 use Rattle.crq_list.specs.Stretches.{ends}
 use Rattle.crq_list.proofs.Stretching.{take_part, take_on}
 use Rattle.crq_list.proofs.take.TakeOp.from_load.Goals as goal

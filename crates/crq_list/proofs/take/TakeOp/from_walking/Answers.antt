@@ -1,5 +1,5 @@
 use Rattle.std.proofs.Common.{refl}
-use Rattle.crq_list.specs.declared.take.Taking.TheVariants.{Walking, Reading}
+use Rattle.crq_list.specs.declared.take.TakeState.TheVariants.{Walking, Reading}
 use Rattle.crq_list.proofs.Stretching.{take_part, take_on}
 use Rattle.crq_list.proofs.take.TakeOp.from_walking.Goals as goal
 

@@ -5,7 +5,7 @@ use Rattle.crq_list.specs.declared.parts.Progress.{Progress}
 use Rattle.crq_list.specs.declared.parts.Progress.TheVariants.{More}
 use Rattle.crq_list.specs.declared.take.MarkEnd.{MarkEnd}
 use Rattle.crq_list.specs.declared.take.TakeOp.{TakeOp}
-use Rattle.crq_list.specs.declared.take.Taking.TheVariants.{Reading}
+use Rattle.crq_list.specs.declared.take.TakeState.TheVariants.{Reading}
 use Rattle.crq_list.specs.Taking.{IsTaking, TakeStepped, take_exchanges, taking_left}
 use Rattle.crq_list.proofs.Stretching.{Goes}
 use Rattle.crq_list.proofs.take.TakeOp.read_event.Given as goal

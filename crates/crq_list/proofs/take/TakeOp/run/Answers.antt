@@ -1,4 +1,4 @@
-use Rattle.crq_list.specs.declared.take.Taking.TheVariants.{Load, Walking, Reading}
+use Rattle.crq_list.specs.declared.take.TakeState.TheVariants.{Load, Walking, Reading}
 use Rattle.crq_list.specs.Stretches.{ends}
 use Rattle.crq_list.proofs.Stretching.{take_from}
 use Rattle.crq_list.proofs.take.TakeOp.run.Goals.{in-Load, in-Walking, in-Reading}

@@ -1,4 +1,4 @@
-use Rattle.crq_list.specs.declared.take.Taking.TheVariants.{Load, Walking, Reading, Marking}
+use Rattle.crq_list.specs.declared.take.TakeState.TheVariants.{Load, Walking, Reading, Marking}
 use Rattle.crq_list.proofs.TakeLaws.{step_is}
 use Rattle.crq_list.proofs.take.TakeOp.step.Goals.{in-Load, in-Walking, in-Reading, in-Marking}
 use Rattle.crq_list.proofs.take.TakeOp.step.Goals as goal

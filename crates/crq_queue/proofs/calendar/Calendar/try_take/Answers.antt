@@ -1,4 +1,4 @@
-use Rattle.std.proofs.Common.{ap, ◌∙◌, Ok, Err}
+use Rattle.std.proofs.Common.{ap, ◌∙◌, Ok, Err, arith}
 use Rattle.crq_base.specs.declared.event.Event.{Event}
 use Rattle.crq_base.specs.declared.answers.Refusal.TheVariants.{Again}
 use Rattle.crq_base.specs.declared.answers.Route.TheVariants.{Bucket}
@@ -20,7 +20,7 @@ mark-requires c = let old = c.args.pass.now in let low = c.ranges.budget.fits in
 
 pub finish_cut-owed-requires : goal.finish_cut-owed-requires
 finish_cut-owed-requires c = let m = c.in-Ok-Some in let w = take_owes c.args.pass.now c.ranges.budget.fits c.in-Ok.ensures c.enter.ensures c.args.limit c.mark.new.pass m.field-0 m.ensures m.field-0-is in
-    record { of = w.0.is; inside = w.0.inside; within = w.1 }
+    record { of = w.0.is; inside = w.0.inside; within = let within = w.1 in omega arith }
 
 pub leave-requires : goal.leave-requires
 leave-requires c = let table = c.args.self.now.table in let old = c.args.pass.now in let budget = c.args.budget in let limit = c.args.limit in let low = c.ranges.budget.fits in let b = c.in-Ok in let begun = b.ensures in let enter = c.enter.ensures in
