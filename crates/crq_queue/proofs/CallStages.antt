@@ -22,6 +22,8 @@ use Rattle.crq_rule.specs.Ranks.{head_of}
 use Rattle.crq_rule.specs.HistoryParts.{EndsInBegin}
 use Rattle.crq_rule.specs.ListKinds.{IsFresh, MayMiss, loads_control, misses, put_entries}
 use Rattle.crq_rows.specs.declared.recover.Recover.{Recover}
+use Rattle.crq_rows.specs.declared.recover.RecoverOp.{RecoverOp}
+use Rattle.crq_rows.specs.Recovering.{CountsRows, RecoverAnswer}
 use Rattle.crq_rows.specs.declared.recover.Recover.TheVariants.{Held as IsHeld, Rows as NoRows}
 use Rattle.crq_rows.specs.Passes.{caller, IsPassOf}
 use Rattle.crq_list.specs.declared.parts.ListAt.{ListAt}
@@ -38,7 +40,7 @@ use Rattle.crq_queue.specs.declared.runs.Spent.{Spent}
 use Rattle.crq_queue.specs.Wholes.{IsResting}
 use Rattle.crq_rows.specs.declared.recover.RecoverOp.TheVariants.{Ticking}
 use Rattle.crq_rows.specs.declared.tick.TickOp.TheVariants.{Load}
-use Rattle.crq_queue.specs.Runs.{Ran, RanTicks, MayRun, IsInside, Recovered}
+use Rattle.crq_queue.specs.Runs.{Ran, RanTicks, MayRun, IsInside, Recovered, ends, goes_on}
 use Rattle.crq_queue.specs.Calls.{NoRow}
 use Rattle.crq_queue.specs.Parts.{Entered, Left, InsertNeeds, TakeNeeds, CutNeeds, IsUsedUp, InsertRan, OwnRan, RecoverRan, TakeRan}
 use Rattle.crq_queue.specs.Stages.{CutFinished, DebtSettled, EventInserted, EventTaken, IsFinished, RowAnswers, RowFound}
@@ -128,6 +130,11 @@ first_in (x ∷ xs) r some first = inl (first 0)
 stays_at_rest : {table : Table} {n budget most : ℕ} {old new : Pass} {es : List Entry} → IsResting table old → RanTicks table n budget most old new es → (caller table new).guard ≡ (caller table old).guard → ((caller table old).cut ≡ None → (caller table new).cut ≡ None) → IsResting table new
 stays_at_rest r ran guard cut = record { is = ran.is; guard = guard ∙ r.guard; cut = cut r.cut; settle = ran.settle ∙ r.settle; copy = ran.copy ∙ r.copy; second_cut = ran.second_cut ∙ r.second_cut }
 
+-- a recovery that found no row counted events
+counts_rows : (table : Table) (op : RecoverOp) (old new : Pass) (answer : Recover) → Recovered table op old new answer → answer ≡ NoRows → CountsRows table.start.layout (caller table new)
+counts_rows table op old new answer (ends _ op' _ _ _ done s) is = (subst (λ (z : Recover). RecoverAnswer table.start.layout op' (caller table new) z) is s.facts.answer).2
+counts_rows table op old new answer (goes_on _ op' _ mid _ _ s rest) is = counts_rows table op' mid new answer rest is
+
 module _ {table : Table} {n budget : ℕ} {a b : Pass} (r : IsResting table a) where
   pub own_rests : {result : Option ℕ} → OwnRan table n budget a b result → IsResting table b
   own_rests o = stays_at_rest r o.ran o.guard o.uncut
@@ -148,7 +155,7 @@ module _ {table : Table} {n budget : ℕ} {a b : Pass} (r : IsResting table a) w
     recovered_held {holder} v = recovered (Err (Held holder)) o v (no_row o v v.ended)
 
     pub recovered_none : RecoverRan table n budget b c (Ok NoRows) → RowFound table n budget a c (Err Rows)
-    recovered_none v = recovered (Err Rows) o v (no_row o v v.ended)
+    recovered_none v = recovered (Err Rows) o v (no_row o v v.ended, counts_rows table (Ticking 0 Load) b c NoRows v.ended refl)
 
     pub recovered_late : {s : Spent} → RecoverRan table n budget b c (Err s) → RowFound table n budget a c (Err (Again budget))
     recovered_late v = recovered (Err (Again budget)) o v (refl, v.ended)

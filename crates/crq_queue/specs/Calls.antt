@@ -19,6 +19,7 @@ use Rattle.crq_rule.specs.declared.view.Caller.{Caller}
 use Rattle.crq_rule.specs.ListKinds.{begins, cut_debt, put_entries}
 use Rattle.crq_rows.specs.Passes.{caller}
 use Rattle.crq_rows.specs.Owning.{FoundNone}
+use Rattle.crq_rows.specs.Recovering.{CountsRows}
 use Rattle.crq_rows.specs.declared.own.OwnOp.TheVariants.{Load as FirstLook}
 use Rattle.crq_rows.specs.declared.own.Own.TheVariants.{Empty}
 use Rattle.crq_rows.specs.declared.recover.RecoverOp.TheVariants.{Ticking}
@@ -91,11 +92,12 @@ pub record NoRow (table : Table) (begun new : Pass) (answer : Recover) : Type 0 
   pub recovers : Recovered table (Ticking 0 Load) looked new answer
   pub recovery_follows : Follows table looked new
 
--- why a put was refused after its Begin: it needs one more exchange, to recover rows or to insert its event; or no row was to be had
+-- why a put was refused after its Begin: it needs one more exchange, to recover rows or to insert its event; or no row was to be had. Where no home row was found ripe,
+-- the events that were pending as the recovery of this call first loaded the epoch are kept, and twice their number is at least that of the caller's rows
 abbrev pub PutWants : Call → Event → Pass → Pass → Refusal → Type 0
 PutWants c e begun new (Again turns) = (turns ≡ c.budget) × IsShort c (λ n table p. RecoverNeeds n table p ⊎ InsertNeeds n table e p) new
 PutWants c e begun new (Held h) = NoRow c.table begun new (IsHeld h)
-PutWants c e begun new Rows = NoRow c.table begun new NoRows
+PutWants c e begun new Rows = NoRow c.table begun new NoRows × CountsRows c.table.start.layout (caller c.table new)
 PutWants c e begun new Epochs = ⊥
 
 -- a put was refused after its Begin, which is all that it added

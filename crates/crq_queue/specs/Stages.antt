@@ -6,6 +6,7 @@ use Rattle.crq_base.specs.declared.words.Control.{Control}
 use Rattle.crq_base.specs.declared.answers.Refusal.{Refusal}
 use Rattle.crq_base.specs.declared.answers.Refusal.TheVariants.{Again, Held, Rows, Epochs}
 use Rattle.crq_base.specs.declared.kinds.StepKind.TheVariants.{Begin as BeginKind}
+use Rattle.crq_rows.specs.Recovering.{CountsRows}
 use Rattle.crq_rows.specs.declared.recover.Recover.TheVariants.{Held as IsHeld, Rows as NoRows}
 use Rattle.crq_list.specs.Swaps.{Controlled}
 use Rattle.crq_rule.specs.declared.pass.Pass.{Pass}
@@ -54,12 +55,12 @@ abbrev pub BeginAnswers : Call → Pass → Result Control Spent → Type 0
 BeginAnswers c new (Ok x) = CallBegun c new x
 BeginAnswers c new (Err s) = StoppedSettling c new (Again c.budget)
 
--- a row in hand; or the budget is used up in the recovery; or no row was to be had
+-- a row in hand; or the budget is used up in the recovery; or no row was to be had, and where none was found ripe enough events are kept
 abbrev pub RowAnswers : Table → ℕ → ℕ → Pass → Pass → Result ℕ Refusal → Type 0
 RowAnswers table n budget old new (Ok r) = In r (caller table new).hand
 RowAnswers table n budget old new (Err (Again turns)) = (turns ≡ budget) × IsUsedUp table n budget (RecoverNeeds n table) new
 RowAnswers table n budget old new (Err (Held h)) = NoRow table old new (IsHeld h)
-RowAnswers table n budget old new (Err Rows) = NoRow table old new NoRows
+RowAnswers table n budget old new (Err Rows) = NoRow table old new NoRows × CountsRows table.start.layout (caller table new)
 RowAnswers table n budget old new (Err Epochs) = ⊥
 
 pub record RowFound (table : Table) (n budget : ℕ) (old new : Pass) (result : Result ℕ Refusal) : Type 0 where

@@ -150,7 +150,9 @@ impl Calendar {
     /// Where the budget ends before the row that was owed is cut, Again comes, nothing was added, and the pass still owes
     /// that row. After any other refusal the Begin alone was added, and the pass owes nothing: Again comes where the budget is
     /// used up and one more exchange is needed to recover a row or to insert the event, Held where this call found no row free
-    /// or ripe and then a caller that keeps the epoch, Rows where it found none after the epoch rose three times.
+    /// or ripe and then a caller that keeps the epoch, Rows where it found none after the epoch rose three times. Then twice
+    /// the number of events that were pending when the first of these three ticks loaded the epoch is at least the number of
+    /// the caller's rows, and the pass keeps these events for `gather`.
     pub fn try_put(&self, pass: &mut Pass, event: &Event, budget: u32) -> Result<PutEnd, Refusal>
         requires rests { IsResting self.now.table pass.old }
         requires budget { 1 ≤ budget }
