@@ -107,6 +107,9 @@ module _ {table : Table} {budget : ℕ} {b : Pass} {x : Control} (old : Pass) (l
 
   -- A put
 
+  pub begun_found : (caller table b).found.control ≡ Some x
+  begun_found = begin_found begun.begin
+
   module _ {c : Pass} where
     pub put_refused : (e : Event) (refusal : Refusal) → ((n : ℕ) → MayRun table n budget b → RowFound table n budget b c (Err refusal)) → PutAnswers (call table budget old) e c (Err refusal)
     put_refused e refusal find = let f = find (length (caller table old).made) may_begun in inr (record {

@@ -55,6 +55,18 @@ module _ {table : Table} {x : Control} {pass : Pass} (of : IsPassOf table pass) 
     at = (inside.uncut, refl);
   }
 
+  -- a sweep of the first list of the table
+  pub may_sweep : {n : ℕ} (op : CutOp) (list : ListAt) → n ≤ length (caller table pass).made → (list.generation ≡ x.generation) × (list.head ≡ x.generation % 2 * 32768)
+      → op ≡ record { sought = record { list = list; target = None }; state = Load (Head list.head) } → IsCutting n table x op (caller table pass)
+  may_sweep {n} op list counted names is = let heads = first_open x list.head names.1 in subst (λ op. IsCutting n table x op (caller table pass)) (sym is) record {
+    counted = counted;
+    on = inside.on;
+    list_is = record { control = inside.control; generation = names.0; is_head = heads.0; opened = heads.1 };
+    target_is = tt;
+    swept = sweep_begins table.start.layout (at_head list.head) (drop n (caller table pass).made);
+    at = (inside.uncut, refl);
+  }
+
   -- an insertion of an event in a row in hand
   pub may_insert : {n : ℕ} (op : InsertOp) (list : ListAt) (e : Event) (r : ℕ) → n ≤ length (caller table pass).made → (list.generation ≡ x.generation) × (list.head ≡ head_of x e) → IsEvent op.event → In r (caller table pass).hand
       → IsFresh table.start.layout.workers (caller table pass).deal.history (caller table pass).own (caller table pass).deal.span (caller table pass).number e
@@ -97,7 +109,7 @@ module _ {table : Table} {n budget : ℕ} {x : Control} {op : CutOp} {old mid : 
   -- it isn't known as owed any more
   cut_known : CutRan table n budget x op old mid (Ok tt) → old.debts.cut ≡ Some d → op.sought.target ≡ Some (d.event, d.row) → op.sought.list.head ≡ head_of x d.event → (caller table mid).debts.cut ≡ None
   cut_known c owes upto head = ⊎_elim (λ q. q) (λ q. let known : (caller table mid).debts.cut ≡ Some d = q ∙ (ap (λ (d : Debts). d.cut) c.debts ∙ owes) in
-      absurd (c.ended d upto (c.ran.is.lawful.owed_at d x known c.inside.control ∙ sym head) known)) c.ran.is.debts.cut
+      absurd (c.ended.0 d upto (c.ran.is.lawful.owed_at d x known c.inside.control ∙ sym head) known)) c.ran.is.debts.cut
 
   pub cut_finished : {u : Unit {0}} → CutRan table n budget x op old mid (Ok u) → old.debts.cut ≡ Some d → op.sought.target ≡ Some (d.event, d.row) → op.sought.list.head ≡ head_of x d.event
       → CutFinished table n budget x old (record mid { debts = record mid.debts { cut = None } }) (Ok tt)

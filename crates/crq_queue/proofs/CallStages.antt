@@ -1,8 +1,9 @@
 -- The stages of a call, each made of parts.
-use Rattle.std.proofs.Common.{◌≡◌, inl, ℕ, ◌*◌, ◌%◌, ◌<◌, ◌≤◌, true, List, [], ◌∷◌, length, Option, Some, None, Result, Ok, Err, get_or, refl, sym, ap, ◌∙◌, subst, arith}
+use Rattle.std.proofs.Common.{◌≡◌, ⊎_elim, inl, inr, ℕ, ◌+◌, ◌*◌, ◌%◌, ◌^◌, ◌<◌, ◌≤◌, true, List, [], ◌∷◌, ◌++◌, length, drop, le_refl, Option, Some, None, Result, Ok, Err, get_or, refl, sym, ap, ◌∙◌, subst, arith}
 use Rattle.std.specs.Option.{is_some}
 use Rattle.std.proofs.lemmas.Bool.{false≢true}
-use Rattle.std.proofs.lemmas.List.{append-nil}
+use Rattle.std.proofs.lemmas.List.{append-nil, append_assoc}
+use Rattle.std.proofs.Math.Seq.{drop-append_seam}
 use Rattle.crq_base.specs.declared.entry.Entry.{Entry}
 use Rattle.crq_base.specs.declared.entry.Entry.TheVariants.{Take, Miss}
 use Rattle.crq_base.specs.declared.answers.Refusal.{Refusal}
@@ -13,24 +14,35 @@ use Rattle.crq_base.specs.declared.kinds.StepKind.TheVariants.{ControlLoad, Miss
 use Rattle.crq_base.specs.declared.words.Control.{Control}
 use Rattle.crq_rule.specs.declared.debts.CutDebt.{CutDebt}
 use Rattle.crq_rule.specs.declared.debts.Debts.{Debts}
+use Rattle.crq_rule.specs.declared.layout.Layout.{Layout}
 use Rattle.crq_rule.specs.declared.pass.Pass.{Pass}
 use Rattle.crq_rule.specs.declared.pass.Table.{Table}
 use Rattle.crq_rule.specs.declared.view.Deal.{Deal}
+use Rattle.crq_rule.specs.declared.view.Made.{Made}
 use Rattle.crq_rule.specs.Lists.{In}
 use Rattle.crq_rule.specs.Parts.{IsEvent}
-use Rattle.crq_rule.specs.Ranks.{head_of}
+use Rattle.crq_rule.specs.Places.{IsHead}
+use Rattle.crq_rule.specs.Ranks.{head_of, IsOpen, Cell, at_head, at_row}
 use Rattle.crq_rule.specs.HistoryParts.{EndsInBegin}
 use Rattle.crq_rule.specs.ListKinds.{IsFresh, MayMiss, loads_control, misses, put_entries}
 use Rattle.crq_rows.specs.declared.recover.Recover.{Recover}
+use Rattle.crq_rows.specs.declared.recover.RecoverOp.{RecoverOp}
+use Rattle.crq_rows.specs.Recovering.{CountsRows, RecoverAnswer}
 use Rattle.crq_rows.specs.declared.recover.Recover.TheVariants.{Held as IsHeld, Rows as NoRows}
 use Rattle.crq_rows.specs.Passes.{caller, IsPassOf}
 use Rattle.crq_list.specs.declared.parts.ListAt.{ListAt}
+use Rattle.crq_list.specs.declared.parts.Spot.TheVariants.{Head}
+use Rattle.crq_list.specs.declared.seek.SeekState.TheVariants.{Load as SeekHead}
+use Rattle.crq_list.specs.declared.cut.CutOp.{CutOp}
 use Rattle.crq_list.specs.declared.insert.InsertOp.{InsertOp}
 use Rattle.crq_list.specs.declared.insert.InsertState.TheVariants.{Writing}
 use Rattle.crq_list.specs.declared.take.TakeOp.{TakeOp}
 use Rattle.crq_list.specs.declared.take.MarkEnd.{MarkEnd}
 use Rattle.crq_list.specs.declared.take.MarkEnd.TheVariants.{Marked, Beyond, Nothing, Lost, Frozen}
 use Rattle.crq_list.specs.declared.take.TakeState.TheVariants.{Load as LoadHead}
+use Rattle.crq_list.specs.Spots.{IsAfter}
+use Rattle.crq_list.specs.Sweeps.{SweepsTo}
+use Rattle.crq_list.specs.Cutting.{IsCutting}
 use Rattle.crq_list.specs.Inserting.{IsInserting}
 use Rattle.crq_list.specs.Taking.{IsTaking}
 use Rattle.crq_list.specs.Swaps.{Controlled}
@@ -38,13 +50,14 @@ use Rattle.crq_queue.specs.declared.runs.Spent.{Spent}
 use Rattle.crq_queue.specs.Wholes.{IsResting}
 use Rattle.crq_rows.specs.declared.recover.RecoverOp.TheVariants.{Ticking}
 use Rattle.crq_rows.specs.declared.tick.TickOp.TheVariants.{Load}
-use Rattle.crq_queue.specs.Runs.{Ran, RanTicks, MayRun, IsInside, Recovered}
+use Rattle.crq_queue.specs.Runs.{Ran, RanTicks, MayRun, IsInside, IsSwept, Recovered, ends, goes_on}
 use Rattle.crq_queue.specs.Calls.{NoRow}
-use Rattle.crq_queue.specs.Parts.{Entered, Left, InsertNeeds, TakeNeeds, CutNeeds, IsUsedUp, InsertRan, OwnRan, RecoverRan, TakeRan}
-use Rattle.crq_queue.specs.Stages.{CutFinished, DebtSettled, EventInserted, EventTaken, IsFinished, RowAnswers, RowFound}
-use Rattle.crq_queue.proofs.RunLaws.{ran_none, ran_trans, ran_both, ran_ticks, used_on}
+use Rattle.crq_queue.specs.Parts.{Entered, Left, InsertNeeds, TakeNeeds, CutNeeds, UptoNeeds, IsUsedUp, CutRan, InsertRan, OwnRan, RecoverRan, TakeRan}
+use Rattle.crq_queue.specs.Stages.{CutFinished, DebtSettled, EventInserted, EventTaken, IsFinished, SweepAnswers, SweepEnded, RowAnswers, RowFound}
+use Rattle.crq_list.proofs.SweepLaws.{sweep_begins}
+use Rattle.crq_queue.proofs.RunLaws.{ran_none, ran_trans, ran_both, ran_ticks, used_on, used_for}
 use Rattle.crq_queue.proofs.CallSteps.{IsAtWork, may_go, goes_inside, works_on, comes_to_rest, load_rests, load_found, load_ran, miss_inside, miss_ran}
-use Rattle.crq_queue.proofs.CallOps.{may_insert, may_take}
+use Rattle.crq_queue.proofs.CallOps.{may_sweep, may_insert, may_take}
 
 -- what a part leaves, wherever its call began
 abbrev pub Leaves : Table → ℕ → Pass → (ℕ → Type 0) → Type 0
@@ -128,6 +141,11 @@ first_in (x ∷ xs) r some first = inl (first 0)
 stays_at_rest : {table : Table} {n budget most : ℕ} {old new : Pass} {es : List Entry} → IsResting table old → RanTicks table n budget most old new es → (caller table new).guard ≡ (caller table old).guard → ((caller table old).cut ≡ None → (caller table new).cut ≡ None) → IsResting table new
 stays_at_rest r ran guard cut = record { is = ran.is; guard = guard ∙ r.guard; cut = cut r.cut; settle = ran.settle ∙ r.settle; copy = ran.copy ∙ r.copy; second_cut = ran.second_cut ∙ r.second_cut }
 
+-- a recovery that found no row counted events
+counts_rows : (table : Table) (op : RecoverOp) (old new : Pass) (answer : Recover) → Recovered table op old new answer → answer ≡ NoRows → CountsRows table.start.layout (caller table new)
+counts_rows table op old new answer (ends _ op' _ _ _ done s) is = (subst (λ (z : Recover). RecoverAnswer table.start.layout op' (caller table new) z) is s.facts.answer).2
+counts_rows table op old new answer (goes_on _ op' _ mid _ _ s rest) is = counts_rows table op' mid new answer rest is
+
 module _ {table : Table} {n budget : ℕ} {a b : Pass} (r : IsResting table a) where
   pub own_rests : {result : Option ℕ} → OwnRan table n budget a b result → IsResting table b
   own_rests o = stays_at_rest r o.ran o.guard o.uncut
@@ -135,26 +153,82 @@ module _ {table : Table} {n budget : ℕ} {a b : Pass} (r : IsResting table a) w
   pub own_found : {row : ℕ} → OwnRan table n budget a b (Some row) → RowFound table n budget a b (Ok row)
   own_found o = record { ran = ran_ticks o.ran (let none = o.ran.ticks in omega arith); rests = own_rests o; found = o.found; debts = o.debts; answers = o.ended }
 
-  -- after a recovery
-  recovered : {c : Pass} {result : Result Recover Spent} (answer : Result ℕ Refusal) → OwnRan table n budget a b None → RecoverRan table n budget b c result → RowAnswers table n budget a c answer → RowFound table n budget a c answer
-  recovered answer o v answers = record { ran = ran_both o.ran v.ran; rests = stays_at_rest (own_rests o) v.ran v.guard v.uncut; found = v.found ∙ o.found; debts = v.debts ∙ o.debts; answers = answers }
+  -- the budget ended in the sweep, after no row was found
+  pub swept_late : {s : Pass} {spent : Spent} → OwnRan table n budget a b None → SweepEnded table n budget b s (Err spent) → RowFound table n budget a s (Err (Again budget))
+  swept_late o w = record {
+    ran = let both = ran_trans o.ran w.ran in ran_ticks both (let none = both.ticks in omega arith);
+    rests = w.rests;
+    found = w.found ∙ o.found;
+    debts = w.debts ∙ o.debts;
+    answers = (refl, used_for (λ p needs. inl needs) w.answers);
+  }
 
-  -- it recovered no row, after none was found
-  no_row : {c : Pass} {answer : Recover} {result : Result Recover Spent} → OwnRan table n budget a b None → RecoverRan table n budget b c result → Recovered table (Ticking 0 Load) b c answer → NoRow table a c answer
-  no_row {c} o v recovers = record { looked = b; looks = o.ended.0; look_follows = (o.ran.since, o.ran.made); none = o.ended.1; recovers = recovers; recovery_follows = (v.ran.since, v.ran.made) }
+  module _ {s c : Pass} {u : Unit {0}} (o : OwnRan table n budget a b None) (w : SweepEnded table n budget b s (Ok u)) where
+    -- after a recovery
+    recovered : {result : Result Recover Spent} (answer : Result ℕ Refusal) → RecoverRan table n budget s c result → RowAnswers table n budget a c answer → RowFound table n budget a c answer
+    recovered answer v answers = record { ran = ran_both (ran_trans o.ran w.ran) v.ran; rests = stays_at_rest w.rests v.ran v.guard v.uncut; found = v.found ∙ (w.found ∙ o.found); debts = v.debts ∙ (w.debts ∙ o.debts); answers = answers }
 
-  module _ {c : Pass} (o : OwnRan table n budget a b None) where
-    pub recovered_held : {holder : Holder} → RecoverRan table n budget b c (Ok (IsHeld holder)) → RowFound table n budget a c (Err (Held holder))
-    recovered_held {holder} v = recovered (Err (Held holder)) o v (no_row o v v.ended)
+    -- it recovered no row, after none was found
+    no_row : {answer : Recover} {result : Result Recover Spent} → RecoverRan table n budget s c result → Recovered table (Ticking 0 Load) s c answer → NoRow table a c answer
+    no_row v recovers = record { looked = b; looks = o.ended.0; look_follows = (o.ran.since, o.ran.made); none = o.ended.1; swept = s; sweeps = w.answers; recovers = recovers; recovery_follows = (v.ran.since, v.ran.made) }
 
-    pub recovered_none : RecoverRan table n budget b c (Ok NoRows) → RowFound table n budget a c (Err Rows)
-    recovered_none v = recovered (Err Rows) o v (no_row o v v.ended)
+    pub recovered_held : {holder : Holder} → RecoverRan table n budget s c (Ok (IsHeld holder)) → RowFound table n budget a c (Err (Held holder))
+    recovered_held {holder} v = recovered (Err (Held holder)) v (no_row v v.ended)
 
-    pub recovered_late : {s : Spent} → RecoverRan table n budget b c (Err s) → RowFound table n budget a c (Err (Again budget))
-    recovered_late v = recovered (Err (Again budget)) o v (refl, v.ended)
+    pub recovered_none : RecoverRan table n budget s c (Ok NoRows) → RowFound table n budget a c (Err Rows)
+    recovered_none v = recovered (Err Rows) v (no_row v v.ended, counts_rows table (Ticking 0 Load) s c NoRows v.ended refl)
 
-    pub recovered_row : {end : Recover} (row : ℕ) → RecoverRan table n budget b c (Ok end) → 0 < length c.free.items → ((d : ℕ) → row ≡ get_or c.free.items 0 d) → RowFound table n budget a c (Ok row)
-    recovered_row row v some first = recovered (Ok row) o v (subst (In row) v.ran.is.free (first_in c.free.items row some first))
+    pub recovered_late : {spent : Spent} → RecoverRan table n budget s c (Err spent) → RowFound table n budget a c (Err (Again budget))
+    recovered_late v = recovered (Err (Again budget)) v (refl, used_for (λ p needs. inr needs) v.ended)
+
+    pub recovered_row : {end : Recover} (row : ℕ) → RecoverRan table n budget s c (Ok end) → 0 < length c.free.items → ((d : ℕ) → row ≡ get_or c.free.items 0 d) → RowFound table n budget a c (Ok row)
+    recovered_row row v some first = recovered (Ok row) v (subst (In row) v.ran.is.free (first_in c.free.items row some first))
+
+-- Sweeping the lists
+
+-- a sweep is where it was after more steps
+still_swept : (l : Layout) (a b : Cell) (xs ys : List Made) → SweepsTo l a xs b → SweepsTo l a (xs ++ ys) b
+still_swept l a b [] ys is = subst (SweepsTo l a ys) is (sweep_begins l a ys)
+still_swept l a b (m ∷ xs) ys is = ⊎_elim (λ s. inl (still_swept l a b xs ys s)) (λ t. inr (t.0, t.1, still_swept l (at_row t.0.row) b xs ys t.2)) is
+
+module _ {table : Table} {budget : ℕ} {a b : Pass} {x : Control} (r : IsResting table a) (found : (caller table a).found.control ≡ Some x) (enter : (n budget : ℕ) → MayRun table n budget a → Entered table n budget a b)
+    {op : CutOp} {list : ListAt} (names : (list.generation ≡ x.generation) × (list.head ≡ x.generation % 2 * 32768)) (is : op ≡ record { sought = record { list = list; target = None }; state = SeekHead (Head list.head) }) where
+  pub enter_sweep : {n : ℕ} → MayRun table n budget a → IsCutting n table x op (caller table b)
+  enter_sweep {n} may = let e = enter n budget may in let w = goes_inside r found e in may_sweep w.is w.inside op list e.ran.counted names is
+
+  module _ (c : Pass) (result : Result (Unit {0}) Spent) (cut : (n : ℕ) (y : Control) → IsCutting n table y op (caller table b) → CutRan table n budget y op b c result) where
+    pub enter_swept : {n : ℕ} → MayRun table n budget a → IsAtWork table x c
+    enter_swept {n} may = let k = cut n x (enter_sweep may) in works_on (enter_inside r found enter may).1 k.ran k.inside
+
+  -- where the open table has one list, that is all
+  all_swept : (c : Pass) (u : Unit {0}) (ms rest : List Made) → ((n : ℕ) (y : Control) → IsCutting n table y op (caller table b) → CutRan table n budget y op b c (Ok u)) → MayRun table (length (caller table a).made) budget a → x.log ≡ 0
+      → (caller table c).made ≡ (caller table a).made ++ ms → (q : ℕ) → IsHead q → IsOpen x q → SweepsTo table.start.layout (at_head q) (ms ++ rest) (at_row 0)
+  all_swept c u ms rest cut may one made q head opened = let n : ℕ = length (caller table a).made in let h = (cut n x (enter_sweep may)).ended.1 in let l = table.start.layout in
+      let steps : drop n (caller table c).made ≡ ms = ap (drop n) made ∙ drop-append_seam (caller table a).made ms in
+      let at : op.sought.list.head ≡ q = ap (λ (o : CutOp). o.sought.list.head) is ∙ (let low = opened.0 in let high = subst (λ z. q < x.generation % 2 * 32768 + 2 ^ z) one opened.1 in let head_is = names.1 in omega arith) in
+      let end : h.row ≡ 0 = ⊎_elim (λ z. z) (λ t. absurd (subst (λ target. IsAfter target t.0 h.row) (ap (λ (o : CutOp). o.sought.target) is) t.2)) h.ends in
+      still_swept l (at_head q) (at_row 0) ms rest (subst (λ (z : ℕ × (ℕ × List Made)). SweepsTo l (at_head z.0) z.1.1 (at_row z.1.0)) (λ i. (at i, (end i, steps i))) h.sweeps)
+
+  sweep_answers : (c d : Pass) (result : Result (Unit {0}) Spent) {n : ℕ} → ((n : ℕ) (y : Control) → IsCutting n table y op (caller table b) → CutRan table n budget y op b c result) → Left table n budget c d → Ran table n budget a c [] → MayRun table n budget a
+      → SweepAnswers table n budget a d result
+  sweep_answers c d (Ok u) cut l ran may = record {
+    control = x;
+    found = found;
+    since = ran.since ++ l.ran.since;
+    made = l.ran.made ∙ (ap (λ ms. ms ++ l.ran.since) ran.made ∙ append_assoc (caller table a).made ran.since l.ran.since);
+    lists = all_swept c u ran.since l.ran.since cut (record { counted = le_refl (length (caller table a).made); within = may.within; low = may.low }) (r.is.lawful.controlled x found).2 ran.made;
+  }
+  sweep_answers c d (Err s) {n} cut l ran may = subst (λ target. IsUsedUp table n budget (UptoNeeds n table target) d) (ap (λ (o : CutOp). o.sought.target) is) (used_on (cut n x (enter_sweep may)).ended l.ran l.turns)
+
+  pub sweep_ended : (c d : Pass) (result : Result (Unit {0}) Spent) → ((n : ℕ) (y : Control) → IsCutting n table y op (caller table b) → CutRan table n budget y op b c result) → ((n budget : ℕ) → MayRun table n budget c → Left table n budget c d)
+      → {n : ℕ} → MayRun table n budget a → SweepEnded table n budget a d result
+  sweep_ended c d result cut leave {n} may = let e = enter n budget may in let k = cut n x (enter_sweep may) in let ran = ran_trans e.ran k.ran in let l = leave n budget (may_go may ran) in record {
+    ran = ran_trans ran l.ran;
+    rests = comes_to_rest (enter_swept c result cut may) l;
+    found = l.keeps.found ∙ (k.found ∙ e.keeps.found);
+    debts = l.keeps.debts ∙ (k.debts ∙ e.keeps.debts);
+    answers = sweep_answers c d result cut l ran may;
+  }
 
 -- Marking the least event
 

@@ -42,6 +42,7 @@ lawful_spanned n p l = record {
   agree = l.agree;
   owed_at = l.owed_at;
   owed_fits = l.owed_fits;
+  scarce = l.scarce;
   controlled = l.controlled;
 }
 

@@ -20,6 +20,7 @@ use Rattle.crq_rule.specs.declared.view.Caller.{Caller}
 use Rattle.crq_rule.specs.declared.view.View.{View}
 use Rattle.crq_rule.specs.Deals.{HasAll, Gathered, settled_part}
 use Rattle.crq_rule.specs.Rule.{Lawful, joined}
+use Rattle.crq_rule.specs.ScarceParts.{AreCounted}
 use Rattle.crq_rows.specs.Passes.{caller}
 use Rattle.crq_rows.proofs.Deals.{same_pass}
 use Rattle.crq_rows.proofs.Slots.{get_here, get_else}
@@ -106,6 +107,7 @@ lawful_settled h p l = record {
   agree = l.agree;
   owed_at = l.owed_at;
   owed_fits = l.owed_fits;
+  scarce = l.scarce;
   controlled = l.controlled;
 }
 
@@ -158,6 +160,8 @@ module _ (table : Table) (start : List Seating) (seat : Seat (Unit {0}) View) (w
     since = g.since;
     each = λ k pass e. let b = place_within start k (Here pass) e in let at = j.each k pass (omega arith) e in let of = pass_at table start all k pass (omega arith) e in
         let told = g.each k (caller table pass) at.1 in (h ∙ told.0, ap (λ c. own_of c g.since) (sym (of.1.is.sits.numbered ∙ of.0)) ∙ told.1);
+    refused = λ k pass e. let b = place_within start k (Here pass) e in let at = j.each k pass (omega arith) e in let of = pass_at table start all k pass (omega arith) e in
+        subst (λ (z : List Entry × ℕ). AreCounted z.0 z.1 (caller table pass).refused) (λ i. (sym h i, (of.1.is.sits.numbered ∙ of.0) i)) (g.counted k (caller table pass) at.1);
     inside = λ e i. let a = all.each 0 some_workers in let at = j.each 0 a.0 some_workers a.1 in
         subst (λ (s : Start). whose e < s.layout.workers) a.3.is.sits.started (g.inside 0 (caller table a.0) e at.1 i);
     awake = λ k pass e. let b = place_within start k (Here pass) e in (j.each k pass (omega arith) e).0;

@@ -47,7 +47,7 @@ kept_none of may = record { most = 0; ran = ran_none of may; found = refl; guard
 
 -- one step more, which changes of what the caller knows no more than a search does
 kept_on : {table : Table} {n budget : ℕ} {old mid new : Pass} (exchanges : Bool) → budget < 4294967296 → Kept table n budget old mid → (exchanges ≡ true → mid.turns < budget) → IsPassOf table new → new ≡ record mid { seat = new.seat; free = new.free; turns = new.turns }
-    → (works : Works n exchanges (caller table mid) (caller table new)) → new.turns ≡ turns_after exchanges mid.turns → (q : Caller) → caller table new ≡ record (caller table mid) { made = q.made; epochs = q.epochs; tick = q.tick; cut = q.cut; hand = q.hand; ripening = q.ripening }
+    → (works : Works n exchanges (caller table mid) (caller table new)) → new.turns ≡ turns_after exchanges mid.turns → (q : Caller) → caller table new ≡ record (caller table mid) { made = q.made; epochs = q.epochs; tick = q.tick; cut = q.cut; base = q.base; hand = q.hand; ripening = q.ripening; refused = q.refused }
     → ((caller table mid).cut ≡ None → (caller table new).cut ≡ None) → Kept table n budget old new
 kept_on {table} {n} {budget} {old} {mid} {new} exchanges low k room is same works turns q stays uncut = let debts : new.debts ≡ mid.debts = ap (λ (p : Pass). p.debts) same in record {
   most = k.most + ticks_of (works.step ∷ []);
@@ -218,7 +218,7 @@ pub record RecoverGoes (table : Table) (n budget : ℕ) (op : RecoverOp) (old ne
   pub goes : (last : Pass) (answer : Recover) → Recovered table op new last answer → Recovered table (Ticking 0 FirstLoad) old last answer
 
 pub recover_begins : (table : Table) (n budget : ℕ) (pass : Pass) → IsPassOf table pass → (caller table pass).guard ≡ Off → MayRun table n budget pass → RecoverGoes table n budget (Ticking 0 FirstLoad) pass pass
-recover_begins table n budget pass of off may = record { kept = kept_none of may; at = (omega arith, off); knows = may.counted; ticks = omega arith; goes = λ last answer r. r }
+recover_begins table n budget pass of off may = record { kept = kept_none of may; at = (omega arith, off, λ some. absurd (omega arith)); knows = may.counted; ticks = omega arith; goes = λ last answer r. r }
 
 module _ (table : Table) (n budget : ℕ) (old : Pass) (low : budget < 4294967296) (op op' : RecoverOp) (mid new : Pass) (g : RecoverGoes table n budget op old mid) (room : recover_exchanges table.start.layout op ≡ true → mid.turns < budget) where
   recover_kept : (answer : Recover) → RecoverStepped table op op' mid new answer → Kept table n budget old new

@@ -33,7 +33,7 @@ use Rattle.crq_list.specs.declared.parts.Progress.TheVariants.{More, Done}
 use Rattle.crq_list.specs.declared.cut.CutEnd.{CutEnd}
 use Rattle.crq_list.specs.declared.cut.CutEnd.TheVariants.{Clean}
 use Rattle.crq_list.specs.Seeking.{IsSeeking, seek_exchanges, seek_left}
-use Rattle.crq_list.specs.Cutting.{IsCutting, CutStepped}
+use Rattle.crq_list.specs.Cutting.{IsCutting, CutStepped, HasSwept}
 use Rattle.crq_list.specs.Inserting.{sought_by, IsInsertingAt, IsInserting, state_exchanges, insert_exchanges, state_left, InsertStepped}
 use Rattle.crq_list.specs.Taking.{IsTaking, taking_exchanges, taking_left, TakeStepped}
 use Rattle.crq_queue.specs.declared.runs.Spent.{Spent}
@@ -149,16 +149,21 @@ module _ (table : Table) (n budget : ℕ) (x : Control) (op : CutOp) (old : Pass
     cut_ends after new s = record {
       ran = cut_ran s;
       inside = inside_of mid s.works.stays g.at.on g.at.list_is.control s.answers.0;
+      found = (stays_trans g.stays s.works.stays).found;
       free = s.free ∙ g.free;
       debts = s.debts ∙ g.debts;
       owed = owed_on g.owed s.owed;
-      ended = λ d upto head. s.answers.1 d (ap (λ (o : CutOp). o.sought.target) g.op_is ∙ upto) (head ∙ sym (ap (λ (o : CutOp). o.sought.list.head) g.op_is));
+      ended = (
+        λ d upto head. s.answers.1 d (ap (λ (o : CutOp). o.sought.target) g.op_is ∙ upto) (head ∙ sym (ap (λ (o : CutOp). o.sought.list.head) g.op_is)),
+        subst (λ (o : CutOp). HasSwept n table.start.layout o.sought.list.head o.sought.target (caller table new)) g.op_is s.answers.2,
+      );
     }
 
   pub cut_spent : (now : CutOp) (new : Pass) (s : Spent) → CutGoes table n budget x op now old new → seek_exchanges now.state ≡ true → budget ≤ new.turns → CutRan table n budget x op old new (Err s)
   cut_spent now new s g exchanges used = record {
     ran = g.ran;
     inside = record { on = g.at.on; uncut = seek_uncut n table x now.sought now.state (caller table new) g.at exchanges; control = g.at.list_is.control };
+    found = g.stays.found;
     free = g.free;
     debts = g.debts;
     owed = g.owed;

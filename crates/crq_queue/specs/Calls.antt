@@ -19,6 +19,7 @@ use Rattle.crq_rule.specs.declared.view.Caller.{Caller}
 use Rattle.crq_rule.specs.ListKinds.{begins, cut_debt, put_entries}
 use Rattle.crq_rows.specs.Passes.{caller}
 use Rattle.crq_rows.specs.Owning.{FoundNone}
+use Rattle.crq_rows.specs.Recovering.{CountsRows}
 use Rattle.crq_rows.specs.declared.own.OwnOp.TheVariants.{Load as FirstLook}
 use Rattle.crq_rows.specs.declared.own.Own.TheVariants.{Empty}
 use Rattle.crq_rows.specs.declared.recover.RecoverOp.TheVariants.{Ticking}
@@ -27,8 +28,8 @@ use Rattle.crq_rows.specs.declared.recover.Recover.{Recover}
 use Rattle.crq_rows.specs.declared.recover.Recover.TheVariants.{Held as IsHeld, Rows as NoRows}
 use Rattle.crq_list.specs.Swaps.{Controlled}
 use Rattle.crq_queue.specs.Wholes.{IsResting}
-use Rattle.crq_queue.specs.Runs.{exchanges_of, ticks_of, IsFair, Follows, Looked, Recovered}
-use Rattle.crq_queue.specs.Parts.{InsertNeeds, TakeNeeds, CutNeeds, RecoverNeeds, IsUsedUp}
+use Rattle.crq_queue.specs.Runs.{exchanges_of, ticks_of, IsFair, Follows, IsSwept, Looked, Recovered}
+use Rattle.crq_queue.specs.Parts.{InsertNeeds, TakeNeeds, CutNeeds, RowNeeds, IsUsedUp}
 
 -- A call: the table, its budget of exchanges, and the pass as it begins
 pub record Call : Type 0 where
@@ -82,20 +83,23 @@ pub record WentOn (c : Call) (new : Pass) (entries : List Entry) : Type 0 where
   pub follows : Follows c.table begun new
   pub called : Called c new (Begin c.old.number ∷ entries)
 
--- No row was to be had: since its Begin the call looked for a free or ripe row and found none, and then its recovery gave this answer. No step came after that
+-- No row was to be had: since its Begin the call looked for a free or ripe row and found none, then swept all lists of the open table, and then its recovery gave this answer. No step came after that
 pub record NoRow (table : Table) (begun new : Pass) (answer : Recover) : Type 0 where
   pub looked : Pass
   pub looks : Looked table FirstLook begun looked Empty
   pub look_follows : Follows table begun looked
   pub none : FoundNone table.start.layout (caller table looked)
-  pub recovers : Recovered table (Ticking 0 Load) looked new answer
-  pub recovery_follows : Follows table looked new
+  pub swept : Pass
+  pub sweeps : IsSwept table looked swept
+  pub recovers : Recovered table (Ticking 0 Load) swept new answer
+  pub recovery_follows : Follows table swept new
 
--- why a put was refused after its Begin: it needs one more exchange, to recover rows or to insert its event; or no row was to be had
+-- why a put was refused after its Begin: it needs one more exchange, to sweep the lists, to recover rows or to insert its event; or no row was to be had. Where no home row was found ripe,
+-- the events that were pending as the recovery of this call first loaded the epoch are kept, and twice their number is at least that of the caller's rows
 abbrev pub PutWants : Call → Event → Pass → Pass → Refusal → Type 0
-PutWants c e begun new (Again turns) = (turns ≡ c.budget) × IsShort c (λ n table p. RecoverNeeds n table p ⊎ InsertNeeds n table e p) new
+PutWants c e begun new (Again turns) = (turns ≡ c.budget) × IsShort c (λ n table p. RowNeeds n table p ⊎ InsertNeeds n table e p) new
 PutWants c e begun new (Held h) = NoRow c.table begun new (IsHeld h)
-PutWants c e begun new Rows = NoRow c.table begun new NoRows
+PutWants c e begun new Rows = NoRow c.table begun new NoRows × CountsRows c.table.start.layout (caller c.table new)
 PutWants c e begun new Epochs = ⊥
 
 -- a put was refused after its Begin, which is all that it added

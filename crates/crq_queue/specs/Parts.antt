@@ -29,7 +29,7 @@ use Rattle.crq_list.specs.declared.take.MarkEnd.{MarkEnd}
 use Rattle.crq_list.specs.declared.take.MarkEnd.TheVariants.{Marked, Beyond, Nothing, Lost, Frozen}
 use Rattle.crq_list.specs.Spots.{Target}
 use Rattle.crq_list.specs.Seeking.{seek_exchanges}
-use Rattle.crq_list.specs.Cutting.{IsCutting}
+use Rattle.crq_list.specs.Cutting.{IsCutting, HasSwept}
 use Rattle.crq_list.specs.Inserting.{IsInserting, insert_exchanges}
 use Rattle.crq_list.specs.Taking.{IsTaking, taking_exchanges}
 use Rattle.crq_queue.specs.declared.runs.Spent.{Spent}
@@ -94,6 +94,10 @@ pub record RecoverNeeds (n : ℕ) (table : Table) (p : Caller) : Type 0 where
   pub knows : RecoverKnows n table.start.layout op p
   pub exchanges : recover_exchanges table.start.layout op ≡ true
 
+-- for a row: for the sweep of the lists, or for the recovery after it
+abbrev pub RowNeeds : ℕ → Table → Caller → Type 0
+RowNeeds n table p = UptoNeeds n table None p ⊎ RecoverNeeds n table p
+
 -- The budget is used up, and it ended before an exchange: the caller needed one with the pass `before`. The steps made since are no exchanges
 pub record IsUsedUp (table : Table) (n budget : ℕ) (Needs : Caller → Type 0) (new : Pass) : Type 0 where
   pub turns : new.turns ≡ budget
@@ -107,12 +111,14 @@ pub record IsUsedUp (table : Table) (n budget : ℕ) (Needs : Caller → Type 0)
   pub quiet : exchanges_of rest ≡ 0
 
 abbrev pub CutEnded : ℕ → ℕ → Table → CutOp → Pass → Result (Unit {0}) Spent → Type 0
-CutEnded n budget table op new (Ok u) = (d : CutDebt) → op.sought.target ≡ Some (d.event, d.row) → d.head ≡ op.sought.list.head → (caller table new).debts.cut ≡ Some d → ⊥
+CutEnded n budget table op new (Ok u) = ((d : CutDebt) → op.sought.target ≡ Some (d.event, d.row) → d.head ≡ op.sought.list.head → (caller table new).debts.cut ≡ Some d → ⊥)
+    × HasSwept n table.start.layout op.sought.list.head op.sought.target (caller table new)
 CutEnded n budget table op new (Err s) = IsUsedUp table n budget (UptoNeeds n table op.sought.target) new
 
 pub record CutRan (table : Table) (n budget : ℕ) (x : Control) (op : CutOp) (old new : Pass) (result : Result (Unit {0}) Spent) : Type 0 where
   pub ran : Ran table n budget old new []
   pub inside : IsInside table x new
+  pub found : (caller table new).found ≡ (caller table old).found
   pub free : new.free.items ≡ old.free.items
   pub debts : new.debts ≡ old.debts
   pub owed : ((caller table new).debts.cut ≡ None) ⊎ ((caller table new).debts.cut ≡ (caller table old).debts.cut)

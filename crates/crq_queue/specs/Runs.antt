@@ -7,7 +7,9 @@ use Rattle.crq_base.specs.declared.words.Control.{Control}
 use Rattle.crq_rule.specs.declared.pass.Pass.{Pass}
 use Rattle.crq_rule.specs.declared.pass.Table.{Table}
 use Rattle.crq_rule.specs.declared.view.Made.{Made}
+use Rattle.crq_rule.specs.Places.{IsHead}
 use Rattle.crq_rule.specs.Parts.{IsOn}
+use Rattle.crq_rule.specs.Ranks.{IsOpen, at_head, at_row}
 use Rattle.crq_rows.specs.Passes.{caller, IsPassOf}
 use Rattle.crq_rows.specs.Known.{is_exchange, is_tick, Expects}
 use Rattle.crq_rows.specs.declared.own.OwnOp.{OwnOp}
@@ -18,6 +20,7 @@ use Rattle.crq_rows.specs.declared.recover.RecoverOp.{RecoverOp}
 use Rattle.crq_rows.specs.declared.recover.Recover.{Recover}
 use Rattle.crq_rows.specs.declared.recover.Recover.TheVariants.{More}
 use Rattle.crq_rows.specs.Recovering.{RecoverStepped}
+use Rattle.crq_list.specs.Sweeps.{SweepsTo}
 
 -- how many of these steps are exchanges
 abbrev pub exchanges_of : List Made → ℕ
@@ -78,6 +81,14 @@ pub record IsInside (table : Table) (x : Control) (pass : Pass) : Type 0 where
 -- the second pass made its steps after those of the first
 abbrev pub Follows : Table → Pass → Pass → Type 0
 Follows table old new = (since : List Made) × ((caller table new).made ≡ (caller table old).made ++ since)
+
+-- Between the two passes the caller swept each list of the open table, whose control word it had found before: from the head to the end, and each row on the way was present when its link was loaded
+pub record IsSwept (table : Table) (old new : Pass) : Type 0 where
+  pub control : Control
+  pub found : (caller table old).found.control ≡ Some control
+  pub since : List Made
+  pub made : (caller table new).made ≡ (caller table old).made ++ since
+  pub lists : (q : ℕ) → IsHead q → IsOpen control q → SweepsTo table.start.layout (at_head q) since (at_row 0)
 
 -- A look for a free row from this state of it on ended with this answer: a list of steps of the operation
 pub data Looked (table : Table) : OwnOp → Pass → Pass → Own → Type 0 where

@@ -6,6 +6,7 @@ use Rattle.crq_base.specs.declared.words.Control.{Control}
 use Rattle.crq_base.specs.declared.answers.Refusal.{Refusal}
 use Rattle.crq_base.specs.declared.answers.Refusal.TheVariants.{Again, Held, Rows, Epochs}
 use Rattle.crq_base.specs.declared.kinds.StepKind.TheVariants.{Begin as BeginKind}
+use Rattle.crq_rows.specs.Recovering.{CountsRows}
 use Rattle.crq_rows.specs.declared.recover.Recover.TheVariants.{Held as IsHeld, Rows as NoRows}
 use Rattle.crq_list.specs.Swaps.{Controlled}
 use Rattle.crq_rule.specs.declared.pass.Pass.{Pass}
@@ -15,8 +16,8 @@ use Rattle.crq_rule.specs.ListKinds.{begins, cut_debt, put_entries}
 use Rattle.crq_rows.specs.Passes.{caller}
 use Rattle.crq_queue.specs.declared.runs.Spent.{Spent}
 use Rattle.crq_queue.specs.Wholes.{IsResting}
-use Rattle.crq_queue.specs.Runs.{Ran, RanTicks, IsInside}
-use Rattle.crq_queue.specs.Parts.{InsertNeeds, TakeNeeds, CutNeeds, RecoverNeeds, IsUsedUp}
+use Rattle.crq_queue.specs.Runs.{Ran, RanTicks, IsInside, IsSwept}
+use Rattle.crq_queue.specs.Parts.{InsertNeeds, TakeNeeds, CutNeeds, IsUsedUp, UptoNeeds, RowNeeds}
 use Rattle.crq_queue.specs.Calls.{Call, Called, OwesNothing, StoppedSettling, NoRow, steps_before}
 
 -- the pass owes no dead row; or it still owes the one that the old pass owed, and the budget is used up in the cut of that
@@ -54,12 +55,24 @@ abbrev pub BeginAnswers : Call → Pass → Result Control Spent → Type 0
 BeginAnswers c new (Ok x) = CallBegun c new x
 BeginAnswers c new (Err s) = StoppedSettling c new (Again c.budget)
 
--- a row in hand; or the budget is used up in the recovery; or no row was to be had
+-- the dead rows of all lists are cut; or the budget is used up, and one more exchange is needed for that
+abbrev pub SweepAnswers : Table → ℕ → ℕ → Pass → Pass → Result (Unit {0}) Spent → Type 0
+SweepAnswers table n budget old new (Ok u) = IsSwept table old new
+SweepAnswers table n budget old new (Err s) = IsUsedUp table n budget (UptoNeeds n table None) new
+
+pub record SweepEnded (table : Table) (n budget : ℕ) (old new : Pass) (result : Result (Unit {0}) Spent) : Type 0 where
+  pub ran : Ran table n budget old new []
+  pub rests : IsResting table new
+  pub found : (caller table new).found ≡ (caller table old).found
+  pub debts : new.debts ≡ old.debts
+  pub answers : SweepAnswers table n budget old new result
+
+-- a row in hand; or the budget is used up in the sweep or in the recovery; or no row was to be had, and where none was found ripe enough events are kept
 abbrev pub RowAnswers : Table → ℕ → ℕ → Pass → Pass → Result ℕ Refusal → Type 0
 RowAnswers table n budget old new (Ok r) = In r (caller table new).hand
-RowAnswers table n budget old new (Err (Again turns)) = (turns ≡ budget) × IsUsedUp table n budget (RecoverNeeds n table) new
+RowAnswers table n budget old new (Err (Again turns)) = (turns ≡ budget) × IsUsedUp table n budget (RowNeeds n table) new
 RowAnswers table n budget old new (Err (Held h)) = NoRow table old new (IsHeld h)
-RowAnswers table n budget old new (Err Rows) = NoRow table old new NoRows
+RowAnswers table n budget old new (Err Rows) = NoRow table old new NoRows × CountsRows table.start.layout (caller table new)
 RowAnswers table n budget old new (Err Epochs) = ⊥
 
 pub record RowFound (table : Table) (n budget : ℕ) (old new : Pass) (result : Result ℕ Refusal) : Type 0 where

@@ -16,6 +16,7 @@ use Rattle.crq_rule.specs.declared.view.Caller.{Caller}
 use Rattle.crq_rule.specs.declared.view.Guard.TheVariants.{Off}
 use Rattle.crq_rule.specs.Lists.{In}
 use Rattle.crq_rule.specs.Rule.{Lawful}
+use Rattle.crq_rule.specs.ScarceParts.{AreCounted}
 use Rattle.crq_rows.specs.Passes.{caller, IsOwed, IsPassOf}
 use Rattle.crq_queue.specs.declared.calendar.Whole.{Whole}
 use Rattle.crq_queue.specs.declared.calendar.Closed.{Closed}
@@ -84,6 +85,8 @@ pub record IsGathered (table : Table) (places : List Seating) (whole : Whole) : 
   pub settled : (e : Event) → Contains (puts (history_of whole)) e → Contains (settleds (history_of whole)) e
   pub since : List Entry
   pub each : (k : ℕ) (pass : Pass) → slice_get places k ≡ Some (Here pass) → (history_of whole ≡ (caller table pass).deal.history ++ since) × (own_of k since ≡ (caller table pass).own)
+  -- the events that a caller keeps of a refusal for want of rows are different, were put, and none was taken before a Begin of the caller
+  pub refused : (k : ℕ) (pass : Pass) → slice_get places k ≡ Some (Here pass) → AreCounted (history_of whole) k (caller table pass).refused
   pub inside : (e : Entry) → In e since → whose e < table.start.layout.workers
   pub awake : AreAwake whole.places.items places
 

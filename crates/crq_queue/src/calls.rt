@@ -1,5 +1,5 @@
 //! The calls that put, take and settle, each within a budget of exchanges.
-ghost use Rattle.std.specs.Prelude.{◌≡◌, ◌≤◌, ◌<◌, ◌++◌, [], ◌∷◌, ℕ, Some, None, Ok, Err, length, is_some, true};
+ghost use Rattle.std.specs.Prelude.{◌≡◌, ◌≤◌, ◌<◌, ◌*◌, ◌%◌, ◌++◌, [], ◌∷◌, ℕ, Some, None, Ok, Err, length, is_some, true};
 ghost use Rattle.crq_base.specs.declared.words.Control.{Control};
 ghost use Rattle.crq_base.specs.Words.{IsControl};
 ghost use Rattle.crq_rule.specs.declared.view.Guard.TheVariants.{Off};
@@ -11,7 +11,7 @@ ghost use Rattle.crq_rows.specs.Passes.{caller, IsPassOf};
 ghost use Rattle.crq_queue.specs.Wholes.{IsResting};
 ghost use Rattle.crq_queue.specs.Runs.{MayRun, IsInside};
 ghost use Rattle.crq_queue.specs.Calls.{PutAnswers, TakeAnswers, SettleAnswers, call};
-ghost use Rattle.crq_queue.specs.Stages.{BeginAnswers, CutFinished, DebtSettled, RowFound, EventInserted, EventTaken};
+ghost use Rattle.crq_queue.specs.Stages.{BeginAnswers, CutFinished, DebtSettled, SweepEnded, RowFound, EventInserted, EventTaken};
 
 use crate::calendar::Calendar;
 use crate::runs::{
@@ -22,6 +22,7 @@ use crq_list::{
     CutOp, InsertOp, ListAt, MarkEnd, Place, TakeOp, begin_step, control_step, head_of, miss_step,
 };
 use crq_rows::{Pass, Recover};
+use crq_rule::BANK;
 
 /// The number of the last bucket there can be: over one list, takes go up to it.
 const LAST_BUCKET: u32 = u32::MAX;
@@ -35,6 +36,16 @@ fn list_of(control: &Control, event: &Event) -> ListAt
     ListAt {
         generation: control.generation,
         head: head_of(control, event),
+    }
+}
+
+/// The one list of the table with this control word.
+fn only_list(control: &Control) -> ListAt
+    ensures { (result.generation ≡ control.now.generation) × (result.head ≡ control.now.generation % 2 * 32768) }
+{
+    ListAt {
+        generation: control.generation,
+        head: control.generation % 2 * BANK,
     }
 }
 
@@ -100,15 +111,36 @@ impl Calendar {
         Ok(begin_step(&self.table, pass))
     }
 
-    /// A row that the pass may use: a free one, a ripe one, or one that a recovery makes free.
-    fn free_row(&self, pass: &mut Pass, budget: u32) -> Result<u32, Refusal>
+    /// Cuts the dead rows of all lists of the open table, which has one, and rests. Since it is seldom called, it isn't
+    /// inlined.
+    #[inline(never)]
+    fn sweep(&self, pass: &mut Pass, control: &Control, budget: u32) -> Result<(), Spent>
         requires rests { IsResting self.now.table pass.old }
+        requires control { (caller self.now.table pass.old).found.control ≡ Some control.now }
+        requires within { pass.old.turns ≤ budget }
+        ensures { (n : ℕ) → MayRun self.now.table n budget pass.old → SweepEnded self.now.table n budget pass.old pass.new result }
+    {
+        enter(&self.table, pass);
+        let op = CutOp::new(only_list(control), None);
+        let end = cut_within(&self.table, pass, op, budget);
+        leave(&self.table, pass);
+        end
+    }
+
+    /// A row that the pass may use: a free one, a ripe one, or one that a recovery makes free. Before a recovery it cuts the
+    /// dead rows of all lists.
+    fn free_row(&self, pass: &mut Pass, control: &Control, budget: u32) -> Result<u32, Refusal>
+        requires rests { IsResting self.now.table pass.old }
+        requires control { (caller self.now.table pass.old).found.control ≡ Some control.now }
         requires within { pass.old.turns ≤ budget }
         ensures { (n : ℕ) → MayRun self.now.table n budget pass.old → RowFound self.now.table n budget pass.old pass.new result }
     {
         if let Some(row) = own_row(&self.table, pass) {
             return Ok(row);
         }
+        let Ok(()) = self.sweep(pass, control, budget) else {
+            return Err(Refusal::Again { turns: budget });
+        };
         match recover_within(&self.table, pass, budget) {
             Ok(Recover::Held(holder)) => Err(Refusal::Held(holder)),
             Ok(Recover::Rows) => Err(Refusal::Rows),
@@ -149,8 +181,11 @@ impl Calendar {
     ///
     /// Where the budget ends before the row that was owed is cut, Again comes, nothing was added, and the pass still owes
     /// that row. After any other refusal the Begin alone was added, and the pass owes nothing: Again comes where the budget is
-    /// used up and one more exchange is needed to recover a row or to insert the event, Held where this call found no row free
-    /// or ripe and then a caller that keeps the epoch, Rows where it found none after the epoch rose three times.
+    /// used up and one more exchange is needed to cut a dead row, to recover a row or to insert the event. Where this call found
+    /// no row free or ripe it cuts the dead rows of all lists, and then raises the epoch: Held comes where it found a caller
+    /// that keeps the epoch, Rows where it found no row ripe after the epoch rose three times. Then twice
+    /// the number of events that were pending when the first of these three ticks loaded the epoch is at least the number of
+    /// the caller's rows, and the pass keeps these events for `gather`.
     pub fn try_put(&self, pass: &mut Pass, event: &Event, budget: u32) -> Result<PutEnd, Refusal>
         requires rests { IsResting self.now.table pass.old }
         requires budget { 1 ≤ budget }
@@ -161,7 +196,7 @@ impl Calendar {
         let Ok(control) = self.begin(pass, budget) else {
             return Err(again);
         };
-        let row = self.free_row(pass, budget)?;
+        let row = self.free_row(pass, &control, budget)?;
         match self.insert(pass, &control, row, event, budget) {
             Ok(()) => Ok(PutEnd::Settled),
             Err(Spent) => Err(again),

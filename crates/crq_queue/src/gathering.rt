@@ -7,7 +7,8 @@ use crq_rule::JoinedParts;
 
 impl Calendar {
     /// Makes one of all passes, once each has ended its calls and owes nothing but dead rows to cut. It tells the one
-    /// history that all calls made together. It takes no memory.
+    /// history that all calls made together, and of the events that a refusal for want of rows keeps that they were put and
+    /// not taken before that call began. It takes no memory.
     pub fn gather(&self, mut passes: Passes) -> Whole
         requires { AreResting self.now.table passes.places.items }
         ensures whole { IsWhole self.now.table result }

@@ -17,6 +17,7 @@ use Rattle.crq_rule.specs.declared.pass.Seating.{Seating}
 use Rattle.crq_rule.specs.declared.pass.Seating.TheVariants.{Here, Resting}
 use Rattle.crq_rule.specs.Rule.{Lawful, fresh, fresh_from, head_view, tail_view, first_of, rest_of, IsFirstApart}
 use Rattle.crq_rule.specs.Opening.{IsFresh, IsOpening, no_debts}
+use Rattle.crq_rule.proofs.ScarceLaws.{none_base}
 use Rattle.crq_rule.proofs.Openings.{fresh_at, rows_in, none_control}
 use Rattle.crq_rule.proofs.HolderLaws.{none_some}
 use Rattle.crq_rows.specs.Passes.{first_part, IsOwed, IsNew, AreNew}
@@ -42,6 +43,7 @@ fresh_lawful start n b = record {
   agree = λ s t i. absurd i;
   owed_at = λ d x is. absurd (no_debt d is);
   owed_fits = λ d is. absurd (no_debt d is);
+  scarce = λ b is. absurd (none_base b is);
   controlled = λ x is. absurd (none_control x is);
 }
 

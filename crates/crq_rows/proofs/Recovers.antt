@@ -1,17 +1,20 @@
 -- What each step of a recovery tells.
-use Rattle.std.proofs.Common.{◌≡◌, ◌≢◌, inl, inr, ℕ, zero, suc, ◌+◌, ◌-◌, ◌*◌, ◌<◌, ◌≤◌, List, [], ◌∷◌, ◌++◌, length, sym, refl, ap, ◌∙◌, subst, arith}
+use Rattle.std.proofs.Common.{◌≡◌, ◌≢◌, ⊎_elim, inl, inr, Bool, true, false, cond, ◌&&◌, eqb, leb, eq-eqb, Some, ℕ, zero, suc, ◌+◌, ◌-◌, ◌*◌, ◌<◌, ◌≤◌, List, [], ◌∷◌, ◌++◌, length, sym, refl, ap, ◌∙◌, subst, arith}
 use Rattle.std.proofs.lemmas.List.{append_assoc}
-use Rattle.std.proofs.lemmas.Bool.{false≢true}
+use Rattle.std.proofs.lemmas.Bool.{false≢true, le-leb, leb-true, leb-false}
 use Rattle.crq_base.specs.declared.holder.Holder.{Holder}
 use Rattle.crq_base.specs.declared.kinds.StepKind.TheVariants.{Look, Claim}
 use Rattle.crq_rule.specs.declared.layout.Layout.{Layout}
+use Rattle.crq_rule.specs.declared.layout.Start.{Start}
 use Rattle.crq_rule.specs.declared.view.Made.{Made}
 use Rattle.crq_rule.specs.declared.view.Caller.{Caller}
 use Rattle.crq_rule.specs.declared.pass.Pass.{Pass}
 use Rattle.crq_rule.specs.declared.pass.Table.{Table}
 use Rattle.crq_rule.specs.Lists.{In}
 use Rattle.crq_rule.specs.Places.{index, stamp}
-use Rattle.crq_rule.specs.Kinds.{makes, looks, claims}
+use Rattle.crq_rule.specs.declared.view.Base.{Base}
+use Rattle.crq_rule.specs.Kinds.{makes, looks, claims, has_risen, is_late_word, looked_base, refused_after}
+use Rattle.crq_rule.proofs.Pendings.{first_of, second_of, and_of}
 use Rattle.crq_rule.proofs.PartLaws.{home_is_row}
 use Rattle.crq_rows.specs.declared.recover.RecoverOp.{RecoverOp}
 use Rattle.crq_rows.specs.declared.recover.RecoverOp.TheVariants.{Ticking, Visiting, Taking}
@@ -24,7 +27,7 @@ use Rattle.crq_rows.specs.declared.tick.Tick.TheVariants as Tick
 use Rattle.crq_rows.specs.Passes.{caller, load_made, store_made, IsPassOf, Stepped, Claimed}
 use Rattle.crq_rows.specs.Ticking.{KnowsEpoch, TickStepped}
 use Rattle.crq_rows.specs.Owning.{IsRipeWord}
-use Rattle.crq_rows.specs.Recovering.{LookedSince, IsRecovering, RecoverNext, RecoverAnswer, RecoverStepped, RecoverKnows, IsAfterRow, recover_left}
+use Rattle.crq_rows.specs.Recovering.{LookedSince, HasCounted, IsRecovering, RecoverNext, RecoverAnswer, RecoverStepped, RecoverKnows, IsAfterRow, recover_left}
 use Rattle.crq_rows.proofs.Knowing.{longer}
 use Rattle.crq_rows.proofs.Ticks.{known_made, stays_off}
 use Rattle.crq_rows.proofs.Owns.{ripe_seen, none_snoc}
@@ -44,6 +47,32 @@ since_more l e row w p unripe t = let m : Made = load_made Look (index l (stamp 
   finds = t.finds;
   looks = none_snoc l e (p.number * l.home + 1) row w t.since unripe t.looks;
 }
+
+-- what is counted after a look at one row more
+has_risen_by : (g e : ℕ) (es : List ℕ) → In e es → g + 3 ≤ e → has_risen g es ≡ true
+has_risen_by g e [] i low = absurd i
+has_risen_by g e (x ∷ es) i low = ⊎_elim (λ (q : e ≡ x). first_of (leb (g + 3) x) (has_risen g es) (le-leb (g + 3) x (omega arith))) (λ t. second_of (leb (g + 3) x) (has_risen g es) (has_risen_by g e es t low)) i
+
+late_unripe : (g e w : ℕ) → g + 3 ≤ e → (IsRipeWord e w → ⊥) → is_late_word g w ≡ true
+late_unripe g e zero low unripe = refl
+late_unripe g e (suc t) low unripe = second_of (eqb (suc t) 0) (leb (g + 3) (suc t)) (le-leb (g + 3) (suc t) (by (leb e (suc t)) refl))
+  where
+    by : (b : Bool) → leb e (suc t) ≡ b → g + 3 ≤ suc t
+    by true q = let h = leb-true e (suc t) q in omega arith
+    by false q = let h = leb-false e (suc t) q in absurd (unripe (omega arith, omega arith))
+
+pub counted_more : (e row w : ℕ) (p : Caller) → In e p.epochs → p.hand ≡ [] → (IsRipeWord e w → ⊥) → HasCounted p.start.layout e row p → HasCounted p.start.layout e (row + 1) (looks row w p)
+counted_more e row w p read none unripe t = let l = p.start.layout in let b = t.0 in let first = p.number * l.home + 1 in
+    let test : (eqb row (first + b.looked)) && (is_late_word b.epoch w && has_risen b.epoch p.epochs) ≡ true = and_of _ _ (eq-eqb row (first + b.looked) t.3) (and_of _ _ (late_unripe b.epoch e w t.2 unripe) (has_risen_by b.epoch e p.epochs read t.2)) in
+    let next : Base = record b { looked = b.looked + 1 } in
+    let base : looked_base first row w p.epochs p.base ≡ Some next = ap (looked_base first row w p.epochs) t.1 ∙ (λ i. Some (record b { looked = cond (test i) (b.looked + 1) b.looked })) in
+    let at = t.3 in (
+      next,
+      base,
+      t.2,
+      omega arith,
+      λ all. (λ i. refused_after l.home (none i) (base i) p.refused) ∙ ap (λ z. cond z b.events p.refused) (eq-eqb (b.looked + 1) l.home all),
+    )
 
 -- the answers that end it
 held_no_more : (h : Holder) → Held h ≡ More → ⊥
@@ -73,7 +102,7 @@ module _ (table : Table) (old new : Pass) (moved : ℕ) (tick : TickOp) (op : Is
   abbrev here : Layout
   here = table.start.layout
 
-  ticked : (tick' : TickOp) (reply : Reply) (op' : RecoverOp) (result : Recover) → (s : TickStepped table tick tick' old new reply) → RecoverNext here (Ticking moved tick) op' s.facts.made (caller table old) (caller table new) result → RecoverAnswer here op' (caller table new) result
+  ticked : (tick' : TickOp) (reply : Reply) (op' : RecoverOp) (result : Recover) → (s : TickStepped table moved tick tick' old new reply) → RecoverNext here (Ticking moved tick) op' s.facts.made (caller table old) (caller table new) result → RecoverAnswer here op' (caller table new) result
       → ((n : ℕ) → KnowsEpoch n here tick' (caller table new) → RecoverKnows n here op' (caller table new)) → (result ≡ More → recover_left here op' < recover_left here (Ticking moved tick)) → RecoverStepped table (Ticking moved tick) op' old new result
   ticked tick' reply op' result s next answer knows shrinks = let f = s.facts in let p : Caller = caller table old in let q : Caller = caller table new in record {
     is = s.is;
@@ -82,7 +111,7 @@ module _ (table : Table) (old new : Pass) (moved : ℕ) (tick : TickOp) (op : Is
       made = f.made;
       one = f.one;
       makes = f.makes;
-      stays = f.stays ∙ (λ i. record p { made = q.made; epochs = q.epochs; tick = q.tick; cut = q.cut; hand = sym (ap (λ (q : Caller). q.hand) f.stays) i; ripening = sym (ap (λ (q : Caller). q.ripening) f.stays) i });
+      stays = f.stays ∙ (λ i. record p { made = q.made; epochs = q.epochs; tick = q.tick; cut = q.cut; base = q.base; hand = sym (ap (λ (q : Caller). q.hand) f.stays) i; ripening = sym (ap (λ (q : Caller). q.ripening) f.stays) i; refused = sym (ap (λ (q : Caller). q.refused) f.stays) i });
       grows = f.grows;
       uncut = f.uncut;
       next = next;
@@ -97,24 +126,27 @@ module _ (table : Table) (old new : Pass) (moved : ℕ) (tick : TickOp) (op : Is
   }
 
   -- the tick goes on
-  pub ticks_on : (tick' : TickOp) → TickStepped table tick tick' old new Tick.More → RecoverStepped table (Ticking moved tick) (Ticking moved tick') old new More
-  ticks_on tick' s = let less = s.facts.shrinks refl in ticked tick' Tick.More (Ticking moved tick') More s (inl (tick', refl)) (op.0, s.facts.answer) (λ n k. k) (λ _. omega arith)
+  pub ticks_on : (tick' : TickOp) → TickStepped table moved tick tick' old new Tick.More → RecoverStepped table (Ticking moved tick) (Ticking moved tick') old new More
+  ticks_on tick' s = let less = s.facts.shrinks refl in ticked tick' Tick.More (Ticking moved tick') More s (inl (tick', refl)) (op.0, s.facts.answer, s.facts.based op.2) (λ n k. k) (λ _. omega arith)
 
   -- the epoch is held
-  pub tick_held : (tick' : TickOp) (h : Holder) → TickStepped table tick tick' old new (Tick.Held h) → RecoverStepped table (Ticking moved tick) (Ticking 0 Load) old new (Held h)
+  pub tick_held : (tick' : TickOp) (h : Holder) → TickStepped table moved tick tick' old new (Tick.Held h) → RecoverStepped table (Ticking moved tick) (Ticking 0 Load) old new (Held h)
   tick_held tick' h s = ticked tick' (Tick.Held h) (Ticking 0 Load) (Held h) s tt s.facts.answer (λ n k. known_made n here tick' (caller table new) k) (λ e. absurd (held_no_more h e))
 
   -- it moved, and there is one tick more to make
-  pub tick_again : (tick' : TickOp) (g : ℕ) → TickStepped table tick tick' old new (Tick.Moved g) → moved + 1 < 3 → RecoverStepped table (Ticking moved tick) (Ticking (moved + 1) Load) old new More
+  pub tick_again : (tick' : TickOp) (g : ℕ) → TickStepped table moved tick tick' old new (Tick.Moved g) → moved + 1 < 3 → RecoverStepped table (Ticking moved tick) (Ticking (moved + 1) Load) old new More
   tick_again tick' g s b = let a = s.facts.answer in let fewer = one_fewer moved (here.workers + 3) op.0 in
-      ticked tick' (Tick.Moved g) (Ticking (moved + 1) Load) More s (inr (a.0, g, a.1, a.3, a.4, a.5, inl (b, refl))) (b, stays_off table tick tick' old new (Tick.Moved g) s op.1) (λ n k. known_made n here tick' (caller table new) k) (λ _. omega arith)
+      ticked tick' (Tick.Moved g) (Ticking (moved + 1) Load) More s (inr (a.0, g, a.1, a.3, a.4, a.5, inl (b, refl))) (b, stays_off table moved tick tick' old new (Tick.Moved g) s op.1, λ _. (g, a.4, s.facts.based op.2)) (λ n k. known_made n here tick' (caller table new) k) (λ _. omega arith)
 
   -- it moved for the third time, and the home rows are looked at
-  pub tick_last : (tick' : TickOp) (g first : ℕ) → TickStepped table tick tick' old new (Tick.Moved g) → moved + 1 ≡ 3 → first ≡ (caller table old).number * here.home + 1 → RecoverStepped table (Ticking moved tick) (Visiting g first) old new More
+  pub tick_last : (tick' : TickOp) (g first : ℕ) → TickStepped table moved tick tick' old new (Tick.Moved g) → moved + 1 ≡ 3 → first ≡ (caller table old).number * here.home + 1 → RecoverStepped table (Ticking moved tick) (Visiting g first) old new More
   tick_last tick' g first s is at = let a = s.facts.answer in let fewer = one_fewer moved (here.workers + 3) op.0 in let h = here.home_is in let some_rows = here.some_rows in
       let num : (caller table new).number ≡ (caller table old).number = ap (λ (q : Caller). q.number) s.facts.stays in let at' : first ≡ (caller table new).number * here.home + 1 = at ∙ ap (λ j. j * here.home + 1) (sym num) in
       ticked tick' (Tick.Moved g) (Visiting g first) More s (inr (a.0, g, a.1, a.3, a.4, a.5, inr (is, ap (Visiting g) at)))
-      (a.4, (omega arith, omega arith), λ _. record { before = (caller table old).made; last = s.facts.made; since = []; made = s.facts.one; finds = a.5; looks = sym at' })
+      (a.4, (omega arith, omega arith), λ _. (
+        record { before = (caller table old).made; last = s.facts.made; since = []; made = s.facts.one; finds = a.5; looks = sym at' },
+        (let h = s.facts.based op.2 in let none = h.2 in let rose = h.3 in (h.0, h.1, omega arith, at' ∙ (omega arith), λ all. absurd (omega arith))),
+      ))
       (λ n k. known_made n here tick' (caller table new) k) (λ _. omega arith)
 
 -- What follows on a row
@@ -157,7 +189,7 @@ recover_claimed table old new e row op' result s a = let l = table.start.layout 
     made = m;
     one = one;
     makes = (refl, refl);
-    stays = subst (λ q. q ≡ record p { made = q.made; epochs = q.epochs; tick = q.tick; cut = q.cut; hand = q.hand; ripening = q.ripening }) (sym s.part) refl;
+    stays = subst (λ q. q ≡ record p { made = q.made; epochs = q.epochs; tick = q.tick; cut = q.cut; base = q.base; hand = q.hand; ripening = q.ripening; refused = q.refused }) (sym s.part) refl;
     grows = λ x i. subst (λ q. In x q.epochs) (sym s.part) i;
     uncut = λ none. ap (λ (q : Caller). q.cut) s.part ∙ none;
     next = (after_next l e row m p q op' result (ap (λ (q : Caller). q.number) s.part) a).1;
@@ -184,7 +216,7 @@ recover_looked table old new e row w op' result s next claims answer knows shrin
     made = m;
     one = one;
     makes = (refl, refl);
-    stays = subst (λ q. q ≡ record p { made = q.made; epochs = q.epochs; tick = q.tick; cut = q.cut; hand = q.hand; ripening = q.ripening }) (sym s.part) refl;
+    stays = subst (λ q. q ≡ record p { made = q.made; epochs = q.epochs; tick = q.tick; cut = q.cut; base = q.base; hand = q.hand; ripening = q.ripening; refused = q.refused }) (sym s.part) refl;
     grows = λ x i. subst (λ q. In x q.epochs) (sym s.part) i;
     uncut = λ none. ap (λ (q : Caller). q.cut) s.part ∙ none;
     next = next;
@@ -196,6 +228,14 @@ recover_looked table old new e row w op' result s next claims answer knows shrin
     shrinks = shrinks;
   };
 }
+
+-- after the look at a row that isn't ripe one row more was looked at and counted, where none is in hand
+pub visited : (table : Table) (old new : Pass) (e row w : ℕ) → IsPassOf table old → IsRecovering table.start.layout (Visiting e row) (caller table old) → Stepped table old new (load_made Look (index table.start.layout (stamp row)) w) (looks row w)
+    → (IsRipeWord e w → ⊥) → (caller table new).hand ≡ [] → LookedSince table.start.layout e (row + 1) (caller table new) × HasCounted table.start.layout e (row + 1) (caller table new)
+visited table old new e row w of op s unripe none = let l = table.start.layout in let p : Caller = caller table old in let none' : p.hand ≡ [] = sym (ap (λ (q : Caller). q.hand) s.part) ∙ none in let h = op.2 none' in
+    let same : p.start.layout ≡ l = ap (λ (z : Start). z.layout) of.sits.started in
+    subst (λ q. LookedSince l e (row + 1) q × HasCounted l e (row + 1) q) (sym s.part)
+    (since_more l e row w p unripe h.0, subst (λ z. HasCounted z e (row + 1) (looks row w p)) same (counted_more e row w p op.0 none' unripe (subst (λ z. HasCounted z e row p) (sym same) h.1)))
 
 -- the row was found ripe
 pub recover_ripe : (table : Table) (old new : Pass) (e row w : ℕ) → IsRecovering table.start.layout (Visiting e row) (caller table old) → Stepped table old new (load_made Look (index table.start.layout (stamp row)) w) (looks row w)

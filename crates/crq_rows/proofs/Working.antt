@@ -26,8 +26,8 @@ pub plain_no_tick : (k : StepKind) → is_exchange k ≡ false → is_tick k ≡
 plain_no_tick TickKind e = e
 plain_no_tick _ e = refl
 
-pub tick_works : (n : ℕ) (l : Layout) (op op' : TickOp) (p q : Caller) (result : Tick) → TickFacts l op op' p q result → KnowsEpoch n l op p → IsTicking l op p → Works n (tick_exchanges l op) p q
-tick_works n l op op' p q result f k at = record { stays = subst (Stays p) (sym f.stays) record { number = refl; start = refl; deal = refl; found = refl; guard = refl }; step = f.made; made = f.one; kind = f.exchanges; expects = f.expects n k; timed = λ _. ticking_off l op p at }
+pub tick_works : (n moved : ℕ) (l : Layout) (op op' : TickOp) (p q : Caller) (result : Tick) → TickFacts l moved op op' p q result → KnowsEpoch n l op p → IsTicking l op p → Works n (tick_exchanges l op) p q
+tick_works n moved l op op' p q result f k at = record { stays = subst (Stays p) (sym f.stays) record { number = refl; start = refl; deal = refl; found = refl; guard = refl }; step = f.made; made = f.one; kind = f.exchanges; expects = f.expects n k; timed = λ _. ticking_off l op p at }
 
 -- a step of a recovery that raises the epoch is one of a tick
 recover_timed : (l : Layout) (op : RecoverOp) (m : Made) (p : Caller) → IsRecovering l op p → RecoverMakes l op m → is_tick m.kind ≡ true → p.guard ≡ Off

@@ -65,7 +65,7 @@ pub record OwnFacts (l : Layout) (op op' : OwnOp) (p q : Caller) (result : Own) 
   pub made : Made
   pub one : q.made ≡ p.made ++ made ∷ []
   pub makes : OwnMakes l op made
-  pub stays : q ≡ record p { made = q.made; epochs = q.epochs; tick = q.tick; cut = q.cut; hand = q.hand; ripening = q.ripening }
+  pub stays : q ≡ record p { made = q.made; epochs = q.epochs; tick = q.tick; cut = q.cut; base = q.base; hand = q.hand; ripening = q.ripening; refused = q.refused }
   pub grows : (e : ℕ) → In e p.epochs → In e q.epochs
   pub uncut : p.cut ≡ None → q.cut ≡ None
   pub answer : OwnAnswer l op' q result

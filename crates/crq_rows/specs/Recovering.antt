@@ -1,7 +1,8 @@
 -- Recovering rows: what it knows between two steps, and what each step tells.
-use Rattle.std.specs.Prelude.{◌≡◌, ◌⊎◌, ℕ, ◌+◌, ◌-◌, ◌*◌, ◌<◌, ◌≤◌, Bool, false, List, [], ◌∷◌, ◌++◌, length, None}
+use Rattle.std.specs.Prelude.{◌≡◌, ◌⊎◌, ℕ, ◌+◌, ◌-◌, ◌*◌, ◌<◌, ◌≤◌, Bool, false, List, [], ◌∷◌, ◌++◌, length, Some, None}
 use Rattle.crq_base.specs.declared.kinds.StepKind.TheVariants.{Look, Claim}
 use Rattle.crq_rule.specs.declared.layout.Layout.{Layout}
+use Rattle.crq_rule.specs.declared.view.Base.{Base}
 use Rattle.crq_rule.specs.declared.view.Made.{Made}
 use Rattle.crq_rule.specs.declared.view.Caller.{Caller}
 use Rattle.crq_rule.specs.declared.pass.Pass.{Pass}
@@ -17,7 +18,7 @@ use Rattle.crq_rows.specs.declared.recover.Recover.{Recover}
 use Rattle.crq_rows.specs.declared.recover.Recover.TheVariants.{More, Ready, Held, Rows}
 use Rattle.crq_rows.specs.Passes.{caller, IsPassOf}
 use Rattle.crq_rows.specs.Known.{is_exchange, Expects, turns_after}
-use Rattle.crq_rows.specs.Ticking.{IsTicking, TickMakes, tick_exchanges, tick_left, KnowsEpoch, HasLoaded, IsHeldBy, FindsEpoch}
+use Rattle.crq_rows.specs.Ticking.{IsTicking, TickBase, TickMakes, tick_exchanges, tick_left, KnowsEpoch, HasLoaded, IsHeldBy, FindsEpoch}
 use Rattle.crq_rows.specs.Owning.{IsRipeWord, NoneRipe}
 
 -- since a step that found or made the epoch e, the caller looked at its home rows before `next`, in order, and found none ripe under it
@@ -29,11 +30,15 @@ pub record LookedSince (l : Layout) (e next : ℕ) (p : Caller) : Type 0 where
   pub finds : FindsEpoch last e
   pub looks : NoneRipe l e (p.number * l.home + 1) since next
 
+-- the recovery began at an epoch that is at least three below e, and has counted the home rows before `next` since. Once it has counted all of them, its events are those of a refusal
+abbrev pub HasCounted : Layout → ℕ → ℕ → Caller → Type 0
+HasCounted l e next p = (b : Base) × (p.base ≡ Some b) × (b.epoch + 3 ≤ e) × (next ≡ p.number * l.home + 1 + b.looked) × (b.looked ≡ l.home → p.refused ≡ b.events)
+
 -- what the recovery knows: so many ticks have moved, and one is made; or three have moved, the last one to the epoch e, and the row is the next to look at, or ripe. As long as no row was claimed, none
 -- was found ripe
 abbrev pub IsRecovering : Layout → RecoverOp → Caller → Type 0
-IsRecovering l (Ticking n tick) p = (n < 3) × IsTicking l tick p
-IsRecovering l (Visiting e row) p = In e p.epochs × IsHomeRow l p.number row × (p.hand ≡ [] → LookedSince l e row p)
+IsRecovering l (Ticking n tick) p = (n < 3) × IsTicking l tick p × TickBase n tick p
+IsRecovering l (Visiting e row) p = In e p.epochs × IsHomeRow l p.number row × (p.hand ≡ [] → LookedSince l e row p × HasCounted l e row p)
 IsRecovering l (Taking e row) p = In e p.epochs × IsHomeRow l p.number row × IsRipe p.ripening row e
 
 -- the step that it makes: one of the tick, a look at the next home row, or the claim of a ripe one
@@ -84,19 +89,23 @@ ClaimsRipe (Ticking n tick) op' m result = Unit {0}
 ClaimsRipe (Visiting e row) op' m result = IsRipeWord e m.found → (result ≡ More) × (op' ≡ Taking e row)
 ClaimsRipe (Taking e row) op' m result = Unit {0}
 
--- what an answer means: there is a free row; or the epoch is held; or there is no free row, and no home row was found ripe
+-- the events that the caller keeps of its refusal are those that were pending at the load with which its recovery began, and twice their number is at least that of its rows
+abbrev pub CountsRows : Layout → Caller → Type 0
+CountsRows l q = (b : Base) × (q.base ≡ Some b) × (q.refused ≡ b.events) × (l.rows ≤ 2 * length q.refused)
+
+-- what an answer means: there is a free row; or the epoch is held; or there is no free row, no home row was found ripe, and enough events are kept
 abbrev pub RecoverAnswer : Layout → RecoverOp → Caller → Recover → Type 0
 RecoverAnswer l op q More = IsRecovering l op q
 RecoverAnswer l op q Ready = (row : ℕ) × (rest : List ℕ) × (q.hand ≡ row ∷ rest)
 RecoverAnswer l op q (Held h) = IsHeldBy h q
-RecoverAnswer l op q Rows = (q.hand ≡ []) × ((e : ℕ) × In e q.epochs × LookedSince l e (q.number * l.home + l.home + 1) q)
+RecoverAnswer l op q Rows = (q.hand ≡ []) × ((e : ℕ) × In e q.epochs × LookedSince l e (q.number * l.home + l.home + 1) q) × CountsRows l q
 
 -- one step: what else the caller knows stays
 pub record RecoverFacts (l : Layout) (op op' : RecoverOp) (p q : Caller) (result : Recover) : Type 0 where
   pub made : Made
   pub one : q.made ≡ p.made ++ made ∷ []
   pub makes : RecoverMakes l op made
-  pub stays : q ≡ record p { made = q.made; epochs = q.epochs; tick = q.tick; cut = q.cut; hand = q.hand; ripening = q.ripening }
+  pub stays : q ≡ record p { made = q.made; epochs = q.epochs; tick = q.tick; cut = q.cut; base = q.base; hand = q.hand; ripening = q.ripening; refused = q.refused }
   pub grows : (e : ℕ) → In e p.epochs → In e q.epochs
   pub uncut : p.cut ≡ None → q.cut ≡ None
   pub next : RecoverNext l op op' made p q result

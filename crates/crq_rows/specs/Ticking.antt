@@ -1,10 +1,12 @@
 -- An attempt to raise the epoch: what it knows between two steps, and what each step tells.
-use Rattle.std.specs.Prelude.{◌≡◌, ◌≢◌, ◌⊎◌, ℕ, ◌+◌, ◌-◌, ◌<◌, ◌≤◌, ◌^◌, ◌==◌, Bool, false, List, [], ◌∷◌, ◌++◌, length, drop, Some, None}
+use Rattle.std.specs.Prelude.{◌≡◌, ◌≢◌, ◌⊎◌, ℕ, ◌+◌, ◌-◌, ◌<◌, ◌≤◌, ◌^◌, ◌==◌, Bool, false, List, [], ◌∷◌, ◌++◌, length, drop, Option, Some, None}
 use Rattle.crq_base.specs.declared.kinds.StepKind.TheVariants.{EpochLoad, Scan, Tick}
 use Rattle.crq_base.specs.declared.holder.Holder.{Holder}
 use Rattle.crq_base.specs.declared.holder.Holder.TheVariants.{Seat, Last}
 use Rattle.crq_rule.specs.declared.layout.Layout.{Layout}
 use Rattle.crq_rule.specs.declared.view.Guard.TheVariants.{Off}
+use Rattle.crq_base.specs.declared.event.Event.{Event}
+use Rattle.crq_rule.specs.declared.view.Base.{Base}
 use Rattle.crq_rule.specs.declared.view.Made.{Made}
 use Rattle.crq_rule.specs.declared.view.Caller.{Caller}
 use Rattle.crq_rule.specs.declared.pass.Pass.{Pass}
@@ -12,11 +14,13 @@ use Rattle.crq_rule.specs.declared.pass.Table.{Table}
 use Rattle.crq_rule.specs.Lists.{In}
 use Rattle.crq_rule.specs.Places.{index, epoch, announced}
 use Rattle.crq_rule.specs.Parts.{LetsRise}
+use Rattle.crq_rule.specs.Kinds.{new_base, loads_based}
+use Rattle.crq_rule.specs.Rule.{TellsEpoch}
 use Rattle.crq_rows.specs.declared.tick.TickOp.{TickOp}
 use Rattle.crq_rows.specs.declared.tick.TickOp.TheVariants.{Load, Scanning, Passed}
 use Rattle.crq_rows.specs.declared.tick.Tick.{Tick as Reply}
 use Rattle.crq_rows.specs.declared.tick.Tick.TheVariants.{More, Moved, Held}
-use Rattle.crq_rows.specs.Passes.{caller, IsPassOf}
+use Rattle.crq_rows.specs.Passes.{caller, IsPassOf, Stepped, load_made}
 use Rattle.crq_rows.specs.Known.{is_exchange, last_known, Expects, turns_after}
 
 -- the callers below n but the own one, j, were found out or at the epoch e
@@ -68,6 +72,30 @@ IsHeldBy (Seat j a) p = (j ≢ p.number) × In (j, a + 1) p.tick.found × (a < p
 abbrev pub FindsEpoch : Made → ℕ → Type 0
 FindsEpoch m g = (m.found ≡ g) ⊎ ((m.kind ≡ Tick) × (m.found ≡ m.first) × (m.second ≡ g))
 
+-- the recovery began at an epoch that is at least n below e, and no home row was counted since
+abbrev pub HasRisen : ℕ → ℕ → Caller → Type 0
+HasRisen n e p = (b : Base) × (p.base ≡ Some b) × (b.looked ≡ 0) × (b.epoch + n ≤ e)
+
+-- what is known of the recovery that the attempt is part of, of which n ticks have moved before
+abbrev pub TickBase : ℕ → TickOp → Caller → Type 0
+TickBase n Load p = 0 < n → (e : ℕ) × In e p.epochs × HasRisen n e p
+TickBase n (Scanning e next) p = HasRisen n e p
+TickBase n (Passed e) p = HasRisen n e p
+
+-- and what its answer says of that
+abbrev pub TickBased : ℕ → TickOp → Caller → Reply → Type 0
+TickBased n op q More = TickBase n op q
+TickBased n op q (Moved g) = HasRisen (n + 1) g q
+TickBased n op q (Held h) = Unit {0}
+
+-- the epoch r was loaded. Where no tick has moved before, a recovery began with that, and else what is known of it stays
+pub record LoadsEpoch (table : Table) (moved : ℕ) (old new : Pass) (r : ℕ) : Type 0 where
+  pub base : Option Base
+  pub stepped : Stepped table old new (load_made EpochLoad (index table.start.layout epoch) r) (loads_based base r)
+  pub told : TellsEpoch r (caller table old)
+  pub begins : moved ≡ 0 → (place : ℕ) × (events : List Event) × (base ≡ Some (new_base place events r))
+  pub goes_on : (moved ≡ 0 → ⊥) → base ≡ (caller table old).base
+
 -- what an answer means, for the step made, and what the caller knew before and knows now
 abbrev pub TickAnswer : TickOp → TickOp → Layout → Made → Caller → Caller → Reply → Type 0
 TickAnswer op op' l m p q More = IsTicking l op' q
@@ -75,21 +103,22 @@ TickAnswer op op' l m p q (Moved g) = (e : ℕ) × HasLoaded op e × In e p.epoc
 TickAnswer op op' l m p q (Held h) = IsHeldBy h q
 
 -- one step of the attempt: what else the caller knows stays
-pub record TickFacts (l : Layout) (op op' : TickOp) (p q : Caller) (result : Reply) : Type 0 where
+pub record TickFacts (l : Layout) (moved : ℕ) (op op' : TickOp) (p q : Caller) (result : Reply) : Type 0 where
   pub made : Made
   pub one : q.made ≡ p.made ++ made ∷ []
   pub makes : TickMakes l op made
-  pub stays : q ≡ record p { made = q.made; epochs = q.epochs; tick = q.tick; cut = q.cut }
+  pub stays : q ≡ record p { made = q.made; epochs = q.epochs; tick = q.tick; cut = q.cut; base = q.base }
   pub grows : (e : ℕ) → In e p.epochs → In e q.epochs
   pub uncut : p.cut ≡ None → q.cut ≡ None
   pub answer : TickAnswer op op' l made p q result
+  pub based : TickBase moved op p → TickBased moved op' q result
   pub exchanges : is_exchange made.kind ≡ tick_exchanges l op
   pub expects : (n : ℕ) → KnowsEpoch n l op p → Expects n p.made made
   pub knows : (n : ℕ) → KnowsEpoch n l op p → KnowsEpoch n l op' q
   pub shrinks : result ≡ More → tick_left l op' < tick_left l op
 
-pub record TickStepped (table : Table) (op op' : TickOp) (old new : Pass) (result : Reply) : Type 0 where
+pub record TickStepped (table : Table) (moved : ℕ) (op op' : TickOp) (old new : Pass) (result : Reply) : Type 0 where
   pub is : IsPassOf table new
   pub same : new ≡ record old { seat = new.seat; turns = new.turns }
-  pub facts : TickFacts table.start.layout op op' (caller table old) (caller table new) result
+  pub facts : TickFacts table.start.layout moved op op' (caller table old) (caller table new) result
   pub turns : new.turns ≡ turns_after (is_exchange facts.made.kind) old.turns

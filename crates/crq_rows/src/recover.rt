@@ -7,7 +7,7 @@ ghost use Rattle.crq_rows.specs.Passes.{caller, IsPassOf};
 ghost use Rattle.crq_rows.specs.Ticking.{IsTicking};
 ghost use Rattle.crq_rows.specs.declared.tick.TickOp.TheVariants.{Load};
 ghost use Rattle.crq_rows.specs.declared.recover.RecoverOp.TheVariants.{Ticking, Visiting, Taking};
-ghost use Rattle.crq_rows.specs.Recovering.{IsRecovering, LookedSince, RecoverStepped, IsAfterRow, recover_exchanges};
+ghost use Rattle.crq_rows.specs.Recovering.{IsRecovering, LookedSince, HasCounted, RecoverStepped, IsAfterRow, recover_exchanges};
 
 use crate::own::look;
 use crate::steps::claim_step;
@@ -40,7 +40,8 @@ pub enum Recover {
     Ready,
     /// The epoch can't rise.
     Held(Holder),
-    /// Three ticks moved, and then no home row was found ripe.
+    /// Three ticks moved, and then no home row was found ripe. The pass keeps the events that were pending when the first
+    /// of these ticks loaded the epoch: twice their number is at least the number of its rows.
     Rows,
 }
 
@@ -49,7 +50,7 @@ fn after_row(table: &Table, pass: &Pass, epoch: u64, row: u32) -> (RecoverOp, Re
     requires of { IsPassOf table.now pass.now }
     requires read { In epoch (caller table.now pass.now).epochs }
     requires home { IsHomeRow table.now.start.layout pass.now.number row }
-    requires looked { (caller table.now pass.now).hand ≡ [] → LookedSince table.now.start.layout epoch (row + 1) (caller table.now pass.now) }
+    requires looked { (caller table.now pass.now).hand ≡ [] → LookedSince table.now.start.layout epoch (row + 1) (caller table.now pass.now) × HasCounted table.now.start.layout epoch (row + 1) (caller table.now pass.now) }
     ensures { IsAfterRow table.now.start.layout epoch row (caller table.now pass.now) result.0 result.1 }
 {
     if row < table.start.layout.last_home(pass.number) {
@@ -68,7 +69,7 @@ fn tick(table: &Table, pass: &mut Pass, moved: u32, tick: TickOp) -> (RecoverOp,
     ensures { RecoverStepped table.now (Ticking moved tick) result.0 pass.old pass.new result.1 }
 {
     let mut next = tick;
-    match next.step(table, pass) {
+    match next.step(table, pass, moved) {
         Tick::More => (RecoverOp::Ticking(moved, next), Recover::More),
         Tick::Held(holder) => (RecoverOp::new(), Recover::Held(holder)),
         Tick::Moved(epoch) => {

@@ -8,11 +8,11 @@ ghost use Rattle.crq_rule.specs.Places.{index, epoch, announced, stamp, IsHomeRo
 ghost use Rattle.crq_rule.specs.Kinds.{loads_epoch, enters, confirms, leaves, scans, ticks, retires, looks, claims, HasScanned, IsEntering, MayRetire, IsRipe};
 ghost use Rattle.crq_base.specs.declared.event.Event.{Event};
 ghost use Rattle.crq_rule.specs.ListKinds.{Content, IsContent, content_number, content_word, row_place, writes, StandsOn, event_word};
-ghost use Rattle.crq_rule.specs.Rule.{TellsEpoch};
+ghost use Rattle.crq_rule.specs.Rule.{TellsEpoch, BeginsRecovery};
 ghost use Rattle.crq_rows.specs.Reading.{stays};
-ghost use Rattle.crq_rows.specs.Passes.{caller, IsPassOf, Stepped, Exchanged, Claimed, load_made, store_made, step_made, announcement_word, found_by};
+ghost use Rattle.crq_rows.specs.Passes.{caller, IsPassOf, Stepped, Turned, Exchanged, Claimed, load_made, store_made, step_made, announcement_word, found_by};
 
-use crate::kinds::{exchange_as, load_as, store_as, store_seated};
+use crate::kinds::{exchange_as, load_as, load_turning, store_as, store_seated};
 use crq_base::Stamp;
 use crq_rule::{Pass, Table};
 use std::marker::Brand;
@@ -25,6 +25,15 @@ pub fn epoch_step(table: &Table, pass: &mut Pass) -> u64
     ensures told { TellsEpoch result (caller table.now pass.old) }
 {
     load_as::<Brand, ()>(table, pass, table.start.layout.epoch(), &())
+}
+
+/// Loads the epoch and answers it, as `epoch_step` does. A recovery of rows begins with this load: what was known of an
+/// earlier one goes, and which events are pending now is noted.
+pub fn recovery_step(table: &Table, pass: &mut Pass) -> u64
+    requires { IsPassOf table.now pass.old }
+    ensures { Turned table.now pass.old pass.new (load_made EpochLoad (index table.now.start.layout epoch) result) (BeginsRecovery result) }
+{
+    load_turning::<Brand, ()>(table, pass, table.start.layout.epoch(), &())
 }
 
 /// Announces an epoch that the pass has read.

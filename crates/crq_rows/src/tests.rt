@@ -44,7 +44,7 @@ fn tick(table: &Table, pass: &mut Pass) -> Tick
 {
     let mut op = TickOp::new();
     for i in 0..8 {
-        match op.step(table, pass) {
+        match op.step(table, pass, 0) {
             Tick::More => {}
             end => return end,
         }

@@ -3,9 +3,9 @@ ghost use Rattle.std.specs.Prelude.{◌≡◌, ◌⊎◌, ◌+◌, ◌<◌, ◌�
 ghost use Rattle.crq_rule.specs.declared.view.Guard.TheVariants.{Off};
 ghost use Rattle.crq_rows.specs.Passes.{caller, IsPassOf};
 ghost use Rattle.crq_rows.specs.declared.tick.TickOp.TheVariants.{Load, Scanning, Passed};
-ghost use Rattle.crq_rows.specs.Ticking.{IsTicking, TickStepped, tick_exchanges};
+ghost use Rattle.crq_rows.specs.Ticking.{IsTicking, LoadsEpoch, TickStepped, tick_exchanges};
 
-use crate::steps::{epoch_step, scan_step, tick_step};
+use crate::steps::{epoch_step, recovery_step, scan_step, tick_step};
 use crq_base::Holder;
 use crq_rule::{Pass, Table};
 
@@ -46,25 +46,37 @@ fn other(next: u32, own: u32) -> u32
     if next == own { next + 1 } else { next }
 }
 
+/// Loads the epoch. Where none of the ticks of a recovery has moved yet, the recovery begins with this load.
+fn load_epoch(table: &Table, pass: &mut Pass, moved: u32) -> u64
+    requires { IsPassOf table.now pass.old }
+    ensures { LoadsEpoch table.now moved pass.old pass.new result }
+{
+    if moved == 0 {
+        recovery_step(table, pass)
+    } else {
+        epoch_step(table, pass)
+    }
+}
+
 /// Loads the epoch.
-fn load(table: &Table, pass: &mut Pass) -> (TickOp, Tick)
+fn load(table: &Table, pass: &mut Pass, moved: u32) -> (TickOp, Tick)
     requires of { IsPassOf table.now pass.old }
     requires off { (caller table.now pass.old).guard ≡ Off }
-    ensures { TickStepped table.now Load result.0 pass.old pass.new result.1 }
+    ensures { TickStepped table.now moved Load result.0 pass.old pass.new result.1 }
 {
-    let epoch = epoch_step(table, pass);
+    let epoch = load_epoch(table, pass, moved);
     if epoch == LAST {
         return (TickOp::Load, Tick::Held(Holder::Last));
     }
     (TickOp::Scanning(epoch, other(0, pass.number)), Tick::More)
 }
 
-/// Scans the caller `next`.
-fn scan(table: &Table, pass: &mut Pass, epoch: u64, next: u32) -> (TickOp, Tick)
+/// Scans the caller `next`. `_moved` says which tick it is, for the clauses.
+fn scan(table: &Table, pass: &mut Pass, _moved: u32, epoch: u64, next: u32) -> (TickOp, Tick)
     requires of { IsPassOf table.now pass.old }
     requires op { IsTicking table.now.start.layout (Scanning epoch next) (caller table.now pass.old) }
     requires inside { next < table.now.start.layout.workers }
-    ensures { TickStepped table.now (Scanning epoch next) result.0 pass.old pass.new result.1 }
+    ensures { TickStepped table.now _moved (Scanning epoch next) result.0 pass.old pass.new result.1 }
 {
     let found = scan_step(table, pass, next);
     if let Some(announced) = found {
@@ -81,12 +93,13 @@ fn scan(table: &Table, pass: &mut Pass, epoch: u64, next: u32) -> (TickOp, Tick)
     )
 }
 
-/// Exchanges the epoch for the next one. `_next` says at which state the attempt is, for the clauses: after the last caller.
-fn raise(table: &Table, pass: &mut Pass, epoch: u64, _next: u32) -> (TickOp, Tick)
+/// Exchanges the epoch for the next one. `_next` says at which state the attempt is, for the clauses: after the last
+/// caller. `_moved` says which tick it is.
+fn raise(table: &Table, pass: &mut Pass, _moved: u32, epoch: u64, _next: u32) -> (TickOp, Tick)
     requires of { IsPassOf table.now pass.old }
     requires op { IsTicking table.now.start.layout (Scanning epoch _next) (caller table.now pass.old) }
     requires last { _next ≡ table.now.start.layout.workers }
-    ensures { TickStepped table.now (Scanning epoch _next) result.0 pass.old pass.new result.1 }
+    ensures { TickStepped table.now _moved (Scanning epoch _next) result.0 pass.old pass.new result.1 }
 {
     match tick_step(table, pass, epoch) {
         Ok(()) => (TickOp::Load, Tick::Moved(epoch + 1)),
@@ -95,11 +108,11 @@ fn raise(table: &Table, pass: &mut Pass, epoch: u64, _next: u32) -> (TickOp, Tic
 }
 
 /// Loads the epoch again, which an announcement above it has shown to have moved. `_epoch` says at which state the attempt
-/// is, for the clauses.
-fn reload(table: &Table, pass: &mut Pass, _epoch: u64) -> (TickOp, Tick)
+/// is, for the clauses, and `_moved` which tick it is.
+fn reload(table: &Table, pass: &mut Pass, _moved: u32, _epoch: u64) -> (TickOp, Tick)
     requires of { IsPassOf table.now pass.old }
     requires op { IsTicking table.now.start.layout (Passed _epoch) (caller table.now pass.old) }
-    ensures { TickStepped table.now (Passed _epoch) result.0 pass.old pass.new result.1 }
+    ensures { TickStepped table.now _moved (Passed _epoch) result.0 pass.old pass.new result.1 }
 {
     let found = epoch_step(table, pass);
     (TickOp::Load, Tick::Moved(found))
@@ -123,22 +136,23 @@ impl TickOp {
         }
     }
 
-    /// Makes one atomic step.
-    pub fn step(&mut self, table: &Table, pass: &mut Pass) -> Tick
+    /// Makes one atomic step. `moved` is how many ticks of a recovery have moved before this one. With 0 the recovery
+    /// begins with this tick's load of the epoch.
+    pub fn step(&mut self, table: &Table, pass: &mut Pass, moved: u32) -> Tick
         requires of { IsPassOf table.now pass.old }
         requires op { IsTicking table.now.start.layout self.old (caller table.now pass.old) }
-        ensures { TickStepped table.now self.old self.new pass.old pass.new result }
+        ensures { TickStepped table.now moved self.old self.new pass.old pass.new result }
     {
         let (op, answer) = match *self {
-            TickOp::Load => load(table, pass),
+            TickOp::Load => load(table, pass, moved),
             TickOp::Scanning(epoch, next) => {
                 if next < table.start.layout.workers {
-                    scan(table, pass, epoch, next)
+                    scan(table, pass, moved, epoch, next)
                 } else {
-                    raise(table, pass, epoch, next)
+                    raise(table, pass, moved, epoch, next)
                 }
             }
-            TickOp::Passed(epoch) => reload(table, pass, epoch),
+            TickOp::Passed(epoch) => reload(table, pass, moved, epoch),
         };
         *self = op;
         answer

@@ -25,6 +25,8 @@ use Rattle.crq_rule.specs.Invariant.{Inv}
 use Rattle.crq_rule.specs.ListKinds.{StandsOn, MayMiss, begun_by, control_loaded, missed}
 use Rattle.crq_rule.proofs.Puts.{put_else, put_all}
 use Rattle.crq_rule.proofs.HistoryLaws.{told_other, told_begin, pending_same, out_later, front_of}
+use Rattle.crq_rule.proofs.Pendings.{counted_grown, none_counted}
+use Rattle.crq_rule.proofs.ScarceLaws.{base_grown, scarce_drop, scarce_grown, refusals_grown, refusals_put}
 use Rattle.crq_rule.proofs.SearchLaws.{left_beyond, beyond_time}
 
 none_walk : (w : Walk) → None ≡ Some w → ⊥
@@ -32,6 +34,13 @@ none_walk w e = cc
 
 miss_begin : (j limit k : ℕ) → Miss j limit ≡ Begin k → ⊥
 miss_begin j limit k e = cc
+
+-- a Begin of another caller, and a Miss, are no Begin of this one
+other_begin : (j k : ℕ) → k ≢ j → In (Begin k) (Begin j ∷ []) → ⊥
+other_begin j k ne i = ⊎_elim (λ (e : Begin k ≡ Begin j). ne (let same : k ≡ j = cc in same)) (λ n. n) i
+
+no_begin : (j limit k : ℕ) → In (Begin k) (Miss j limit ∷ []) → ⊥
+no_begin j limit k i = ⊎_elim (λ (e : Begin k ≡ Miss j limit). miss_begin j limit k (sym e)) (λ n. n) i
 
 some_control : (x y : Control) → Some x ≡ Some y → x ≡ y
 some_control x y e = cc
@@ -94,6 +103,8 @@ control_keeps c j b inv = record {
   carriers = inv.carriers;
   told = inv.told;
   walkers = inv.walkers;
+  scarce = inv.scarce;
+  refusals = inv.refusals;
 }
 
 pub begin_keeps : (c : Core) (j : ℕ) → j < c.start.layout.workers → Inv c → Inv (begun_by c j)
@@ -116,6 +127,8 @@ begin_keeps c j b inv = record {
   carriers = carriers_same _ _ (Begin j) _ _ _ refl refl inv.carriers;
   told = told_begin _ _ _ _ _ j b inv.told;
   walkers = walkers_entry _ _ _ _ _ _ _ _ _ _ _ _ j (Begin j) inv.told.begun_low (put_else c.begun j (length c.history)) (λ _ _ _ s. s) inv.walkers;
+  scarce = scarce_drop _ _ _ _ _ _ _ _ j (λ k x _ ne. base_grown _ _ _ _ _ _ k x (other_begin j k ne)) inv.scarce;
+  refusals = refusals_put _ _ _ _ j [] (λ _. none_counted (c.history ++ Begin j ∷ []) j) (λ k ne. counted_grown _ _ k (c.refused k) (other_begin j k ne)) inv.refusals;
 }
 
 -- what a search that comes to its end or to the limit left is taken
@@ -151,4 +164,6 @@ miss_keeps c j limit b may inv = record {
   carriers = carriers_same _ _ (Miss j limit) _ _ _ refl refl inv.carriers;
   told = told_other _ _ _ _ _ j (Miss j limit) b (miss_legal c j limit b may inv) refl refl (miss_begin j limit) inv.told;
   walkers = walkers_entry _ _ _ _ c.begun _ _ _ _ _ _ _ j (Miss j limit) inv.told.begun_low (λ _ _. refl) (λ _ _ _ s. s) inv.walkers;
+  scarce = scarce_grown _ _ _ _ _ _ _ (λ k. no_begin j limit k) inv.scarce;
+  refusals = refusals_grown _ _ _ _ (λ k. no_begin j limit k) inv.refusals;
 }

@@ -43,3 +43,11 @@ fits a zero (x ∷ xs) once all = let b = all x (inl refl) in let lo = b.0 in le
 fits a (suc h) xs once all = let top : ℕ = a + suc h in
     let r = fits a h (drop_all top xs) (once_rest top xs once) (λ x i. let s = in_rest top x xs i in let b = all x s.0 in let lo = b.0 in let hi = b.1 in let ne = s.1 in (lo, omega arith)) in
     let l = one_less top xs once in omega arith
+
+-- different numbers that are all in a list are no more than its length
+pub within_list : (xs ys : List ℕ) → IsOnce xs → ((x : ℕ) → In x xs → In x ys) → length xs ≤ length ys
+within_list [] [] once all = omega arith
+within_list (x ∷ xs) [] once all = absurd (all x (inl refl))
+within_list xs (y ∷ ys) once all =
+    let r = within_list (drop_all y xs) ys (once_rest y xs once) (λ x i. let s = in_rest y x xs i in ⊎_elim (λ e. absurd (s.1 e)) (λ t. t) (all x s.0)) in
+    let l = one_less y xs once in omega arith

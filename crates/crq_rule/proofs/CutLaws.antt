@@ -1,5 +1,5 @@
 -- A cut takes a dead row out of its list, and keeps the invariant.
-use Rattle.std.proofs.Common.{◌≡◌, ◌≢◌, ◌⊎◌, ⊎_elim, inl, inr, ℕ, ◌^◌, ◌<◌, ◌≤◌, cond, List, [], ◌∷◌, ◌++◌, Option, Some, None, sym, refl, ap, ◌∙◌, eq-eqb, ne_eqb, subst, arith}
+use Rattle.std.proofs.Common.{◌≡◌, ◌≢◌, ◌⊎◌, ⊎_elim, inl, inr, ℕ, ◌^◌, ◌<◌, ◌≤◌, cond, List, [], ◌∷◌, ◌++◌, Option, Some, None, sym, refl, ap, ◌∙◌, eq-eqb, ne_eqb, subst, arith, le_refl}
 use mathlib.Core.Logic.{dite}
 use native.Mathlib.Decide.{ℕ_discrete}
 use Rattle.crq_base.specs.declared.event.Event.{Event}
@@ -23,12 +23,14 @@ use Rattle.crq_rule.specs.Core.{Core, Holding, in_hand, listed, cut_by, retired,
 use Rattle.crq_rule.specs.Parts.{IsEvent, Spelled, Holders, Stamps, stamp_of, Chains, Leads, Cover, Covers, HasTag, IsOn, rows_of, standing}
 use Rattle.crq_rule.specs.ListParts.{Heads, IsShutHead, Sorted, Marks, MarkFits, TwinFits, Standing, IsFinal, Lanes, Writing, row_word, Naming, IsNamed, ranks}
 use Rattle.crq_rule.specs.HistoryParts.{Carriers, IsLive, Walkers, StandsFrom}
+use Rattle.crq_rule.specs.ScarceParts.{IsLate}
 use Rattle.crq_rule.specs.Invariant.{Inv}
 use Rattle.crq_rule.specs.Ranks.{head_of, IsOpen, Rises, Cell, at_head, at_row, link_at, heads_set, links_set, without_row}
 use Rattle.crq_rule.specs.ListKinds.{cut_from, without_stand, unnamed, StandsOn, MayWalk, MayCut}
 use Rattle.crq_rule.proofs.Puts.{put_here, put_else, put_all}
 use Rattle.crq_rule.proofs.PartLaws.{sort, of_whom, read_cut, cutting_cut}
 use Rattle.crq_rule.proofs.HolderLaws.{none_some, some_some}
+use Rattle.crq_rule.proofs.ScarceLaws.{since_low, scarce_lasts, lasts_held}
 use Rattle.crq_rule.proofs.WithoutLaws.{first_in, next_in, leads_else, leads_first, leads_without, rises_without, in_without_row, without_row_in, gone, Passes, path_cut, path_pass}
 
 -- the caller's guard is on or not
@@ -453,7 +455,7 @@ module _ (c : Core) (j : ℕ) (cell : Cell) (x : ℕ) (l : Link) (b : j < c.star
     reading = read_cut _ _ _ _ _ _ _ _ j (Some now_cut) (λ t y _ is i. absurd (subst (λ (z : CutRow). In t z.tags) (sym (some_some now_cut y is)) i)) inv.reading;
     guards = inv.guards;
     holders = holders_cut _ _ _ _ _ j q x b may.none row_x was (gone (ranks c.words.event) 0 x (c.chain q) (inv.sorted.rises q place.0)) inv.holders;
-    cutting = cutting_cut _ _ _ j (Some now_cut) (λ _ _ _. on_is (c.guard j) on.0 on.1) inv.cutting;
+    cutting = cutting_cut _ _ _ j (Some now_cut) (λ _ _ _. on_is (c.guard j) on.0 on.1) (λ t _ y _ is _ i. absurd (subst (λ (z : CutRow). In t z.tags) (sym (some_some now_cut y is)) i)) inv.cutting;
     stamps = stamps_cut _ c.hand c.cut c.chain _ _ _ _ j q x was inv.stamps;
     chains = chains_part;
     cover = cover_part;
@@ -467,6 +469,9 @@ module _ (c : Core) (j : ℕ) (cell : Cell) (x : ℕ) (l : Link) (b : j < c.star
     carriers = carriers_part;
     told = inv.told;
     walkers = walkers_part;
+    scarce = scarce_lasts _ _ _ _ _ _ _ _ _ (le_refl _) (λ k inside. lasts_held _ _ _ _ x (cut_by j) k (λ g _ _. subst (IsLate c.guard g) (sym was) tt)
+        (λ g _ low _. inr (since_low c.words.epoch (c.words.announced j) g (c.guard j) (inv.guards.each j b) (omega arith)))) inv.scarce;
+    refusals = inv.refusals;
   }
 
 -- Cut

@@ -1,8 +1,10 @@
 -- The frame laws. A step that changes only the components of one concern keeps all parts that read none of them as they stand.
 use Rattle.std.proofs.Common.{ℕ, List, Option}
+use Rattle.crq_base.specs.declared.event.Event.{Event}
 use Rattle.crq_rule.specs.declared.view.Guard.{Guard}
 use Rattle.crq_rule.specs.declared.view.Tick.{Tick}
 use Rattle.crq_rule.specs.declared.view.CutRow.{CutRow}
+use Rattle.crq_rule.specs.declared.view.Base.{Base}
 use Rattle.crq_rule.specs.declared.view.Position.{Position}
 use Rattle.crq_rule.specs.declared.view.Made.{Made}
 use Rattle.crq_rule.specs.declared.view.Walk.{Walk}
@@ -10,11 +12,12 @@ use Rattle.crq_rule.specs.Core.{Core, Holding}
 use Rattle.crq_rule.specs.Parts.{Reading, Guards, Holders, Cutting, Stamps, Cover}
 use Rattle.crq_rule.specs.ListParts.{Marks, Standing, Lanes, Writing, Naming}
 use Rattle.crq_rule.specs.HistoryParts.{Carriers, Walkers}
+use Rattle.crq_rule.specs.ScarceParts.{Scarce, Refusals}
 use Rattle.crq_rule.specs.Invariant.{Inv}
 use Rattle.crq_rule.specs.Kinds.{after_made}
 
--- the epoch word, announcements, guards, ticks, epochs read, tags, positions and walks
-pub frame_guards : (c : Core) (e : ℕ) (announced : ℕ → ℕ) (epochs : ℕ → List ℕ) (guard : ℕ → Guard) (tick : ℕ → Tick) (cut : ℕ → Option CutRow) (position : ℕ → Position) (walk : ℕ → Option Walk) → Inv c
+-- the epoch word, announcements, guards, ticks, epochs read, tags, bases, positions and walks
+pub frame_guards : (c : Core) (e : ℕ) (announced : ℕ → ℕ) (epochs : ℕ → List ℕ) (guard : ℕ → Guard) (tick : ℕ → Tick) (cut : ℕ → Option CutRow) (base : ℕ → Option Base) (position : ℕ → Position) (walk : ℕ → Option Walk) → Inv c
     → Reading c.start.layout.workers e c.words.current c.words.control epochs tick cut c.found
     → Guards c.start.layout.workers e announced guard tick
     → Holders c.start.layout c.hand cut c.chain c.holding
@@ -24,8 +27,9 @@ pub frame_guards : (c : Core) (e : ℕ) (announced : ℕ → ℕ) (epochs : ℕ 
     → Standing c.start.layout.workers c.words.link c.words.event position
     → Lanes c.start.layout c.words.control c.words.link c.words.twin c.words.event guard position c.debts
     → Walkers c.start.layout c.words.control c.history c.begun c.words.link c.words.twin c.words.event c.holding position walk
-    → Inv (record c { words = record c.words { epoch = e; announced = announced }; epochs = epochs; guard = guard; tick = tick; cut = cut; position = position; walk = walk })
-frame_guards c e announced epochs guard tick cut position walk inv reading guards holders cutting stamps cover standing lanes walkers = record {
+    → Scarce c.start.layout e c.history base guard c.holding
+    → Inv (record c { words = record c.words { epoch = e; announced = announced }; epochs = epochs; guard = guard; tick = tick; cut = cut; base = base; position = position; walk = walk })
+frame_guards c e announced epochs guard tick cut base position walk inv reading guards holders cutting stamps cover standing lanes walkers scarce = record {
   spelled = inv.spelled;
   reading = reading;
   guards = guards;
@@ -44,10 +48,12 @@ frame_guards c e announced epochs guard tick cut position walk inv reading guard
   carriers = inv.carriers;
   told = inv.told;
   walkers = walkers;
+  scarce = scarce;
+  refusals = inv.refusals;
 }
 
--- stamps, rows in hand, rows looked at, cut rows and holders
-pub frame_rows : (c : Core) (stamp : ℕ → ℕ) (hand : ℕ → List ℕ) (ripening : ℕ → List (ℕ × ℕ)) (cut : ℕ → Option CutRow) (holding : ℕ → Holding) → Inv c
+-- stamps, rows in hand, rows looked at, cut rows, bases, refusals and holders
+pub frame_rows : (c : Core) (stamp : ℕ → ℕ) (hand : ℕ → List ℕ) (ripening : ℕ → List (ℕ × ℕ)) (cut : ℕ → Option CutRow) (base : ℕ → Option Base) (refused : ℕ → List Event) (holding : ℕ → Holding) → Inv c
     → Reading c.start.layout.workers c.words.epoch c.words.current c.words.control c.epochs c.tick cut c.found
     → Holders c.start.layout hand cut c.chain holding
     → Cutting c.start.layout.workers c.guard cut
@@ -58,8 +64,10 @@ pub frame_rows : (c : Core) (stamp : ℕ → ℕ) (hand : ℕ → List ℕ) (rip
     → Naming c.start.layout c.words.control c.words.link c.words.event c.debts holding
     → Carriers c.start.layout c.history c.words.link c.words.event holding
     → Walkers c.start.layout c.words.control c.history c.begun c.words.link c.words.twin c.words.event holding c.position c.walk
-    → Inv (record c { words = record c.words { stamp = stamp }; hand = hand; ripening = ripening; cut = cut; holding = holding })
-frame_rows c stamp hand ripening cut holding inv reading holders cutting stamps cover marks writing naming carriers walkers = record {
+    → Scarce c.start.layout c.words.epoch c.history base c.guard holding
+    → Refusals c.start.layout.workers c.history refused
+    → Inv (record c { words = record c.words { stamp = stamp }; hand = hand; ripening = ripening; cut = cut; base = base; refused = refused; holding = holding })
+frame_rows c stamp hand ripening cut base refused holding inv reading holders cutting stamps cover marks writing naming carriers walkers scarce refusals = record {
   spelled = inv.spelled;
   reading = reading;
   guards = inv.guards;
@@ -78,6 +86,8 @@ frame_rows c stamp hand ripening cut holding inv reading holders cutting stamps 
   carriers = carriers;
   told = inv.told;
   walkers = walkers;
+  scarce = scarce;
+  refusals = refusals;
 }
 
 -- the list of steps made, which no part reads
@@ -101,4 +111,6 @@ frame_made c j m inv = record {
   carriers = inv.carriers;
   told = inv.told;
   walkers = inv.walkers;
+  scarce = inv.scarce;
+  refusals = inv.refusals;
 }

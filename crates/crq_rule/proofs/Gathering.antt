@@ -16,6 +16,7 @@ use Rattle.crq_rule.specs.declared.view.View.{View}
 use Rattle.crq_rule.specs.Lists.{In}
 use Rattle.crq_rule.specs.Core.{Core, caller_of}
 use Rattle.crq_rule.specs.HistoryParts.{Told}
+use Rattle.crq_rule.specs.ScarceParts.{AreCounted}
 use Rattle.crq_rule.specs.Invariant.{Inv}
 use Rattle.crq_rule.specs.Rule.{IsWords, Carries, Stands}
 use Rattle.crq_rule.specs.Deals.{HasAll, settled_part, dealt_again, Gathered, spanned_part, spans, IsSilent}
@@ -45,6 +46,8 @@ redealt_keeps c deal own told inv = record {
   carriers = inv.carriers;
   told = told;
   walkers = inv.walkers;
+  scarce = inv.scarce;
+  refusals = inv.refusals;
 }
 
 -- entries don't end in a Begin where there are none
@@ -137,6 +140,7 @@ gathers key slots id me all s h _ at _ = let c = h.core in let told = h.kept.tol
       legal = told.legal;
       settled = told.settled;
       each = λ k p f. let old = h.views id k me.0 p at f in (told.extends ∙ ap (λ (p : Caller). p.deal.history ++ told.since) (sym old.is), told.each p.number old.inside ∙ ap (λ (p : Caller). p.own) (sym old.is));
+      counted = λ k p f. let old = h.views id k me.0 p at f in subst (AreCounted c.history p.number) (ap (λ (p : Caller). p.refused) (sym old.is)) (h.kept.refusals.each p.number old.inside);
       inside = λ k p e f i. let old = h.views id k me.0 p at f in subst (λ (p : Caller). whose e < p.start.layout.workers) (sym old.is) (told.inside e i);
     },
     refl,

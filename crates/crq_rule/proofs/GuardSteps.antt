@@ -1,5 +1,5 @@
 -- What a step function asks of each kind on guards and epochs.
-use Rattle.std.proofs.Common.{◌≡◌, ℕ, ◌+◌, ◌^◌, ◌<◌, List, ◌∷◌, None, cond, get_or, set, eqb, sym, refl, ap, ◌∙◌, subst, arith, eq-eqb, ne_eqb}
+use Rattle.std.proofs.Common.{◌≡◌, ℕ, ◌+◌, ◌^◌, ◌<◌, List, ◌∷◌, length, Option, Some, None, cond, get_or, set, eqb, sym, refl, ap, ◌∙◌, subst, arith, eq-eqb, ne_eqb}
 use mathlib.Core.Logic.{dite}
 use native.Mathlib.Decide.{ℕ_discrete}
 use lib.Seq.{set-get_or}
@@ -13,11 +13,13 @@ use Rattle.crq_rule.specs.Lists.{In}
 use Rattle.crq_rule.specs.Places.{index, epoch, announced, Shows}
 use Rattle.crq_rule.specs.Core.{Core, caller_of}
 use Rattle.crq_rule.specs.Invariant.{Inv}
-use Rattle.crq_rule.specs.Kinds.{loads_epoch, enters, confirms, leaves, scans, ticks, tagged, new_tick, nowhere, HasScanned}
-use Rattle.crq_rule.specs.Rule.{IsWords, Moves, quiet, TellsEpoch, TellsLow, word_after}
+use Rattle.crq_rule.specs.declared.view.Base.{Base}
+use Rattle.crq_rule.specs.ScarceParts.{pending}
+use Rattle.crq_rule.specs.Kinds.{loads_epoch, loads_based, new_base, enters, confirms, leaves, scans, ticks, tagged, new_tick, nowhere, HasScanned}
+use Rattle.crq_rule.specs.Rule.{IsWords, Moves, MovesBy, quiet, TellsEpoch, BeginsRecovery, TellsLow, word_after}
 use Rattle.crq_rule.proofs.Puts.{put_here}
 use Rattle.crq_rule.proofs.Placing.{epoch_set, announced_set}
-use Rattle.crq_rule.specs.Steps.{After, epoch_load, enter, confirm, leave, scan, tick, tick_fails}
+use Rattle.crq_rule.specs.Steps.{After, epoch_load, recovery_load, enter, confirm, leave, scan, tick, tick_fails}
 
 -- a load changes no word
 pub same_words : (key : Start) (c c' : Core) (ws : List ℕ) (w : ℕ) → c'.start ≡ c.start → c'.words ≡ c.words → IsWords key c ws → IsWords key c' (set ws w (get_or ws w 0))
@@ -46,6 +48,21 @@ module _ (key : Start) (p : Caller) where
     (λ i. loads_epoch (at i) (is i))
         ∙ (λ i. record (caller_of c j) { epochs = sym (put_here c.epochs j (e ∷ c.epochs j)) i; tick = sym (put_here c.tick j (new_tick e)) i; cut = sym (put_here c.cut j (tagged e (c.cut j))) i }),
     told c ws inv words b is,
+  )
+
+  pub recovery_moves : MovesBy EpochLoad key p (index key.layout epoch) (λ n. n) BeginsRecovery
+  recovery_moves c ws inv words b is = let e = c.words.epoch in let at = words.shows.each epoch tt in let base : Option Base = Some (new_base (length c.history) (pending c.history) e) in (
+    recovery_load,
+    refl,
+    tt,
+    same_words key c (After recovery_load c j) ws (index key.layout epoch) refl refl words,
+    record {
+      place = length c.history;
+      events = pending c.history;
+      after = (λ i. loads_based (Some (new_base (length c.history) (pending c.history) (at i))) (at i) (is i))
+          ∙ (λ i. record (caller_of c j) { epochs = sym (put_here c.epochs j (e ∷ c.epochs j)) i; tick = sym (put_here c.tick j (new_tick e)) i; cut = sym (put_here c.cut j (tagged e (c.cut j))) i; base = sym (put_here c.base j base) i });
+      told = told c ws inv words b is;
+    },
   )
 
   pub enter_moves : (e : ℕ) → p.guard ≡ Off → In e p.epochs → Moves Enter key p (index key.layout (announced j)) (λ _. word_after e) (λ _. enters e) (λ _. TellsLow e 0)

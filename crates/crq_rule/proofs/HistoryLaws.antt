@@ -74,7 +74,7 @@ none_own j k (x ∷ es) ne h = (λ i. cond (ne_eqb (whose x) k (λ q. ne (sym q 
 -- Legal histories
 
 -- what each entry keeps holds of a legal history
-by_legal : (P : List Entry → Type 0) → ((h : List Entry) (x : Entry) → P h → MayFollow h x → P (h ++ x ∷ [])) → (h es : List Entry) → IsLegalAfter h es → P h → P (h ++ es)
+pub by_legal : (P : List Entry → Type 0) → ((h : List Entry) (x : Entry) → P h → MayFollow h x → P (h ++ x ∷ [])) → (h es : List Entry) → IsLegalAfter h es → P h → P (h ++ es)
 by_legal P step h [] l p = subst P (sym (append-nil h)) p
 by_legal P step h (x ∷ es) l p = subst P (append_assoc h (x ∷ []) es) (by_legal P step (h ++ x ∷ []) es l.1 (step h x p l.0))
 

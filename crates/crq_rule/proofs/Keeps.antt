@@ -1,5 +1,5 @@
 -- Each step of each kind keeps the invariant, changes what its own caller knows alone, and one word at most.
-use Rattle.std.proofs.Common.{◌≡◌, ◌≢◌, ℕ, ◌+◌, ◌*◌, ◌^◌, ◌<◌, Bool, [], ◌∷◌, ◌++◌, Option, None, Some, sym, refl, ap, append-nil}
+use Rattle.std.proofs.Common.{◌≡◌, ◌≢◌, ℕ, ◌+◌, ◌*◌, ◌^◌, ◌<◌, Bool, [], ◌∷◌, ◌++◌, length, Option, None, Some, sym, refl, ap, append-nil}
 use Rattle.crq_base.specs.declared.event.Event.{Event}
 use Rattle.crq_base.specs.declared.entry.Entry.TheVariants.{Begin, Take, Miss}
 use Rattle.crq_base.specs.declared.words.Link.{Link}
@@ -14,12 +14,13 @@ use Rattle.crq_rule.specs.Lists.{put, without}
 use Rattle.crq_rule.specs.Places.{Words, Place, epoch, announced, head, link as link_place, stamp, twin, time, source, sequence, load, word_of}
 use Rattle.crq_rule.specs.Core.{Core, caller_of}
 use Rattle.crq_rule.specs.Invariant.{Inv}
-use Rattle.crq_rule.specs.Kinds.{tagged, new_tick, nowhere, seen_stamp}
+use Rattle.crq_rule.specs.ScarceParts.{pending}
+use Rattle.crq_rule.specs.Kinds.{tagged, new_base, new_tick, nowhere, seen_stamp, base_looked, refused_after}
 use Rattle.crq_rule.specs.Ranks.{Cell, at_head, at_row, cell_place, link_at, heads_set, links_set}
 use Rattle.crq_rule.specs.ListKinds.{Content, new_link, no_twin, new_time, new_source, new_sequence, new_load, content_number, content_word, row_place, wrote, link_after, twin_after, event_after, put_entries, cut_debt, unhanded, forgotten, without_stand, unnamed, stands_after, walk_after, relieved}
-use Rattle.crq_rule.specs.Steps.{Kind, split, join, epoch_load, enter, confirm, leave, scan, tick, tick_fails, retire, look, claim, write, read, walk, link, link_fails, control_load, begin, mark, mark_fails, cut, cut_fails, miss, May, After, place_of, entries_of}
+use Rattle.crq_rule.specs.Steps.{Kind, split, join, epoch_load, recovery_load, enter, confirm, leave, scan, tick, tick_fails, retire, look, claim, write, read, walk, link, link_fails, control_load, begin, mark, mark_fails, cut, cut_fails, miss, May, After, place_of, entries_of}
 use Rattle.crq_rule.proofs.Puts.{put_else, put_through}
-use Rattle.crq_rule.proofs.GuardLaws.{load_keeps, enter_keeps, confirm_keeps, leave_keeps, scan_keeps, tick_keeps, tick_fails_keeps}
+use Rattle.crq_rule.proofs.GuardLaws.{load_keeps, recovery_keeps, enter_keeps, confirm_keeps, leave_keeps, scan_keeps, tick_keeps, tick_fails_keeps}
 use Rattle.crq_rule.proofs.RowLaws.{retire_keeps, look_keeps, claim_keeps}
 use Rattle.crq_rule.proofs.WriteLaws.{write_keeps}
 use Rattle.crq_rule.proofs.WalkLaws.{walk_keeps}
@@ -32,6 +33,7 @@ pub keeps : (k : Kind) (c : Core) (j : ℕ) → j < c.start.layout.workers → M
 keeps split c j b may inv = inv
 keeps join c j b may inv = inv
 keeps epoch_load c j b may inv = load_keeps c j b inv
+keeps recovery_load c j b may inv = recovery_keeps c j b inv
 keeps (enter e) c j b may inv = enter_keeps c j e b may.0 may.1 inv
 keeps confirm c j b may inv = confirm_keeps c j may.0 b may.1 inv
 keeps leave c j b may inv = leave_keeps c j b may.0 may.1 inv
@@ -73,6 +75,12 @@ others_stay epoch_load c j i ne = λ x. record (caller_of c i) {
   tick = put_else c.tick j (new_tick c.words.epoch) i ne x;
   cut = put_else c.cut j (tagged c.words.epoch (c.cut j)) i ne x;
 }
+others_stay recovery_load c j i ne = λ x. record (caller_of c i) {
+  epochs = put_else c.epochs j (c.words.epoch ∷ c.epochs j) i ne x;
+  tick = put_else c.tick j (new_tick c.words.epoch) i ne x;
+  cut = put_else c.cut j (tagged c.words.epoch (c.cut j)) i ne x;
+  base = put_else c.base j (Some (new_base (length c.history) (pending c.history) c.words.epoch)) i ne x;
+}
 others_stay (enter e) c j i ne = λ x. record (caller_of c i) { guard = put_else c.guard j (Entering e) i ne x }
 others_stay confirm c j i ne = λ x. record (caller_of c i) { epochs = put_else c.epochs j (c.words.epoch ∷ c.epochs j) i ne x; guard = put_else c.guard j (On c.words.epoch) i ne x }
 others_stay leave c j i ne = λ x. record (caller_of c i) { guard = put_else c.guard j Off i ne x; position = put_else c.position j nowhere i ne x; walk = put_else c.walk j None i ne x }
@@ -80,7 +88,11 @@ others_stay (scan k) c j i ne = λ x. record (caller_of c i) { tick = put_else c
 others_stay (tick z) c j i ne = λ x. record (caller_of c i) { epochs = put_else c.epochs j ((z + 1) ∷ c.epochs j) i ne x; tick = put_else c.tick j (new_tick 0) i ne x }
 others_stay (tick_fails z) c j i ne = λ x. record (caller_of c i) { epochs = put_else c.epochs j (c.words.epoch ∷ c.epochs j) i ne x; tick = put_else c.tick j (new_tick 0) i ne x }
 others_stay (retire r t) c j i ne = λ x. record (caller_of c i) { cut = put_else c.cut j None i ne x }
-others_stay (look r) c j i ne = λ x. record (caller_of c i) { ripening = put_else c.ripening j (seen_stamp r (c.words.stamp r) (c.ripening j)) i ne x }
+others_stay (look r) c j i ne = λ x. record (caller_of c i) {
+  ripening = put_else c.ripening j (seen_stamp r (c.words.stamp r) (c.ripening j)) i ne x;
+  base = put_else c.base j (base_looked c j r) i ne x;
+  refused = put_else c.refused j (refused_after c.start.layout.home (c.hand j) (base_looked c j r) (c.refused j)) i ne x;
+}
 others_stay (claim r e) c j i ne = λ x. record (caller_of c i) { hand = put_else c.hand j (c.hand j ++ r ∷ []) i ne x; ripening = put_else c.ripening j (without r (c.ripening j)) i ne x }
 others_stay (write r x) c j i ne = λ y. record (caller_of c i) { written = put_else c.written j (wrote r (content_number x) (content_word x) (c.written j)) i ne y }
 others_stay (read r p) c j i ne = refl
@@ -92,12 +104,15 @@ others_stay (walk cell seeks) c j i ne = λ x. record (caller_of c i) {
 others_stay (link cell l r e) c j i ne = λ x. record (caller_of c i) {
   own = put_else c.own j (c.own j ++ put_entries j e) i ne x;
   hand = put_else c.hand j (unhanded r (c.hand j)) i ne x;
+  base = put_else c.base j None i ne x;
   written = put_else c.written j (forgotten r (c.written j)) i ne x;
 }
 others_stay (link_fails cell) c j i ne = refl
 others_stay control_load c j i ne = λ x. record (caller_of c i) { found = put_else c.found j (record (c.found j) { control = Some c.words.control }) i ne x }
 others_stay begin c j i ne = λ x. record (caller_of c i) {
   own = put_else c.own j (c.own j ++ Begin j ∷ []) i ne x;
+  base = put_else c.base j None i ne x;
+  refused = put_else c.refused j [] i ne x;
   walk = put_else c.walk j None i ne x;
   found = put_else c.found j (record (c.found j) { control = Some c.words.control }) i ne x;
 }

@@ -13,6 +13,8 @@ pub mod WithoutLaws
 pub mod CutLaws
 pub mod MarkLaws
 pub mod HistoryLaws
+pub mod Pendings
+pub mod ScarceLaws
 pub mod SearchLaws
 pub mod CallLaws
 pub mod ListOpening
@@ -30,4 +32,5 @@ pub mod ListSteps
 pub mod Openings
 pub mod Stating
 pub mod StatingLists
+pub mod StatingScarcity
 pub mod Witnessing

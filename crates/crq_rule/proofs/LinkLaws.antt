@@ -1,9 +1,10 @@
 -- A row in hand that comes after a cell of its list keeps the invariant.
-use Rattle.std.proofs.Common.{◌≡◌, ◌≢◌, ◌⊎◌, ⊎_elim, inl, inr, ℕ, ◌+◌, ◌*◌, ◌^◌, ◌<◌, ◌≤◌, List, [], ◌∷◌, ◌++◌, cond, Some, sym, refl, ap, ◌∙◌, subst, arith, eq-eqb, ne_eqb}
+use Rattle.std.proofs.Common.{◌≡◌, ◌≢◌, ◌⊎◌, ⊎_elim, inl, inr, ℕ, ◌+◌, ◌*◌, ◌^◌, ◌<◌, ◌≤◌, List, [], ◌∷◌, ◌++◌, cond, Some, le_refl, sym, refl, ap, ◌∙◌, subst, arith, eq-eqb, ne_eqb}
 use Rattle.std.specs.Prelude.{Contains}
 use mathlib.Core.Logic.{dite}
 use native.Mathlib.Decide.{ℕ_discrete}
 use Rattle.crq_base.specs.declared.event.Event.{Event}
+use Rattle.crq_base.specs.declared.entry.Entry.TheVariants.{Begin, Put, Settled}
 use Rattle.crq_base.specs.declared.words.Link.{Link}
 use Rattle.crq_base.specs.declared.words.Mark.{Mark}
 use Rattle.crq_base.specs.declared.words.Mark.TheVariants.{Val, Mov, Del}
@@ -25,8 +26,9 @@ use Rattle.crq_rule.specs.Ranks.{rank, head_of, IsOpen, Cell, at_head, at_row, l
 use Rattle.crq_rule.specs.Invariant.{Inv}
 use Rattle.crq_rule.specs.ListKinds.{unhanded, forgotten, put_entries, linked, StandsOn, ComesAfter, MayLink}
 use Rattle.crq_rule.proofs.Puts.{put_here, put_else, put_all}
-use Rattle.crq_rule.proofs.PartLaws.{home_is_row, sort, of_whom, apart}
+use Rattle.crq_rule.proofs.PartLaws.{home_is_row, one_home, sort, of_whom, apart}
 use Rattle.crq_rule.proofs.HistoryLaws.{fresh_put, told_put, pending_put, put_pending, outs_put, not_out, front_of}
+use Rattle.crq_rule.proofs.ScarceLaws.{base_lasts, base_grown, lasts_held, scarce_drop, refusals_grown}
 use Rattle.crq_rule.proofs.ChainLaws.{IsOf, IsBelow, cell_leads, cell_rises, in_cell, cell_in, cell_next, leads_else, links_else, heads_else, links_same, heads_same, links_all, heads_all}
 
 -- Lists
@@ -516,6 +518,10 @@ module _ (c : Core) (j : ℕ) (cell : Cell) (l : Link) (r : ℕ) (e : Event) whe
           };
     }
 
+-- no entry of a put is a Begin
+no_begin : (j : ℕ) (e : Event) (k : ℕ) → In (Begin k) (put_entries j e) → ⊥
+no_begin j e k i = ⊎_elim (λ (q : Begin k ≡ Put j e). cc) (λ t. ⊎_elim (λ (q : Begin k ≡ Settled j e). cc) (λ n. n) t) i
+
 -- Link keeps the invariant
 pub link_keeps : (c : Core) (j : ℕ) (cell : Cell) (l : Link) (r : ℕ) (e : Event) → j < c.start.layout.workers → MayLink c.start.layout.workers c.words.control cell l r e (caller_of c j) → link_at c.words.head c.words.link cell ≡ l → Inv c → Inv (linked c j cell l r e)
 link_keeps c j cell l r e b may is inv = let f = known c j cell l r e b may is inv in record {
@@ -537,4 +543,8 @@ link_keeps c j cell l r e b may is inv = let f = known c j cell l r e b may is i
   carriers = carriers_after c j cell l r e f inv (fresh_put c.start.layout.workers c.history c.deal c.own c.begun j e b may.fresh inv.told);
   told = told_put c.start.layout.workers c.history c.deal c.own c.begun j e b may.fresh inv.told;
   walkers = walkers_after c j cell l r e f inv;
+  scarce = let home = (inv.holders.held j r b may.in_hand_is).0 in scarce_drop _ _ _ _ _ _ _ _ j
+      (λ k x _ ne old. base_grown _ _ _ (put_entries j e) _ _ k x (no_begin j e k) (base_lasts _ _ _ _ _ _ _ _ k x (le_refl _)
+      (lasts_held _ _ _ _ r (listed (head_of c.words.control e)) k (λ _ here _. absurd (ne (one_home c.start.layout k j r here home))) (λ _ _ _ _. inr tt)) old)) inv.scarce;
+  refusals = refusals_grown _ _ _ _ (λ k. no_begin j e k) inv.refusals;
 }

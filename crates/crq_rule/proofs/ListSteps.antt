@@ -209,6 +209,7 @@ module _ (key : Start) (p : Caller) where
       (λ i. record (caller_of c j) {
         own = sym (put_here c.own j (c.own j ++ put_entries j e)) i;
         hand = sym (put_here c.hand j (unhanded r (c.hand j))) i;
+        base = sym (put_here c.base j None) i;
         written = sym (put_here c.written j (forgotten r (c.written j))) i;
       }))
       (λ apart. lost LinkKind (link_fails cell) w (link_word l) (link_word new) (links r e) refl (λ _. tt) (λ _. refl) c ws words is apart)
@@ -278,6 +279,8 @@ module _ (key : Start) (p : Caller) where
     same_words key c (After begin c j) ws (index key.layout control) refl refl words,
     control_found begin begins c ws inv words is (λ i. record (caller_of c j) {
       own = sym (put_here c.own j (c.own j ++ BeginEntry j ∷ [])) i;
+      base = sym (put_here c.base j None) i;
+      refused = sym (put_here c.refused j []) i;
       walk = sym (put_here c.walk j None) i;
       found = sym (put_here c.found j (record (c.found j) { control = Some c.words.control })) i;
     }),

@@ -34,10 +34,14 @@ use Rattle.crq_rule.proofs.Puts.{put_here, put_else, put_all}
 use Rattle.crq_rule.proofs.PartLaws.{apart}
 use Rattle.crq_rule.proofs.HistoryLaws.{told_other, out_later}
 use Rattle.crq_rule.proofs.CallLaws.{walkers_entry}
+use Rattle.crq_rule.proofs.ScarceLaws.{scarce_grown, refusals_grown}
 use Rattle.crq_rule.proofs.SearchLaws.{stand_covered, stand_row, left_beyond, beyond_key}
 
 take_begin : (j k : ℕ) (e : Event) → Take j e ≡ Begin k → ⊥
 take_begin j k e q = cc
+
+no_begin : (j : ℕ) (e : Event) (k : ℕ) → In (Begin k) (Take j e ∷ []) → ⊥
+no_begin j e k i = ⊎_elim (λ (q : Begin k ≡ Take j e). take_begin j k e (sym q)) (λ n. n) i
 
 del_val : Del ≡ Val → ⊥
 del_val e = cc
@@ -259,6 +263,8 @@ mark_keeps c j r e b may val inv = let l = c.start.layout in let x = c.words.con
   carriers = carriers_dead l x k t v h r _ j e is live inv.carriers;
   told = told_other _ _ _ _ _ j (Take j e) b (take_legal c j r e b may pending is inv) refl refl (λ k. take_begin j k e) inv.told;
   walkers = walkers_entry _ _ _ _ c.begun _ _ _ _ _ _ _ j (Take j e) inv.told.begun_low (λ _ _. refl) (stands_dead l x k t v h r c.history j e is) inv.walkers;
+  scarce = scarce_grown _ _ _ _ _ _ _ (λ k. no_begin j e k) inv.scarce;
+  refusals = refusals_grown _ _ _ _ (λ k. no_begin j e k) inv.refusals;
 }
   where
     at : (s : Stand) × In s (c.position j).rows × (s.row ≡ r) × (s.event ≡ e)

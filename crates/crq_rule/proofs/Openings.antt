@@ -34,6 +34,8 @@ use Rattle.crq_rule.specs.Opening.{opening_words, opening_head, open_head, shut_
 use Rattle.crq_rule.proofs.Placing.{shows_set, within, epoch_set, control_set, current_set}
 use Rattle.crq_rule.proofs.PartLaws.{one_home, sort, of_whom}
 use Rattle.crq_rule.proofs.HolderLaws.{none_some}
+use Rattle.crq_rule.proofs.Pendings.{none_counted}
+use Rattle.crq_rule.proofs.ScarceLaws.{none_base}
 use Rattle.crq_rule.proofs.ListOpening.{off_on, opening_heads, opening_sorted, opening_marks, opening_standing, opening_lanes, opening_writing, opening_naming, opening_carriers, opening_told, opening_walkers}
 
 -- Words
@@ -162,7 +164,7 @@ opening_inv s first = let top = first.upto in let low = first.epoch in record {
   };
   guards = record { each = λ _ _. refl; passed = λ k j a _ _ i _. tt };
   holders = opening_holders s;
-  cutting = record { on = λ j x _ is. absurd (none_some x is) };
+  cutting = record { on = λ j x _ is. absurd (none_some x is); tags = λ j t g x _ is _ _. absurd (none_some x is) };
   stamps = record { shown = λ _ _. refl; tag = λ r t _ is. absurd (let z : 0 ≡ 3 = ap sort is in omega arith); ripe = λ j r t _ i. absurd i };
   chains = record { leads = λ q _. heads_empty (leb (first_head_of s.first.generation) q && ltb q (first_head_of s.first.generation + 1)); twins = λ q r _ i. absurd i };
   cover = record { free = λ k g r j v _. off_on g v.on; tags = λ k g r t v _. absurd (off_on g v.on); resting = λ _ _ _. refl };
@@ -176,6 +178,8 @@ opening_inv s first = let top = first.upto in let low = first.epoch in record {
   carriers = opening_carriers s first;
   told = opening_told s first;
   walkers = opening_walkers s first;
+  scarce = record { each = λ k b _ is. absurd (none_base b is) };
+  refusals = record { each = λ k _. none_counted [] k };
 }
   where
     heads_empty : (t : Bool) → (cond t (open_head s.first.generation) shut_head).row ≡ 0

@@ -126,12 +126,18 @@ announced_low e a (On y) is = let p = is.1 in let q = is.2 in omega arith
 
 module _ (n : ℕ) (guard : ℕ → Guard) (cut : ℕ → Option CutRow) where
   -- a caller that cut nothing changes its guard
-  pub cutting_guard : (j : ℕ) (g : Guard) → ((x : CutRow) → j < n → cut j ≡ Some x → IsOn g) → Cutting n guard cut → Cutting n (put guard j g) cut
-  cutting_guard j g on old = record { on = λ k x. put_all guard j g (λ i h. i < n → cut i ≡ Some x → IsOn h) (on x) (λ i _. old.on i x) k }
+  pub cutting_guard : (j : ℕ) (g : Guard) → ((x : CutRow) → j < n → cut j ≡ Some x → ⊥) → Cutting n guard cut → Cutting n (put guard j g) cut
+  cutting_guard j g none old = record {
+    on = λ k x. put_all guard j g (λ i h. i < n → cut i ≡ Some x → IsOn h) (λ b is. absurd (none x b is)) (λ i _. old.on i x) k;
+    tags = λ k t f x. put_all guard j g (λ i h. i < n → cut i ≡ Some x → h ≡ On f → In t x.tags → f ≤ t) (λ b is. absurd (none x b is)) (λ i _. old.tags i t f x) k;
+  }
 
   -- a caller changes what it knows of the row that it cut
-  pub cutting_cut : (j : ℕ) (o : Option CutRow) → ((x : CutRow) → j < n → o ≡ Some x → IsOn (guard j)) → Cutting n guard cut → Cutting n guard (put cut j o)
-  cutting_cut j o on old = record { on = λ k x. put_all cut j o (λ i o. i < n → o ≡ Some x → IsOn (guard i)) (on x) (λ i _. old.on i x) k }
+  pub cutting_cut : (j : ℕ) (o : Option CutRow) → ((x : CutRow) → j < n → o ≡ Some x → IsOn (guard j)) → ((t f : ℕ) (x : CutRow) → j < n → o ≡ Some x → guard j ≡ On f → In t x.tags → f ≤ t) → Cutting n guard cut → Cutting n guard (put cut j o)
+  cutting_cut j o on tags old = record {
+    on = λ k x. put_all cut j o (λ i o. i < n → o ≡ Some x → IsOn (guard i)) (on x) (λ i _. old.on i x) k;
+    tags = λ k t f x. put_all cut j o (λ i o. i < n → o ≡ Some x → guard i ≡ On f → In t x.tags → f ≤ t) (tags t f x) (λ i _. old.tags i t f x) k;
+  }
 
 -- a row whose stamp is above 0 is retired
 pub retired_from : (h : Holding) (t : ℕ) → stamp_of h ≡ suc t → h ≡ retired t

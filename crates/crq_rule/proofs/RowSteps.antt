@@ -8,7 +8,7 @@ use Rattle.crq_rule.specs.Lists.{put, In, without}
 use Rattle.crq_rule.specs.Places.{index, stamp, IsRow, IsHomeRow, Shows}
 use Rattle.crq_rule.specs.Core.{Core, caller_of}
 use Rattle.crq_rule.specs.Invariant.{Inv}
-use Rattle.crq_rule.specs.Kinds.{retires, looks, claims, claimed, seen_stamp, MayRetire, IsRipe}
+use Rattle.crq_rule.specs.Kinds.{retires, looks, claims, claimed, seen_stamp, base_looked, refused_after, MayRetire, IsRipe}
 use Rattle.crq_rule.specs.Rule.{Moves, quiet, TellsRoom, TellsLow, word_after}
 use Rattle.crq_rule.proofs.Puts.{put_here}
 use Rattle.crq_rule.proofs.Placing.{stamp_set}
@@ -38,7 +38,11 @@ module _ (key : Start) (p : Caller) where
     refl,
     subst (λ (z : Start). IsHomeRow z.layout j r) (sym words.start) home,
     same_words key c (After (look r) c j) ws (index key.layout (stamp r)) refl refl words,
-    (λ i. looks r (at i) (is i)) ∙ (λ i. record (caller_of c j) { ripening = sym (put_here c.ripening j more) i }),
+    (λ i. looks r (at i) (is i)) ∙ (λ i. record (caller_of c j) {
+      ripening = sym (put_here c.ripening j more) i;
+      base = sym (put_here c.base j (base_looked c j r)) i;
+      refused = sym (put_here c.refused j (refused_after c.start.layout.home (c.hand j) (base_looked c j r) (c.refused j))) i;
+    }),
     tt,
   )
 

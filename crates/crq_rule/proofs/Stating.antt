@@ -71,6 +71,7 @@ module _ (c : Core) (inv : Inv c) where
     once = inv.holders.once;
     lists = inv.chains.leads;
     cutters = inv.cutting.on;
+    tags = inv.cutting.tags;
   }
 
   -- 3. Guards

@@ -361,6 +361,8 @@ walk_keeps c j cell seeks b is_on may seek inv = record {
   };
   carriers = inv.carriers;
   told = inv.told;
+  scarce = inv.scarce;
+  refusals = inv.refusals;
   walkers = record {
     opened = λ k w. put_all c.walk j (new_walk c j cell seeks) (λ k o. k < c.start.layout.workers → o ≡ Some w → IsHead w.head × IsOpen c.words.control w.head) (λ _ is. (fits w is).opened) (λ k _. inv.walkers.opened k w) k;
     at_stand = λ k w. put_all c.walk j (new_walk c j cell seeks) (λ k o. k < c.start.layout.workers → o ≡ Some w → (w.at ≡ 0) ⊎ In w.at (rows_of (put c.position j (new_position c j cell seeks) k).rows))

@@ -34,6 +34,8 @@ use Rattle.crq_rule.specs.Stated.{Witness, IsCovered}
 use Rattle.crq_rule.proofs.Puts.{put_here, put_else, put_all}
 use Rattle.crq_rule.proofs.PartLaws.{sort, of_whom}
 use Rattle.crq_rule.proofs.HolderLaws.{none_some, some_some}
+use Rattle.crq_rule.proofs.Pendings.{none_counted}
+use Rattle.crq_rule.proofs.ScarceLaws.{none_base}
 use Rattle.crq_rule.proofs.ListOpening.{no_walk}
 use Rattle.crq_rule.proofs.Openings.{rows_in, in_rows, rows_once, opening_link, opening_inv}
 
@@ -300,7 +302,7 @@ core_inv = record {
   };
   guards = record { each = λ _ _. (omega arith, omega arith, omega arith, omega arith); passed = λ k j a _ _ i _. absurd i };
   holders = holders;
-  cutting = record { on = λ _ _ _ _. tt };
+  cutting = record { on = λ _ _ _ _. tt; tags = λ j t g x _ _ on _. let z = on_on g on in omega arith };
   stamps = stamps;
   chains = record {
     leads = λ p b. dite (ℕ_discrete p q)
@@ -324,6 +326,8 @@ core_inv = record {
   carriers = carriers;
   told = told;
   walkers = record { opened = old.walkers.opened; at_stand = λ k w b at. absurd (no_walk w at); left = λ k w _ _ _ _ at _ _ _ _ _. absurd (no_walk w at) };
+  scarce = record { each = λ k b _ is. absurd (none_base b is) };
+  refusals = record { each = λ k _. none_counted entries k };
 }
 
 pub witness : Witness core

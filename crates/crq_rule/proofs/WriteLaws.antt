@@ -302,6 +302,8 @@ module _ (c : Core) (j r : ℕ) (x : Content) (b : j < c.start.layout.workers) (
       one = λ s t live live' e. inv.carriers.one s t (live_old s live) (live_old t live') (sym (live_event s (live_old s live)) ∙ (e ∙ live_event t (live_old t live')));
     };
     told = inv.told;
+    scarce = inv.scarce;
+    refusals = inv.refusals;
     walkers = record {
       opened = inv.walkers.opened;
       at_stand = inv.walkers.at_stand;

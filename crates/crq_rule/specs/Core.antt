@@ -8,6 +8,7 @@ use Rattle.crq_rule.specs.declared.layout.Start.{Start}
 use Rattle.crq_rule.specs.declared.view.Guard.{Guard}
 use Rattle.crq_rule.specs.declared.view.Tick.{Tick}
 use Rattle.crq_rule.specs.declared.view.CutRow.{CutRow}
+use Rattle.crq_rule.specs.declared.view.Base.{Base}
 use Rattle.crq_rule.specs.declared.view.Deal.{Deal}
 use Rattle.crq_rule.specs.declared.view.Position.{Position}
 use Rattle.crq_rule.specs.declared.view.Found.{Found}
@@ -47,6 +48,7 @@ pub record Core : Type 0 where
   pub hand : ℕ → List ℕ
   pub ripening : ℕ → List (ℕ × ℕ)
   pub cut : ℕ → Option CutRow
+  pub base : ℕ → Option Base
   pub debts : ℕ → Debts
   pub permit : ℕ → Bool
   pub position : ℕ → Position
@@ -72,6 +74,7 @@ caller_of c j = record {
   hand = c.hand j;
   ripening = c.ripening j;
   cut = c.cut j;
+  base = c.base j;
   debts = c.debts j;
   permit = c.permit j;
   position = c.position j;

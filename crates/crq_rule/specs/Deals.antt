@@ -9,6 +9,7 @@ use Rattle.crq_base.specs.Histories.{puts, settleds, own as own_of, IsLegal}
 use Rattle.crq_rule.specs.declared.view.Caller.{Caller}
 use Rattle.crq_rule.specs.declared.view.View.{View}
 use Rattle.crq_rule.specs.Lists.{In}
+use Rattle.crq_rule.specs.ScarceParts.{AreCounted}
 
 -- the view carries each of the n callers
 abbrev pub HasAll : ℕ → View → Type 0
@@ -29,6 +30,8 @@ pub record Gathered (v w : View) : Type 0 where
   pub legal : IsLegal history
   pub settled : (e : Event) → Contains (puts history) e → Contains (settleds history) e
   pub each : (k : ℕ) (p : Caller) → get_elem? v.parts k ≡ some p → (history ≡ p.deal.history ++ since) × (own_of p.number since ≡ p.own)
+  -- and the events that a caller keeps of a refusal for want of rows are still counted
+  pub counted : (k : ℕ) (p : Caller) → get_elem? v.parts k ≡ some p → AreCounted history p.number p.refused
   pub inside : (k : ℕ) (p : Caller) (e : Entry) → get_elem? v.parts k ≡ some p → In e since → whose e < p.start.layout.workers
 
 -- n sources in a row are dealt to each caller

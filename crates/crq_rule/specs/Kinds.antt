@@ -1,16 +1,19 @@
 -- What each kind of step does to what its caller knows, and to the core state.
-use Rattle.std.specs.Prelude.{cond, ◌==◌, ◌≡◌, ◌≢◌, ℕ, zero, suc, ◌+◌, ◌<◌, ◌≤◌, List, [], ◌∷◌, ◌++◌, Option, Some, None}
+use Rattle.std.specs.Prelude.{cond, ◌==◌, ◌&&◌, ◌||◌, nat_le, Bool, false, ◌≡◌, ◌≢◌, ℕ, zero, suc, ◌+◌, ◌*◌, ◌<◌, ◌≤◌, List, [], ◌∷◌, ◌++◌, length, Option, Some, None}
+use Rattle.crq_base.specs.declared.event.Event.{Event}
 use Rattle.crq_rule.specs.declared.view.Guard.{Guard}
 use Rattle.crq_rule.specs.declared.view.Guard.TheVariants.{Off, Entering, On}
 use Rattle.crq_rule.specs.declared.view.Tick.{Tick}
 use Rattle.crq_rule.specs.declared.view.CutRow.{CutRow}
 use Rattle.crq_rule.specs.declared.view.Made.{Made}
+use Rattle.crq_rule.specs.declared.view.Base.{Base}
 use Rattle.crq_rule.specs.declared.view.Position.{Position}
 use Rattle.crq_rule.specs.declared.view.Caller.{Caller}
 use Rattle.crq_rule.specs.declared.view.View.{View}
 use Rattle.crq_rule.specs.Lists.{put, In, without}
 use Rattle.crq_rule.specs.Core.{Core, in_hand, retired}
 use Rattle.crq_rule.specs.Parts.{LetsRise}
+use Rattle.crq_rule.specs.ScarceParts.{pending}
 
 abbrev pub on_first : (Caller → Caller) → List Caller → List Caller
 on_first f [] = []
@@ -44,6 +47,23 @@ loads_epoch r p = record p { epochs = r ∷ p.epochs; tick = new_tick r; cut = t
 
 abbrev pub epoch_loaded : Core → ℕ → Core
 epoch_loaded c j = record c { epochs = put c.epochs j (c.words.epoch ∷ c.epochs j); tick = put c.tick j (new_tick c.words.epoch); cut = put c.cut j (tagged c.words.epoch (c.cut j)) }
+
+-- EpochLoad, as the first load of a recovery of rows: the epoch r was found while the history had m entries, and these events were pending
+
+abbrev pub new_base : ℕ → List Event → ℕ → Base
+new_base m events r = record { epoch = r; place = m; events = events; looked = 0 }
+
+-- the epoch r was found, and this is the base since
+abbrev pub loads_based : Option Base → ℕ → Caller → Caller
+loads_based base r p = record p { epochs = r ∷ p.epochs; tick = new_tick r; cut = tagged r p.cut; base = base }
+
+abbrev pub recovery_begun : Core → ℕ → Core
+recovery_begun c j = record c {
+  epochs = put c.epochs j (c.words.epoch ∷ c.epochs j);
+  tick = put c.tick j (new_tick c.words.epoch);
+  cut = put c.cut j (tagged c.words.epoch (c.cut j));
+  base = put c.base j (Some (new_base (length c.history) (pending c.history) c.words.epoch));
+}
 
 -- Enter
 abbrev pub enters : ℕ → Caller → Caller
@@ -96,11 +116,39 @@ abbrev pub seen_stamp : ℕ → ℕ → List (ℕ × ℕ) → List (ℕ × ℕ)
 seen_stamp r zero xs = xs
 seen_stamp r (suc t) xs = (r, t) ∷ xs
 
+-- an epoch of these is three above g
+abbrev pub has_risen : ℕ → List ℕ → Bool
+has_risen g [] = false
+has_risen g (e ∷ es) = nat_le (g + 3) e || has_risen g es
+
+-- the stamp of a row that isn't ripe under the epoch g + 3
+abbrev pub is_late_word : ℕ → ℕ → Bool
+is_late_word g w = (w == 0) || nat_le (g + 3) w
+
+-- the base after a look at the row r, where the caller's first home row is `first`: it counts the next home row, if the epoch rose by three, and the row isn't ripe under that
+abbrev pub looked_base : ℕ → ℕ → ℕ → List ℕ → Option Base → Option Base
+looked_base first r w epochs None = None
+looked_base first r w epochs (Some b) = Some (record b { looked = cond ((r == first + b.looked) && (is_late_word b.epoch w && has_risen b.epoch epochs)) (b.looked + 1) b.looked })
+
+-- where all home rows were counted so, and none is in hand, the events of the base are those of a refusal
+abbrev pub refused_after : ℕ → List ℕ → Option Base → List Event → List Event
+refused_after home [] (Some b) old = cond (b.looked == home) b.events old
+refused_after home _ _ old = old
+
 abbrev pub looks : ℕ → ℕ → Caller → Caller
-looks r w p = record p { ripening = seen_stamp r w p.ripening }
+looks r w p = let base = looked_base (p.number * p.start.layout.home + 1) r w p.epochs p.base in
+    record p { ripening = seen_stamp r w p.ripening; base = base; refused = refused_after p.start.layout.home p.hand base p.refused }
+
+-- what the caller j's base is after a look at the row r
+abbrev pub base_looked : Core → ℕ → ℕ → Option Base
+base_looked c j r = looked_base (j * c.start.layout.home + 1) r (c.words.stamp r) (c.epochs j) (c.base j)
 
 abbrev pub looked : Core → ℕ → ℕ → Core
-looked c j r = record c { ripening = put c.ripening j (seen_stamp r (c.words.stamp r) (c.ripening j)) }
+looked c j r = record c {
+  ripening = put c.ripening j (seen_stamp r (c.words.stamp r) (c.ripening j));
+  base = put c.base j (base_looked c j r);
+  refused = put c.refused j (refused_after c.start.layout.home (c.hand j) (base_looked c j r) (c.refused j));
+}
 
 -- Claim
 abbrev pub claims : ℕ → Caller → Caller

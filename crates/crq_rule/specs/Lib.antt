@@ -6,6 +6,7 @@ pub mod Parts
 pub mod Ranks
 pub mod ListParts
 pub mod HistoryParts
+pub mod ScarceParts
 pub mod Invariant
 pub mod Kinds
 pub mod ListKinds

@@ -195,7 +195,7 @@ abbrev pub put_entries : ℕ → Event → List Entry
 put_entries j e = Put j e ∷ Settled j e ∷ []
 
 abbrev pub links : ℕ → Event → Caller → Caller
-links r e p = record p { hand = unhanded r p.hand; written = forgotten r p.written; own = p.own ++ put_entries p.number e }
+links r e p = record p { hand = unhanded r p.hand; written = forgotten r p.written; base = None; own = p.own ++ put_entries p.number e }
 
 abbrev pub linked : Core → ℕ → Cell → Link → ℕ → Event → Core
 linked c j cell l r e = let q = head_of c.words.control e in let new : Link = record l { row = r } in record c {
@@ -205,19 +205,22 @@ linked c j cell l r e = let q = head_of c.words.control e in let new : Link = re
   chain = put c.chain q (after_cell cell r (c.chain q));
   holding = put c.holding r (listed q);
   hand = put c.hand j (unhanded r (c.hand j));
+  base = put c.base j None;
   written = put c.written j (forgotten r (c.written j));
 }
 
 -- Begin: the control word x was found
 
 abbrev pub begins : Control → Caller → Caller
-begins x p = record p { own = p.own ++ Begin p.number ∷ []; walk = None; found = record p.found { control = Some x } }
+begins x p = record p { own = p.own ++ Begin p.number ∷ []; base = None; refused = []; walk = None; found = record p.found { control = Some x } }
 
 abbrev pub begun_by : Core → ℕ → Core
 begun_by c j = record c {
   history = c.history ++ Begin j ∷ [];
   own = put c.own j (c.own j ++ Begin j ∷ []);
   begun = put c.begun j (length c.history);
+  base = put c.base j None;
+  refused = put c.refused j [];
   walk = put c.walk j None;
   found = put c.found j (record (c.found j) { control = Some c.words.control });
 }

@@ -67,6 +67,7 @@ opening_core s = record {
   hand = λ j. (fresh s j).hand;
   ripening = λ j. (fresh s j).ripening;
   cut = λ j. (fresh s j).cut;
+  base = λ j. (fresh s j).base;
   debts = λ j. (fresh s j).debts;
   permit = λ j. (fresh s j).permit;
   position = λ j. (fresh s j).position;

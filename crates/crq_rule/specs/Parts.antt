@@ -92,9 +92,10 @@ pub record Holders (l : Layout) (hand : ℕ → List ℕ) (cut : ℕ → Option 
   pub is_cut : (j : ℕ) (x : CutRow) → j < l.workers → cut j ≡ Some x → IsRow l x.row × (holding x.row ≡ cut_by j)
   pub of_cut : (j r : ℕ) → IsRow l r → holding r ≡ cut_by j → (j < l.workers) × ((x : CutRow) × (cut j ≡ Some x) × (x.row ≡ r))
 
--- a caller that cut a row and hasn't retired it has its guard on
+-- a caller that cut a row and hasn't retired it has its guard on, and the row's tag isn't below what that guard found
 pub record Cutting (n : ℕ) (guard : ℕ → Guard) (cut : ℕ → Option CutRow) : Type 0 where
   pub on : (j : ℕ) (x : CutRow) → j < n → cut j ≡ Some x → IsOn (guard j)
+  pub tags : (j t g : ℕ) (x : CutRow) → j < n → cut j ≡ Some x → guard j ≡ On g → In t x.tags → g ≤ t
 
 -- the stamp of a row
 abbrev pub stamp_of : Holding → ℕ

@@ -14,6 +14,7 @@ use Rattle.crq_base.specs.Words.{IsLink, IsControl, link_word, control_word}
 use Rattle.crq_rule.specs.declared.view.Stand.{Stand}
 use Rattle.crq_rule.specs.declared.debts.CutDebt.{CutDebt}
 use Rattle.crq_rule.specs.declared.view.CutRow.{CutRow}
+use Rattle.crq_rule.specs.declared.view.Base.{Base}
 use Rattle.crq_rule.specs.declared.view.Made.{Made}
 use Rattle.crq_rule.specs.declared.view.Caller.{Caller}
 use Rattle.crq_rule.specs.declared.view.View.{View}
@@ -22,7 +23,7 @@ use Rattle.crq_rule.specs.Places.{IsRow, IsHomeRow, Shows}
 use Rattle.crq_rule.specs.Parts.{IsEvent, IsOn}
 use Rattle.crq_rule.specs.Core.{Core, caller_of}
 use Rattle.crq_rule.specs.Invariant.{Inv}
-use Rattle.crq_rule.specs.Kinds.{nowhere, new_tick, makes}
+use Rattle.crq_rule.specs.Kinds.{nowhere, new_tick, makes, new_base, loads_based}
 use Rattle.crq_rule.specs.Ranks.{rank, head_of, IsOpen, Cell, at_head, at_row}
 use Rattle.crq_rule.specs.ListKinds.{StandsOn, walks}
 use Rattle.crq_rule.specs.Steps.{Kind, May, After, kind_of}
@@ -64,6 +65,7 @@ fresh key j = record {
   hand = rows_from (j * key.layout.home) key.layout.home;
   ripening = [];
   cut = None;
+  base = None;
   debts = record { settle = None; copy = None; cut = None; second_cut = None };
   permit = false;
   position = nowhere;
@@ -99,6 +101,8 @@ pub record Lawful (p : Caller) : Type 0 where
   pub agree : (s t : Stand) → In s p.position.rows → In t p.position.rows → s.row ≡ t.row → s.event ≡ t.event
   pub owed_at : (d : CutDebt) (x : Control) → p.debts.cut ≡ Some d → p.found.control ≡ Some x → d.head ≡ head_of x d.event
   pub owed_fits : (d : CutDebt) → p.debts.cut ≡ Some d → IsRow p.start.layout d.row × IsEvent d.event
+  -- where all home rows were counted since a recovery began, and none is in hand, there were enough events
+  pub scarce : (b : Base) → p.base ≡ Some b → p.hand ≡ [] → b.looked ≡ p.start.layout.home → p.start.layout.rows ≤ 2 * length b.events
   pub controlled : (x : Control) → p.found.control ≡ Some x → IsControl x × (x.moving ≡ false) × (x.log ≡ 0)
 
 -- A step of the caller whose part is p, on the word w, which goes to g of what it was. From each state that meets the invariant it is a step of the named kind that may come there, and R holds of the word found,
@@ -150,6 +154,19 @@ pub record FoundControl (f : Control → Caller → Caller) (found : ℕ) (p q :
   pub steady : control.moving ≡ false
   pub one : control.log ≡ 0
 
+-- the epoch r was found: it isn't below any that the caller read, nor below an announcement that it scanned
+pub record TellsEpoch (r : ℕ) (p : Caller) : Type 0 where
+  pub limit : r ≤ 2 ^ 62
+  pub read : (e : ℕ) → In e p.epochs → e ≤ r
+  pub scanned : (k a : ℕ) → In (k, a) p.tick.found → a ≤ r + 1
+
+-- a recovery of rows began with a load of the epoch r
+pub record BeginsRecovery (r : ℕ) (p q : Caller) : Type 0 where
+  pub place : ℕ
+  pub events : List Event
+  pub after : loads_based (Some (new_base place events r)) r p ≡ q
+  pub told : TellsEpoch r p
+
 -- an exchange changes what its caller knows where it found what it expected
 abbrev pub wins : ℕ → (Caller → Caller) → ℕ → Caller → Caller
 wins expected f found p = cond (found == expected) (f p) p
@@ -157,12 +174,6 @@ wins expected f found p = cond (found == expected) (f p) p
 -- a kind that tells nothing
 abbrev pub quiet : ℕ → Caller → Type 0
 quiet r p = Unit {0}
-
--- the epoch r was found: it isn't below any that the caller read, nor below an announcement that it scanned
-pub record TellsEpoch (r : ℕ) (p : Caller) : Type 0 where
-  pub limit : r ≤ 2 ^ 62
-  pub read : (e : ℕ) → In e p.epochs → e ≤ r
-  pub scanned : (k a : ℕ) → In (k, a) p.tick.found → a ≤ r + 1
 
 -- the epoch e was read, and so it isn't above the last one
 abbrev pub TellsLow : ℕ → ℕ → Caller → Type 0

@@ -1,5 +1,5 @@
 -- What the invariant says in the end, part by part, in the words of the field. The parts that are kept are stronger, and imply each of these.
-use Rattle.std.specs.Prelude.{◌≡◌, ◌⊎◌, ◌↔◌, ℕ, ◌+◌, ◌^◌, ◌<◌, ◌≤◌, List, [], ◌∷◌, ◌++◌, Some, Contains}
+use Rattle.std.specs.Prelude.{◌≡◌, ◌⊎◌, ◌↔◌, ℕ, ◌+◌, ◌*◌, ◌^◌, ◌<◌, ◌≤◌, List, [], ◌∷◌, ◌++◌, length, take, Some, Contains}
 use Rattle.std.specs.declared.cmp.Ordering.TheVariants.{Equal}
 use Rattle.crq_base.specs.declared.event.Event.{Event}
 use Rattle.crq_base.specs.declared.entry.Entry.{Entry}
@@ -18,6 +18,7 @@ use Rattle.crq_rule.specs.declared.debts.Debts.{Debts}
 use Rattle.crq_rule.specs.declared.layout.Layout.{Layout}
 use Rattle.crq_rule.specs.declared.view.Guard.TheVariants.{Off, Entering, On}
 use Rattle.crq_rule.specs.declared.view.CutRow.{CutRow}
+use Rattle.crq_rule.specs.declared.view.Base.{Base}
 use Rattle.crq_rule.specs.declared.view.Walk.{Walk}
 use Rattle.crq_rule.specs.Lists.{In, IsOnce}
 use Rattle.crq_rule.specs.Places.{Place, spare, epoch, announced, control, current, pin, head, link, stamp, twin, time, source, sequence, load, IsPlace, IsRow, IsHomeRow, IsHead, word_of}
@@ -26,6 +27,7 @@ use Rattle.crq_rule.specs.Parts.{NotAfter, IsOn, LetsRise, Leads, Names, Reaches
 use Rattle.crq_rule.specs.Ranks.{head_of, IsOpen}
 use Rattle.crq_rule.specs.ListParts.{IsOpenHead, IsShutHead}
 use Rattle.crq_rule.specs.HistoryParts.{IsLive, EndsInBegin, owner_of}
+use Rattle.crq_rule.specs.ScarceParts.{IsLate, AreCounted, pending}
 
 -- 1. Words
 
@@ -73,12 +75,14 @@ IsKept (listed q) = Unit {0}
 IsKept (cut_by j) = Unit {0}
 IsKept (retired t) = ⊥
 
--- Each row has one holder; its stamp is 'kept' unless the stamp holds it. A caller that cut a row and hasn't retired it has its guard on
+-- Each row has one holder; its stamp is 'kept' unless the stamp holds it. A caller that cut a row and hasn't retired it has its guard on, and a tag of that row isn't
+-- below what the guard found
 pub record HoldersHold (c : Core) : Type 0 where
   pub holder : (r : ℕ) → IsRow c.start.layout r → ((h : Holding) × IsHeldBy c h r × ((g : Holding) → IsHeldBy c g r → g ≡ h) × (IsKept h → c.words.stamp r ≡ 0))
   pub once : (j : ℕ) → j < c.start.layout.workers → IsOnce (c.hand j)
   pub lists : (q : ℕ) → IsHead q → Leads c.words.link (c.words.head q).row (c.chain q)
   pub cutters : (j : ℕ) (x : CutRow) → j < c.start.layout.workers → c.cut j ≡ Some x → IsOn (c.guard j)
+  pub tags : (j t g : ℕ) (x : CutRow) → j < c.start.layout.workers → c.cut j ≡ Some x → c.guard j ≡ On g → In t x.tags → g ≤ t
 
 -- 3. Guards
 
@@ -191,6 +195,23 @@ pub record WalkersHold (c : Core) : Type 0 where
   pub left : (k : ℕ) (w : Walk) (front : List Entry) (e : Event) → IsWalking c k w front → head_of c.words.control e ≡ w.head → Contains (puts front) e → IsPending c.history e
       → (r : ℕ) × (0 < w.at) × StandsIn c e r × Reaches c.words.link c.words.twin w.at r
   pub ended : (k : ℕ) (w : Walk) (front : List Entry) (e : Event) → IsWalking c k w front → w.at ≡ 0 → head_of c.words.control e ≡ w.head → Contains (puts front) e → Contains (outs c.history) e
+
+-- 9. Scarcity
+
+-- the row r, of the caller k, is late for the epoch g: it is listed, or cut under a guard that found more than g, or retired with a tag above g + 1
+abbrev pub IsLateRow : Core → ℕ → ℕ → ℕ → Type 0
+IsLateRow c k g r = IsHomeRow c.start.layout k r × IsLate c.guard g (c.holding r)
+
+-- A caller's recovery of rows began at a place of the history, with the events that were pending there and an epoch that isn't above the present one. Different home rows of the caller that are late for that
+-- epoch are at most two for each of these events and two for each caller. Those that the recovery has counted since the epoch rose by three are in hand or late. The events of a recovery, and those that a
+-- refusal keeps, are different, were put, and none was taken before a Begin of the caller
+pub record ScarcityHolds (c : Core) : Type 0 where
+  pub began : (k : ℕ) (b : Base) → k < c.start.layout.workers → c.base k ≡ Some b → (b.place ≤ length c.history) × (b.events ≡ pending (take b.place c.history)) × (b.epoch ≤ c.words.epoch)
+  pub late : (k : ℕ) (b : Base) (rows : List ℕ) → k < c.start.layout.workers → c.base k ≡ Some b → IsOnce rows → ((r : ℕ) → In r rows → IsLateRow c k b.epoch r) → length rows ≤ 2 * length b.events + 2 * c.start.layout.workers
+  pub looked : (k r : ℕ) (b : Base) → k < c.start.layout.workers → c.base k ≡ Some b → IsHomeRow c.start.layout k r → r ≤ k * c.start.layout.home + b.looked
+      → (b.epoch + 3 ≤ c.words.epoch) × (In r (c.hand k) ⊎ IsLateRow c k b.epoch r)
+  pub counted : (k : ℕ) (b : Base) → k < c.start.layout.workers → c.base k ≡ Some b → AreCounted c.history k b.events
+  pub refused : (k : ℕ) → k < c.start.layout.workers → AreCounted c.history k (c.refused k)
 
 -- A state that meets the invariant in which the listed row r is covered by a guard, the row s was cut and has a tag, and the row t is retired
 pub record Witness (c : Core) : Type 0 where

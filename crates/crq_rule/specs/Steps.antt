@@ -13,7 +13,7 @@ use Rattle.crq_rule.specs.Places.{IsHomeRow, Place, spare, epoch, announced, con
 use Rattle.crq_rule.specs.Parts.{IsOn}
 use Rattle.crq_rule.specs.Ranks.{Cell, cell_place, link_at}
 use Rattle.crq_rule.specs.Core.{Core, caller_of}
-use Rattle.crq_rule.specs.Kinds.{epoch_loaded, entered, confirmed, left, scanned, ticked, tick_failed, retired_at, looked, claimed, HasScanned, IsEntering, MayRetire, IsRipe}
+use Rattle.crq_rule.specs.Kinds.{epoch_loaded, recovery_begun, entered, confirmed, left, scanned, ticked, tick_failed, retired_at, looked, claimed, HasScanned, IsEntering, MayRetire, IsRipe}
 use Rattle.crq_rule.specs.ListKinds.{Content, IsContent, content_number, row_place, written_at, walked_from, linked, put_entries, control_loaded, begun_by, marked, cut_from, missed, StandsOn, MayWalk, MaySeek, MayLink, MayMark, MayCut, MayMiss}
 
 -- the kinds of step with their operands; an exchange that fails is a case of its own. Splitting and joining move parts of views from seat to seat, and leave the core state
@@ -21,6 +21,7 @@ pub data Kind : Type 0 where
   split : Kind
   join : Kind
   epoch_load : Kind
+  recovery_load : Kind
   enter : ℕ → Kind
   confirm : Kind
   leave : Kind
@@ -48,6 +49,7 @@ abbrev pub May : Kind → Core → ℕ → Type 0
 May split c j = Unit {0}
 May join c j = Unit {0}
 May epoch_load c j = Unit {0}
+May recovery_load c j = Unit {0}
 May (enter e) c j = (c.guard j ≡ Off) × In e (c.epochs j)
 May confirm c j = IsEntering (c.guard j)
 May leave c j = (c.cut j ≡ None) × ((c.debts j).copy ≡ None)
@@ -75,6 +77,7 @@ abbrev pub After : Kind → Core → ℕ → Core
 After split c j = c
 After join c j = c
 After epoch_load c j = epoch_loaded c j
+After recovery_load c j = recovery_begun c j
 After (enter e) c j = entered c j e
 After confirm c j = confirmed c j
 After leave c j = left c j
@@ -102,6 +105,7 @@ abbrev pub place_of : Kind → ℕ → Place
 place_of split j = spare
 place_of join j = spare
 place_of epoch_load j = epoch
+place_of recovery_load j = epoch
 place_of (enter e) j = announced j
 place_of confirm j = epoch
 place_of leave j = announced j
@@ -129,6 +133,7 @@ abbrev pub kind_of : Kind → StepKind
 kind_of split = Split
 kind_of join = Join
 kind_of epoch_load = EpochLoad
+kind_of recovery_load = EpochLoad
 kind_of (enter e) = Enter
 kind_of confirm = Confirm
 kind_of leave = Leave

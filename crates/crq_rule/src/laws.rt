@@ -1,22 +1,24 @@
 //! Laws of the rule: facts about every state that meets the invariant, and about every step. They hold by proof, and
 //! running them does nothing.
-ghost use Rattle.std.specs.Prelude.{◌≡◌, ◌≢◌, ℕ, ◌+◌, ◌<◌, ◌≤◌, List, [], ◌++◌};
+ghost use Rattle.std.specs.Prelude.{◌≡◌, ◌≢◌, ℕ, ◌+◌, ◌-◌, ◌*◌, ◌/◌, ◌<◌, ◌≤◌, List, [], ◌++◌, length, take};
 ghost use Rattle.atomic_table.specs.Table.{opening, Allows, Joins, Me, Splits};
 ghost use Rattle.crq_base.specs.Starts.{IsFirst};
 ghost use Rattle.crq_rule.specs.declared.layout.Start.{Start};
 ghost use Rattle.crq_rule.specs.declared.view.Guard.TheVariants.{On};
+ghost use Rattle.crq_rule.specs.declared.view.Base.{Base};
 ghost use Rattle.crq_rule.specs.declared.view.Made.{Made};
 ghost use Rattle.crq_rule.specs.declared.view.View.{View};
 ghost use Rattle.crq_rule.specs.Lists.{In};
 ghost use Rattle.crq_rule.specs.Places.{Place, word_of, Shows};
 ghost use Rattle.crq_rule.specs.Core.{Core, caller_of};
 ghost use Rattle.crq_rule.specs.Invariant.{Inv};
-ghost use Rattle.crq_rule.specs.Kinds.{after_made, IsRipe};
-ghost use Rattle.crq_rule.specs.Steps.{Kind, IsStep, place_of, entries_of};
+ghost use Rattle.crq_rule.specs.ScarceParts.{AreCounted, pending};
+ghost use Rattle.crq_rule.specs.Kinds.{after_made, new_base, base_looked, IsRipe};
+ghost use Rattle.crq_rule.specs.Steps.{Kind, recovery_load, look, After, IsStep, place_of, entries_of};
 ghost use Rattle.crq_rule.specs.Rule.{Stands, first_view, joined, spent, head_view, tail_view, IsFirstApart};
 ghost use Rattle.crq_rule.specs.Deals.{HasAll, Gathered, IsSilent, spans};
 ghost use Rattle.crq_rule.specs.Opening.{opening_core, opening_words};
-ghost use Rattle.crq_rule.specs.Stated.{WordsHold, HoldersHold, GuardsHold, CoverHolds, ListsHold, CarriersHold, HistoryHolds, WalkersHold, IsCovered, Witness};
+ghost use Rattle.crq_rule.specs.Stated.{WordsHold, HoldersHold, GuardsHold, CoverHolds, ListsHold, CarriersHold, HistoryHolds, WalkersHold, ScarcityHolds, IsCovered, Witness};
 
 /// Each kind of step keeps the invariant, from every state that meets it. It changes the word of its kind alone, if any,
 /// and what its own caller knows alone, and it adds its entries to the history, which is else as it was.
@@ -58,7 +60,8 @@ pub fn opening_law()
 {}
 
 /// The invariant that is kept implies each of its parts as it is stated: on words, on the holders of rows, on guards, on
-/// covered rows, on lists, on the rows that carry pending events, on the history, and on takes that walk.
+/// covered rows, on lists, on the rows that carry pending events, on the history, on takes that walk, and on recoveries of
+/// rows.
 pub fn parts_law()
     ensures words { (c : Core) → Inv c → WordsHold c }
     ensures holders { (c : Core) → Inv c → HoldersHold c }
@@ -68,6 +71,20 @@ pub fn parts_law()
     ensures carriers { (c : Core) → Inv c → CarriersHold c }
     ensures history { (c : Core) → Inv c → HistoryHolds c }
     ensures walkers { (c : Core) → Inv c → WalkersHold c }
+    ensures scarcity { (c : Core) → Inv c → ScarcityHolds c }
+{}
+
+/// A recovery of rows begins with a load of the epoch, and notes where the history is and which events are pending there.
+/// Once the epoch has risen by three since, and after that none of the caller's home rows was found ripe, a caller without
+/// a row in hand refuses and keeps these events: twice their number is at least the number of its rows. They were pending
+/// when the recovery began. So they are different events, more than half of `rows - 2`, that were put, and of which none
+/// was taken before the caller's last Begin, nor before any other.
+pub fn scarcity_law()
+    ensures begins { (c : Core) (j : ℕ) → (After recovery_load c j).base j ≡ Some (new_base (length c.history) (pending c.history) c.words.epoch) }
+    ensures refuses { (c : Core) (j r : ℕ) (b : Base) → c.hand j ≡ [] → base_looked c j r ≡ Some b → b.looked ≡ c.start.layout.home → (After (look r) c j).refused j ≡ b.events }
+    ensures count { (c : Core) (k : ℕ) (b : Base) → Inv c → k < c.start.layout.workers → c.base k ≡ Some b → c.hand k ≡ [] → b.looked ≡ c.start.layout.home → c.start.layout.rows ≤ 2 * length b.events }
+    ensures pending { (c : Core) (k : ℕ) (b : Base) → Inv c → k < c.start.layout.workers → c.base k ≡ Some b → b.events ≡ pending (take b.place c.history) }
+    ensures enough { (c : Core) (k : ℕ) (b : Base) → Inv c → k < c.start.layout.workers → c.base k ≡ Some b → c.hand k ≡ [] → b.looked ≡ c.start.layout.home → ((c.start.layout.rows - 2) / 2 < length b.events) × AreCounted c.history k b.events }
 {}
 
 /// Some state with a listed row that a guard covers, a cut row that has a tag, and a retired row meets the invariant.

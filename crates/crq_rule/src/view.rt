@@ -63,6 +63,18 @@ pub struct Wrote {
     pub word: u64,
 }
 
+/// Where a recovery of rows began: what the epoch load of its first tick found, and how far the recovery came since.
+pub struct Base {
+    /// The epoch that was loaded.
+    pub epoch: u64,
+    /// How many entries the history had then.
+    pub place: u64,
+    /// The events that were pending then.
+    pub events: LinkedList<Event>,
+    /// How many home rows, in order, were looked at since the epoch rose by three, and found not to be ripe under that.
+    pub looked: u64,
+}
+
 /// How far a take walked the list of a head: to the row `at`, or to the end where that is 0. What it passed was dead.
 pub struct Walk {
     pub head: u64,
@@ -117,6 +129,8 @@ pub struct Caller {
     /// The home rows that were looked at and not claimed since, each with its tag.
     pub ripening: LinkedList<(u64, u64)>,
     pub cut: Option<CutRow>,
+    /// Where the caller's last recovery of rows began, if it has neither begun a call nor linked a row since.
+    pub base: Option<Base>,
     pub debts: Debts,
     /// Whether the caller may raise current's epoch once.
     pub permit: bool,
@@ -128,7 +142,7 @@ pub struct Caller {
     pub help: Option<Help>,
     /// The heads whose lists the caller's sweep found without a dead row since its last Begin.
     pub clean: LinkedList<u64>,
-    /// The events that the last refusal for want of rows counted.
+    /// The events that the last refusal for want of rows counted, if the caller has begun no call since.
     pub refused: LinkedList<Event>,
     pub told: Told,
 }

@@ -1,17 +1,13 @@
-use Rattle.std.proofs.Common.{◌+◌, sym, ap, ◌∙◌, subst}
+use Rattle.std.proofs.Common.{sym, ◌∙◌}
 use Rattle.std.proofs.lemmas.Bool.{false≢true}
-use Rattle.crq_rule.specs.declared.view.Caller.{Caller}
-use Rattle.crq_rows.specs.Passes.{caller}
-use Rattle.crq_rows.specs.Recovering.{LookedSince}
-use Rattle.crq_rows.proofs.Recovers.{recover_ripe, recover_unripe, since_more}
+use Rattle.crq_rows.proofs.Recovers.{recover_ripe, recover_unripe, visited}
 use Rattle.crq_rows.proofs.recover.visit.Goals as goal
 
 pub returns-then-look : goal.returns-then-look
 returns-then-look c = let r = c.look.ensures in recover_ripe c.args.table.now c.args.pass.now _ c.args.epoch c.args.row r.0 c.requires.op r.1 (r.2.0 c.if-look.true)
 
 pub after_row-requires-clause-looked : goal.after_row-requires-clause-looked
-after_row-requires-clause-looked c = let r = c.look.ensures in let t = c.args.table.now in let p = caller t c.args.pass.now in λ none.
-    subst (LookedSince t.start.layout c.args.epoch (c.args.row + 1)) (sym r.1.part) (since_more t.start.layout c.args.epoch c.args.row r.0 p (λ ripe. false≢true (sym c.if-look.false ∙ r.2.1 ripe)) (c.requires.op.2 (sym (ap (λ (q : Caller). q.hand) r.1.part) ∙ none)))
+after_row-requires-clause-looked c = let r = c.look.ensures in λ none. visited c.args.table.now c.args.pass.now _ c.args.epoch c.args.row r.0 c.requires.of c.requires.op r.1 (λ ripe. false≢true (sym c.if-look.false ∙ r.2.1 ripe)) none
 
 pub returns : goal.returns
 returns c = let r = c.look.ensures in recover_unripe c.args.table.now c.args.pass.now _ c.args.epoch c.args.row r.0 _ _ r.1 (λ ripe. false≢true (sym c.if-look.false ∙ r.2.1 ripe)) c.after_row.ensures

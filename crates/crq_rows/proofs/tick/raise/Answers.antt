@@ -14,8 +14,8 @@ tick_step-requires-clause-scanned c = let t = c.args.table.now in let p = caller
 
 pub returns-in-Ok : goal.returns-in-Ok
 returns-in-Ok c = let t = c.args.table.now in let l = t.start.layout in let p = caller t c.args.pass.now in let e = c.args.epoch in let n = c.args._next in
-    tick_exchanged t (Scanning e n) Load c.args.pass.now _ (Moved (e + 1)) (step_made Tick (index l epoch) e (e + 1) e) (ticks e e) c.in-Ok.ensures.exchanged (at_last l p e n e c.requires.last) (made_facts l p e n e c.requires.last c.requires.op refl)
+    tick_exchanged t c.args._moved (Scanning e n) Load c.args.pass.now _ (Moved (e + 1)) (step_made Tick (index l epoch) e (e + 1) e) (ticks e e) c.in-Ok.ensures.exchanged (at_last l c.args._moved p e n e c.requires.last) (made_facts l c.args._moved p e n e c.requires.last c.requires.op refl)
 
 pub returns-in-Err : goal.returns-in-Err
 returns-in-Err c = let t = c.args.table.now in let l = t.start.layout in let p = caller t c.args.pass.now in let e = c.args.epoch in let n = c.args._next in let r = c.in-Err.found in
-    tick_exchanged t (Scanning e n) Load c.args.pass.now _ (Moved r) (step_made Tick (index l epoch) e (e + 1) r) (ticks e r) c.in-Err.ensures.exchanged (at_last l p e n r c.requires.last) (found_facts l p e n r c.requires.last c.requires.op c.in-Err.ensures.told c.in-Err.ensures.failed)
+    tick_exchanged t c.args._moved (Scanning e n) Load c.args.pass.now _ (Moved r) (step_made Tick (index l epoch) e (e + 1) r) (ticks e r) c.in-Err.ensures.exchanged (at_last l c.args._moved p e n r c.requires.last) (found_facts l c.args._moved p e n r c.requires.last c.requires.op c.in-Err.ensures.told c.in-Err.ensures.failed)

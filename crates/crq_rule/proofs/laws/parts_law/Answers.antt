@@ -1,5 +1,6 @@
 use Rattle.crq_rule.proofs.Stating.{words_hold, holders_hold, guards_hold, cover_holds}
 use Rattle.crq_rule.proofs.StatingLists.{lists_hold, carriers_hold, history_holds, walkers_hold}
+use Rattle.crq_rule.proofs.StatingScarcity.{scarcity_holds}
 use Rattle.crq_rule.proofs.laws.parts_law.Goals as goal
 
 pub returns : goal.returns
@@ -12,4 +13,5 @@ returns c = record {
   carriers = carriers_hold;
   history = history_holds;
   walkers = walkers_hold;
+  scarcity = scarcity_holds;
 }
