@@ -1,5 +1,5 @@
 -- What the calls leave of a pass, and passes that are put back in their places.
-use Rattle.std.proofs.Common.{◌≡◌, ◌⊎◌, inl, inr, ⊎_elim, ℕ, ◌-◌, ◌/◌, ◌<◌, min, List, [], ◌∷◌, ◌++◌, length, set, length-set, Option, Some, None, Result, Ok, Err, refl, sym, ap, ◌∙◌, subst, arith}
+use Rattle.std.proofs.Common.{◌≡◌, inl, inr, ⊎_elim, ℕ, ◌-◌, ◌<◌, min, List, [], ◌∷◌, ◌++◌, length, set, length-set, Option, Some, None, Result, Ok, Err, refl, sym, ap, ◌∙◌, subst, arith}
 use Rattle.std.specs.Prelude.{slice_get}
 use Rattle.std.specs.List.{cons_option}
 use Rattle.std.proofs.lemmas.List.{append-nil, append_assoc}
@@ -77,12 +77,13 @@ put_within k f (x ∷ es) i = ⊎_elim (λ z. subst (λ y. In f (cons_option (pu
 
 -- a new event is still new, where only others were put
 pub still_new : {table : Table} {old new : Pass} {put taken : List Event} (e : Event) → Did table old new put taken → ((f : Event) → In f put → f.src ≡ e.src → f.seq ≡ e.seq → ⊥) → IsNew table old e → IsNew table new e
-still_new {table} {old} {new} {put} e x others fresh =
-    (ap (λ d. owner_of table.start.layout.workers d.span e.src) x.deal ∙ (fresh.0 ∙ sym x.number),
-    λ k f seen same_src same_seq. ⊎_elim
-        (λ i. fresh.1 k f (inl (subst (λ d. In (Put k f) d.history) x.deal i)) same_src same_seq)
-        (λ i. ⊎_elim (λ i. fresh.1 k f (inr i) same_src same_seq) (λ i. others f (subst (In f) x.puts_are (put_within k f x.since i)) same_src same_seq)
-            (in_append (caller table old).own x.since (Put k f) (subst (In (Put k f)) x.own i))) seen)
+still_new {table} {old} {new} {put} e x others fresh = (
+  ap (λ d. owner_of table.start.layout.workers d.span e.src) x.deal ∙ (fresh.0 ∙ sym x.number),
+  λ k f seen same_src same_seq. ⊎_elim
+      (λ i. fresh.1 k f (inl (subst (λ d. In (Put k f) d.history) x.deal i)) same_src same_seq)
+      (λ i. ⊎_elim (λ i. fresh.1 k f (inr i) same_src same_seq) (λ i. others f (subst (In f) x.puts_are (put_within k f x.since i)) same_src same_seq)
+      (in_append (caller table old).own x.since (Put k f) (subst (In (Put k f)) x.own i))) seen,
+)
 
 -- of two events with different numbers
 pub put_other : (r : Result (Unit {0}) Trouble) (e e' : Event) → (e.seq ≡ e'.seq → ⊥) → (f : Event) → In f (if_put r e) → f.src ≡ e'.src → f.seq ≡ e'.seq → ⊥
@@ -97,9 +98,10 @@ none_in es e is i = absurd (subst (In e) is i)
 module _ (table : Table) (whole : Whole) (places : List Seating) (all : AreResting table places) (dealt : AreDealt table whole 1 places) (k : ℕ) (pass : Pass) (b : k < table.start.layout.workers) (at : slice_get places k ≡ Some (Here pass)) where
   -- each event of its source is new
   pub first_new : history_of whole ≡ [] → (e : Event) → e.src ≡ k → IsNew table pass e
-  first_new empty e src = let d = dealt.each k pass at in let n : ℕ = table.start.layout.workers in let m : ℕ = n - 1 in
-      (ap (λ d. owner_of n d.span e.src) d.deal ∙ (ap (λ x. min x m) (div-one e.src) ∙ (min-eq_left (omega arith) ∙ (src ∙ sym d.number))),
-      λ j f i same_src same_seq. ⊎_elim (none_in _ _ (ap (λ d. d.history) d.deal ∙ empty)) (none_in _ _ d.own) i)
+  first_new empty e src = let d = dealt.each k pass at in let n : ℕ = table.start.layout.workers in let m : ℕ = n - 1 in (
+    ap (λ d. owner_of n d.span e.src) d.deal ∙ (ap (λ x. min x m) (div-one e.src) ∙ (min-eq_left (omega arith) ∙ (src ∙ sym d.number))),
+    λ j f i same_src same_seq. ⊎_elim (none_in _ _ (ap (λ d. d.history) d.deal ∙ empty)) (none_in _ _ d.own) i,
+  )
 
 -- two passes that were taken out
 module _ (start mid now : List Seating) (first : mid ≡ set start 0 Lifted) where

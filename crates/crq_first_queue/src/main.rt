@@ -1,5 +1,6 @@
 //! The program `crq_first_queue`: two callers put events into one queue, and one of them takes them in order.
 #![tactic(auto)]
+
 ghost use Rattle.std.specs.Prelude.{◌≡◌, [], ◌∷◌};
 ghost use Rattle.crq_queue.specs.Wholes.{IsResting};
 ghost use Rattle.crq_first_queue.specs.Deeds.{IsNew, Did, if_put, if_taken};
