@@ -333,7 +333,10 @@ fn endings_in_words(rt: HostRuntime) -> Result<(), Fail> {
             "run not_json 1 16 100",
             "not_json: the text isn't JSON in UTF-8",
         ),
-        ("run now\u{7}here 1 16 100", "now\\x07here: the file can't be read"),
+        (
+            "run now\u{7}here 1 16 100",
+            "now\\x07here: the file can't be read",
+        ),
         (
             "run A 1 16 2",
             "A: the run has more events than EVENTS; the first one past them is in window 3",
