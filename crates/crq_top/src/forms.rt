@@ -5,6 +5,7 @@ ghost use Rattle.std.specs.Fmt.{decimal};
 ghost use Rattle.crq_top.specs.Commands.{name_of, form_of, range_of, IsBetween, Fits, AllFit, IsProblemOf, problem_of};
 ghost use Rattle.crq_top.specs.Explained.{parameter_name};
 
+use crq_sim::{MOST_EVENTS, MOST_OBJECTS, MOST_STARTS};
 use itoa::Buffer;
 
 /// The commands, by the words with which they begin.
@@ -133,10 +134,10 @@ impl Parameter {
             Parameter::Model => None,
             Parameter::Workers => Some((1, 1)),
             Parameter::Rows => Some((4, 131_072)),
-            Parameter::Events => Some((1, 4_194_304)),
+            Parameter::Events => Some((1, u64::from(MOST_EVENTS))),
             Parameter::Seed => Some((0, u64::MAX)),
-            Parameter::Objects => Some((1, 65_535)),
-            Parameter::Population => Some((0, 65_535)),
+            Parameter::Objects => Some((1, MOST_OBJECTS as u64)),
+            Parameter::Population => Some((0, MOST_STARTS as u64)),
         }
     }
 
