@@ -1,2 +1,3 @@
+-- What contracts cite: whoever believes them has to read these.
 pub mod Workers
 pub mod Teams

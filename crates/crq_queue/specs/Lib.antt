@@ -1,5 +1,7 @@
+-- What public contracts cite: whoever believes them has to read these.
 pub mod Wholes
 pub mod Runs
 pub mod Parts
 pub mod Calls
+-- What only contracts inside the crate cite.
 pub mod Stages
