@@ -25,7 +25,7 @@ use Rattle.crq_rule.specs.ListParts.{ranks, MarkFits}
 use Rattle.crq_rule.specs.Ranks.{rank, head_of, Cell, at_head, at_row, link_at, Rises, after_cell, without_row}
 use Rattle.crq_rule.specs.ScarceParts.{WasOut, Swept}
 use Rattle.crq_rule.specs.Invariant.{Inv}
-use Rattle.crq_rule.specs.ListKinds.{put_entries, is_val, MayWalk, is_passing, swept_head, sweep_on, clean_on}
+use Rattle.crq_rule.specs.ListKinds.{put_entries, is_val, MayWalk, is_passing, swept_head, taken_on, sweep_on, clean_on}
 use Rattle.crq_rule.proofs.Puts.{put_all}
 use Rattle.crq_rule.proofs.PartLaws.{one_home}
 use Rattle.crq_rule.proofs.HistoryLaws.{not_out}
@@ -227,10 +227,15 @@ module _ (c : Core) (j : ℕ) (b : j < c.start.layout.workers) (inv : Inv c) whe
       by None is = sweeps_old
       by (Some s) is = if_passing s is (is_passing (c.found j).control p (c.position j).rows s) refl
 
-  pub swept_walked : (cell : Cell) → Swept c.start.layout c.history c.words.event c.chain
-      (put c.sweep j (sweep_on (swept_head (c.found j).control cell (c.position j).rows (c.sweep j)) (link_at c.words.head c.words.link cell) (c.words.event (link_at c.words.head c.words.link cell).row) (c.sweep j)))
-      (put c.clean j (clean_on (swept_head (c.found j).control cell (c.position j).rows (c.sweep j)) (link_at c.words.head c.words.link cell) (c.clean j)))
-  swept_walked cell = let now = sweeps_after cell in record {
+  sweeps_both : (cell : Cell) (seeks : Bool) → Sweeps (sweep_on (taken_on seeks (c.found j).control cell (c.position j).rows (c.sweep j)) (link_at c.words.head c.words.link cell) (c.words.event (link_at c.words.head c.words.link cell).row) (c.sweep j))
+      (clean_on (taken_on seeks (c.found j).control cell (c.position j).rows (c.sweep j)) (link_at c.words.head c.words.link cell) (c.clean j))
+  sweeps_both cell true = sweeps_old
+  sweeps_both cell false = sweeps_after cell
+
+  pub swept_walked : (cell : Cell) (seeks : Bool) → Swept c.start.layout c.history c.words.event c.chain
+      (put c.sweep j (sweep_on (taken_on seeks (c.found j).control cell (c.position j).rows (c.sweep j)) (link_at c.words.head c.words.link cell) (c.words.event (link_at c.words.head c.words.link cell).row) (c.sweep j)))
+      (put c.clean j (clean_on (taken_on seeks (c.found j).control cell (c.position j).rows (c.sweep j)) (link_at c.words.head c.words.link cell) (c.clean j)))
+  swept_walked cell seeks = let now = sweeps_both cell seeks in record {
     left = λ k r s inside is head home i w. put_all c.sweep j _ (λ k o. k < c.start.layout.workers → o ≡ Some s → IsHomeRow c.start.layout k r → WasOut c.history k (c.words.event r) → s.rank ≤ ranks c.words.event r)
         (λ _ is home w. now.left r s is head home i w) (λ k _ inside is home w. inv.swept.left k r s inside is head home i w) k inside is home w;
     clean_is = λ k q r inside t head home i w. put_all c.clean j _ (λ k qs. k < c.start.layout.workers → In q qs → IsHomeRow c.start.layout k r → WasOut c.history k (c.words.event r) → ⊥)
