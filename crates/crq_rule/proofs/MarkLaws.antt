@@ -35,6 +35,7 @@ use Rattle.crq_rule.proofs.PartLaws.{apart}
 use Rattle.crq_rule.proofs.HistoryLaws.{told_other, out_later}
 use Rattle.crq_rule.proofs.CallLaws.{walkers_entry}
 use Rattle.crq_rule.proofs.ScarceLaws.{scarce_grown, refusals_grown}
+use Rattle.crq_rule.proofs.SweepLaws.{swept_grown}
 use Rattle.crq_rule.proofs.SearchLaws.{stand_covered, stand_row, left_beyond, beyond_key}
 
 take_begin : (j k : ℕ) (e : Event) → Take j e ≡ Begin k → ⊥
@@ -265,6 +266,7 @@ mark_keeps c j r e b may val inv = let l = c.start.layout in let x = c.words.con
   walkers = walkers_entry _ _ _ _ c.begun _ _ _ _ _ _ _ j (Take j e) inv.told.begun_low (λ _ _. refl) (stands_dead l x k t v h r c.history j e is) inv.walkers;
   scarce = scarce_grown _ _ _ _ _ _ _ (λ k. no_begin j e k) inv.scarce;
   refusals = refusals_grown _ _ _ _ (λ k. no_begin j e k) inv.refusals;
+  swept = swept_grown _ _ _ _ _ _ _ (λ k. no_begin j e k) inv.swept;
 }
   where
     at : (s : Stand) × In s (c.position j).rows × (s.row ≡ r) × (s.event ≡ e)

@@ -36,6 +36,7 @@ use Rattle.crq_rule.proofs.PartLaws.{one_home, sort, of_whom}
 use Rattle.crq_rule.proofs.HolderLaws.{none_some}
 use Rattle.crq_rule.proofs.Pendings.{none_counted}
 use Rattle.crq_rule.proofs.ScarceLaws.{none_base}
+use Rattle.crq_rule.proofs.SweepLaws.{none_sweep}
 use Rattle.crq_rule.proofs.ListOpening.{off_on, opening_heads, opening_sorted, opening_marks, opening_standing, opening_lanes, opening_writing, opening_naming, opening_carriers, opening_told, opening_walkers}
 
 -- Words
@@ -180,6 +181,7 @@ opening_inv s first = let top = first.upto in let low = first.epoch in record {
   walkers = opening_walkers s first;
   scarce = record { each = λ k b _ is. absurd (none_base b is) };
   refusals = record { each = λ k _. none_counted [] k };
+  swept = record { left = λ k r s _ is. absurd (none_sweep s is); clean_is = λ k q r _ i. absurd i };
 }
   where
     heads_empty : (t : Bool) → (cond t (open_head s.first.generation) shut_head).row ≡ 0
