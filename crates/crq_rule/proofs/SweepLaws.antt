@@ -102,47 +102,41 @@ swept_linked c j cell r e b home is new inv old none = let q = head_of c.words.c
 -- Chains: the row behind another one is the next greater
 
 module _ (link : ℕ → Link) (rk : ℕ → ℕ) where
-  least_first : (n y r : ℕ) (ys : List ℕ) → Rises rk n (y ∷ ys) → In r (y ∷ ys) → rk y ≤ rk r
-  least_first n y r ys up i = ⊎_elim (λ (e : r ≡ y). subst (λ z. rk y ≤ rk z) (sym e) (omega arith)) (λ t. let h = above (rk y) r ys up.1 t in omega arith) i
-    where
-      above : (n r : ℕ) (ys : List ℕ) → Rises rk n ys → In r ys → n < rk r
-      above n r [] up i = absurd i
-      above n r (y ∷ ys) up i = ⊎_elim (λ (e : r ≡ y). subst (λ z. n < rk z) (sym e) up.0) (λ t. let h = above (rk y) r ys up.1 t in let low = up.0 in omega arith) i
+  -- the rows of a list that rises from n are above n
+  above : (n r : ℕ) (ys : List ℕ) → Rises rk n ys → In r ys → n < rk r
+  above n r [] up i = absurd i
+  above n r (y ∷ ys) up i = ⊎_elim (λ (e : r ≡ y). subst (λ z. n < rk z) (sym e) up.0) (λ t. let h = above (rk y) r ys up.1 t in let low = up.0 in omega arith) i
 
   -- the first row of a list is the least, where there is one
   pub first_least : (a n r : ℕ) (ys : List ℕ) → Leads link a ys → Rises rk n ys → ((s : ℕ) → In s ys → 0 < s) → In r ys → (a ≡ 0 → ⊥) × (rk a ≤ rk r)
   first_least a n r [] l up some i = absurd i
-  first_least a n r (y ∷ ys) l up some i = let here : a ≡ y = l.0 in (λ z. let s = some y (inl refl) in absurd (omega arith), subst (λ z. rk z ≤ rk r) (sym here) (least_first n y r ys up i))
+  first_least a n r (y ∷ ys) l up some i = let here : a ≡ y = l.0 in (λ z. let s = some y (inl refl) in absurd (omega arith), subst (λ z. rk z ≤ rk r) (sym here) (⊎_elim (λ (e : r ≡ y). subst (λ z. rk y ≤ rk z) (sym e) (omega arith)) (λ t. let h = above (rk y) r ys up.1 t in omega arith) i))
 
   pub next_least : (a n p r : ℕ) (ys : List ℕ) → Leads link a ys → Rises rk n ys → ((s : ℕ) → In s ys → 0 < s) → In p ys → In r ys → r ≢ p → rk p ≤ rk r → ((link p).row ≡ 0 → ⊥) × (rk (link p).row ≤ rk r)
   next_least a n p r [] l up some i j ne low = absurd i
   next_least a n p r (y ∷ ys) l up some i j ne low = ⊎_elim
       (λ (e : p ≡ y). let k : In r ys = ⊎_elim (λ (f : r ≡ y). absurd (ne (f ∙ sym e))) (λ t. t) j in
       subst (λ z. ((link z).row ≡ 0 → ⊥) × (rk (link z).row ≤ rk r)) (sym e) (first_least (link y).row (rk y) r ys l.1 up.1 (λ s t. some s (inr t)) k))
-      (λ t. ⊎_elim (λ (f : r ≡ y). let h = subst (λ z. rk y < rk z) (refl {a = p}) (after (rk y) p ys up.1 t) in let same : rk r ≡ rk y = ap rk f in absurd (omega arith))
+      (λ t. ⊎_elim (λ (f : r ≡ y). let h = above (rk y) p ys up.1 t in let same : rk r ≡ rk y = ap rk f in absurd (omega arith))
       (λ u. next_least (link y).row (rk y) p r ys l.1 up.1 (λ s t. some s (inr t)) t u ne low) j) i
-    where
-      after : (n s : ℕ) (zs : List ℕ) → Rises rk n zs → In s zs → n < rk s
-      after n s [] up i = absurd i
-      after n s (z ∷ zs) up i = ⊎_elim (λ (e : s ≡ z). subst (λ x. n < rk x) (sym e) up.0) (λ t. let h = after (rk z) s zs up.1 t in let low = up.0 in omega arith) i
 
 -- A walk
 
-val_is : (m : Mark) → is_val m ≡ true → m ≡ Val
+pub val_is : (m : Mark) → is_val m ≡ true → m ≡ Val
 val_is Val e = refl
 val_is Invalid e = absurd (false≢true e)
 val_is Mov e = absurd (false≢true e)
 val_is Del e = absurd (false≢true e)
 
-del_val : Del ≡ Val → ⊥
+pub del_val : Del ≡ Val → ⊥
 del_val e = cc
 
 -- a present row that nobody has in hand is listed
-listed_in : (h : Holding) (m : Mark) → m ≡ Val → ((i : ℕ) → h ≡ in_hand i → ⊥) → MarkFits h m → (q : ℕ) × (h ≡ listed q)
-listed_in (in_hand i) m val out fits = absurd (out i refl)
-listed_in (listed q) m val out fits = (q, refl)
-listed_in (cut_by i) m val out fits = absurd (del_val (sym fits ∙ val))
-listed_in (retired t) m val out fits = absurd (del_val (sym fits ∙ val))
+pub present_listed : (h : Holding) (m : Mark) → m ≡ Val → ((i : ℕ) → h ≡ in_hand i → ⊥) → MarkFits h m → (q : ℕ) × (h ≡ listed q)
+present_listed (in_hand i) m val out fits = absurd (out i refl)
+present_listed (listed q) m val out fits = (q, refl)
+present_listed (cut_by i) m val out fits = absurd (del_val (sym fits ∙ val))
+present_listed (retired t) m val out fits = absurd (del_val (sym fits ∙ val))
 
 record Passing (x : Option Control) (p : ℕ) (ss : List Stand) (s : Sweep) : Type 0 where
   control : Control
@@ -178,7 +172,7 @@ module _ (c : Core) (j : ℕ) (b : j < c.start.layout.workers) (inv : Inv c) whe
   behind_row p s is t val r head home i w = let v = stand_covered c j t.stand b t.stands inv in let x = c.words.control in
       let holds : c.words.event p ≡ t.stand.event = ap c.words.event (sym t.row) ∙ inv.standing.holds j t.stand b t.stands in
       let row : IsRow c.start.layout p = subst (IsRow c.start.layout) t.row (inv.lanes.is_row j v.0 t.stand.row v.1) in
-      let at = listed_in (c.holding p) (c.words.link p).mark val (λ k held. inv.cover.free j v.0 t.stand.row k v.1 (ap c.holding t.row ∙ held)) (inv.marks.mark p row) in
+      let at = present_listed (c.holding p) (c.words.link p).mark val (λ k held. inv.cover.free j v.0 t.stand.row k v.1 (ap c.holding t.row ∙ held)) (inv.marks.mark p row) in
       let in_list = inv.holders.of_chain at.0 p row at.1 in let control : t.control ≡ x = inv.reading.read_control j t.control b t.found in
       let list : at.0 ≡ s.head = sym (inv.sorted.belongs at.0 p in_list.0 in_list.1) ∙ ((λ k. head_of (sym control k) (holds k)) ∙ t.head) in
       let here : In p (c.chain s.head) = subst (λ q. In p (c.chain q)) list in_list.1 in

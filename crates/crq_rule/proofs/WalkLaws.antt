@@ -30,7 +30,7 @@ use Rattle.crq_rule.specs.HistoryParts.{StandsFrom}
 use Rattle.crq_rule.specs.Invariant.{Inv}
 use Rattle.crq_rule.specs.Ranks.{rank, head_of, IsOpen, Cell, at_head, at_row, link_at}
 use Rattle.crq_rule.specs.ListKinds.{is_final, is_passed, is_val, stands_after, walk_after, walked, is_beyond, relieved, next_stand, walked_from, MayWalk, MaySeek}
-use Rattle.crq_rule.proofs.SweepLaws.{swept_walked}
+use Rattle.crq_rule.proofs.SweepLaws.{val_is, swept_walked}
 use Rattle.crq_rule.proofs.Puts.{put_here, put_else, put_all}
 use Rattle.crq_rule.proofs.PartLaws.{sort}
 use Rattle.crq_rule.proofs.Standings.{least, first_in, next_above, adjacent, longer, reached, path_in, in_join, join_in, rows_in, next_in, stood, row_stood, row_stays, row_next}
@@ -158,12 +158,6 @@ on_is : (g : Guard) → IsOn g → (x : ℕ) × (g ≡ On x)
 on_is Off on = absurd on
 on_is (Entering x) on = absurd on
 on_is (On x) on = (x, refl)
-
-val_is : (m : Mark) → is_val m ≡ true → m ≡ Val
-val_is Val e = refl
-val_is Invalid e = absurd (false≢true e)
-val_is Mov e = absurd (false≢true e)
-val_is Del e = absurd (false≢true e)
 
 final_is : (m : Mark) → is_final m ≡ true → IsFinal m
 final_is Val e = absurd (false≢true e)

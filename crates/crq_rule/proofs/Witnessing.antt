@@ -38,7 +38,8 @@ use Rattle.crq_rule.proofs.Pendings.{none_counted}
 use Rattle.crq_rule.proofs.ScarceLaws.{none_base}
 use Rattle.crq_rule.proofs.SweepLaws.{none_sweep}
 use Rattle.crq_rule.proofs.ListOpening.{no_walk}
-use Rattle.crq_rule.proofs.Openings.{rows_in, in_rows, rows_once, opening_link, opening_inv}
+use Rattle.crq_rule.proofs.Counting.{rows_in, in_rows, rows_once}
+use Rattle.crq_rule.proofs.Openings.{opening_link, opening_inv}
 
 abbrev layout : Layout
 layout = record { workers = 2; rows = 4; home = 8; all = 16; few = (omega arith, omega arith); some_rows = (omega arith, omega arith); home_is = refl; all_is = refl; all_fit = omega arith }
