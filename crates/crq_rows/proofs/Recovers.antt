@@ -142,11 +142,14 @@ module _ (table : Table) (old new : Pass) (moved : ℕ) (tick : TickOp) (op : Is
   pub tick_last : (tick' : TickOp) (g first : ℕ) → TickStepped table moved tick tick' old new (Tick.Moved g) → moved + 1 ≡ 3 → first ≡ (caller table old).number * here.home + 1 → RecoverStepped table (Ticking moved tick) (Visiting g first) old new More
   tick_last tick' g first s is at = let a = s.facts.answer in let fewer = one_fewer moved (here.workers + 3) op.0 in let h = here.home_is in let some_rows = here.some_rows in
       let num : (caller table new).number ≡ (caller table old).number = ap (λ (q : Caller). q.number) s.facts.stays in let at' : first ≡ (caller table new).number * here.home + 1 = at ∙ ap (λ j. j * here.home + 1) (sym num) in
-      ticked tick' (Tick.Moved g) (Visiting g first) More s (inr (a.0, g, a.1, a.3, a.4, a.5, inr (is, ap (Visiting g) at)))
-      (a.4, (omega arith, omega arith), λ _. (
-        record { before = (caller table old).made; last = s.facts.made; since = []; made = s.facts.one; finds = a.5; looks = sym at' },
-        (let h = s.facts.based op.2 in let none = h.2 in let rose = h.3 in (h.0, h.1, omega arith, at' ∙ (omega arith), λ all. absurd (omega arith))),
-      ))
+      ticked tick' (Tick.Moved g) (Visiting g first) More s (inr (a.0, g, a.1, a.3, a.4, a.5, inr (is, ap (Visiting g) at))) (
+        a.4,
+        (omega arith, omega arith),
+        λ _. (
+          record { before = (caller table old).made; last = s.facts.made; since = []; made = s.facts.one; finds = a.5; looks = sym at' },
+          (let h = s.facts.based op.2 in let none = h.2 in let rose = h.3 in (h.0, h.1, omega arith, at' ∙ (omega arith), λ all. absurd (omega arith))),
+        ),
+      )
       (λ n k. known_made n here tick' (caller table new) k) (λ _. omega arith)
 
 -- What follows on a row

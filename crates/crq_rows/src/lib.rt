@@ -29,7 +29,7 @@ pub use own::{Own, OwnOp};
 pub use places::Passes;
 pub use recover::{Recover, RecoverOp};
 pub use steps::{
-    claim_step, confirm_step, enter_step, epoch_step, leave_step, look_step, read_step, recovery_step,
-    retire_step, scan_step, tick_step, write_step,
+    claim_step, confirm_step, enter_step, epoch_step, leave_step, look_step, read_step,
+    recovery_step, retire_step, scan_step, tick_step, write_step,
 };
 pub use tick::{Tick, TickOp};

@@ -17,12 +17,14 @@ mod view;
 pub use crq_base::{First, StepKind};
 pub use debts::{CopyDebt, CutDebt, Debts, SettleDebt};
 pub use laws::{
-    claim_law, gather_law, guard_law, opening_law, parts_law, scarcity_law, seat_law, step_law, witness_law,
+    claim_law, gather_law, guard_law, opening_law, parts_law, scarcity_law, seat_law, step_law,
+    witness_law,
 };
 pub use layout::{BANK, Layout, MOST_ROWS, Start};
 pub use opening::{Opened, open_table};
 pub use pass::{Owes, Pass, Rest, Seating, Table};
 pub use rule::{FirstPart, JoinedParts, TableLaw};
 pub use view::{
-    Base, Caller, CutRow, Deal, Found, Guard, Help, Made, Position, Stand, Sweep, Tick, Told, View, Walk, Wrote,
+    Base, Caller, CutRow, Deal, Found, Guard, Help, Made, Position, Stand, Sweep, Tick, Told, View,
+    Walk, Wrote,
 };
