@@ -144,10 +144,11 @@ impl Calendar {
         match recover_within(&self.table, pass, budget) {
             Ok(Recover::Held(holder)) => Err(Refusal::Held(holder)),
             Ok(Recover::Rows) => Err(Refusal::Rows),
-            Ok(_) => match pass.free.front() {
+            Ok(Recover::Ready) => match pass.free.front() {
                 Some(row) => Ok(*row),
                 None => unreachable!(),
             },
+            Ok(Recover::More) => unreachable!(),
             Err(Spent) => Err(Refusal::Again { turns: budget }),
         }
     }

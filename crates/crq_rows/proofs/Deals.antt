@@ -18,7 +18,8 @@ use Rattle.crq_rule.specs.declared.pass.Seating.TheVariants.{Here, Resting}
 use Rattle.crq_rule.specs.Rule.{Lawful, fresh, fresh_from, head_view, tail_view, first_of, rest_of, IsFirstApart}
 use Rattle.crq_rule.specs.Opening.{IsFresh, IsOpening, no_debts}
 use Rattle.crq_rule.proofs.ScarceLaws.{none_base}
-use Rattle.crq_rule.proofs.Openings.{fresh_at, rows_in, none_control}
+use Rattle.crq_rule.proofs.Counting.{rows_in}
+use Rattle.crq_rule.proofs.Openings.{fresh_at, none_control}
 use Rattle.crq_rule.proofs.HolderLaws.{none_some}
 use Rattle.crq_rows.specs.Passes.{first_part, IsOwed, IsNew, AreNew}
 use Rattle.crq_rows.specs.Waking.{AllRest, pass_of, AllWoken}

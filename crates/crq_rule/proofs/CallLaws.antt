@@ -27,6 +27,7 @@ use Rattle.crq_rule.proofs.Puts.{put_else, put_all}
 use Rattle.crq_rule.proofs.HistoryLaws.{told_other, told_begin, pending_same, out_later, front_of}
 use Rattle.crq_rule.proofs.Pendings.{counted_grown, none_counted}
 use Rattle.crq_rule.proofs.ScarceLaws.{base_grown, scarce_drop, scarce_grown, refusals_grown, refusals_put}
+use Rattle.crq_rule.proofs.SweepLaws.{swept_grown, swept_begun}
 use Rattle.crq_rule.proofs.SearchLaws.{left_beyond, beyond_time}
 
 none_walk : (w : Walk) → None ≡ Some w → ⊥
@@ -105,6 +106,7 @@ control_keeps c j b inv = record {
   walkers = inv.walkers;
   scarce = inv.scarce;
   refusals = inv.refusals;
+  swept = inv.swept;
 }
 
 pub begin_keeps : (c : Core) (j : ℕ) → j < c.start.layout.workers → Inv c → Inv (begun_by c j)
@@ -129,6 +131,7 @@ begin_keeps c j b inv = record {
   walkers = walkers_entry _ _ _ _ _ _ _ _ _ _ _ _ j (Begin j) inv.told.begun_low (put_else c.begun j (length c.history)) (λ _ _ _ s. s) inv.walkers;
   scarce = scarce_drop _ _ _ _ _ _ _ _ j (λ k x _ ne. base_grown _ _ _ _ _ _ k x (other_begin j k ne)) inv.scarce;
   refusals = refusals_put _ _ _ _ j [] (λ _. none_counted (c.history ++ Begin j ∷ []) j) (λ k ne. counted_grown _ _ k (c.refused k) (other_begin j k ne)) inv.refusals;
+  swept = swept_begun _ _ _ _ _ _ j (λ k ne. other_begin j k ne) inv.swept;
 }
 
 -- what a search that comes to its end or to the limit left is taken
@@ -166,4 +169,5 @@ miss_keeps c j limit b may inv = record {
   walkers = walkers_entry _ _ _ _ c.begun _ _ _ _ _ _ _ j (Miss j limit) inv.told.begun_low (λ _ _. refl) (λ _ _ _ s. s) inv.walkers;
   scarce = scarce_grown _ _ _ _ _ _ _ (λ k. no_begin j limit k) inv.scarce;
   refusals = refusals_grown _ _ _ _ (λ k. no_begin j limit k) inv.refusals;
+  swept = swept_grown _ _ _ _ _ _ _ (λ k. no_begin j limit k) inv.swept;
 }

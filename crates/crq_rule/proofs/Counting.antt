@@ -3,6 +3,7 @@ use Rattle.std.proofs.Common.{◌≡◌, ◌≢◌, ⊎_elim, inl, inr, ℕ, zer
 use mathlib.Core.Logic.{dite}
 use native.Mathlib.Decide.{ℕ_discrete}
 use Rattle.crq_rule.specs.Lists.{In, IsOnce}
+use Rattle.crq_rule.specs.Rule.{rows_from}
 
 -- without x
 drop_all : ℕ → List ℕ → List ℕ
@@ -51,3 +52,20 @@ within_list (x ∷ xs) [] once all = absurd (all x (inl refl))
 within_list xs (y ∷ ys) once all =
     let r = within_list (drop_all y xs) ys (once_rest y xs once) (λ x i. let s = in_rest y x xs i in ⊎_elim (λ e. absurd (s.1 e)) (λ t. t) (all x s.0)) in
     let l = one_less y xs once in omega arith
+
+-- the home rows of a caller, in order
+pub rows_in : (a n r : ℕ) → In r (rows_from a n) → (a < r) × (r ≤ a + n)
+rows_in a zero r i = absurd i
+rows_in a (suc n) r i = ⊎_elim (λ (e : r ≡ a + 1). (omega arith, omega arith)) (λ t. let h = rows_in (a + 1) n r t in let lo = h.0 in let hi = h.1 in (omega arith, omega arith)) i
+
+pub in_rows : (a n r : ℕ) → a < r → r ≤ a + n → In r (rows_from a n)
+in_rows a zero r lo hi = absurd (omega arith)
+in_rows a (suc n) r lo hi = dite (ℕ_discrete r (a + 1)) inl (λ ne. inr (in_rows (a + 1) n r (omega arith) (omega arith)))
+
+pub rows_once : (a n : ℕ) → IsOnce (rows_from a n)
+rows_once a zero = tt
+rows_once a (suc n) = ((λ i. let h = (rows_in (a + 1) n (a + 1) i).0 in omega arith), rows_once (a + 1) n)
+
+pub rows_long : (a n : ℕ) → length (rows_from a n) ≡ n
+rows_long a zero = refl
+rows_long a (suc n) = let r = rows_long (a + 1) n in omega arith

@@ -31,6 +31,7 @@ use Rattle.crq_rule.proofs.Puts.{put_here, put_else, put_all}
 use Rattle.crq_rule.proofs.PartLaws.{sort, of_whom, read_cut, cutting_cut}
 use Rattle.crq_rule.proofs.HolderLaws.{none_some, some_some}
 use Rattle.crq_rule.proofs.ScarceLaws.{since_low, scarce_lasts, lasts_held}
+use Rattle.crq_rule.proofs.SweepLaws.{swept_cut}
 use Rattle.crq_rule.proofs.WithoutLaws.{first_in, next_in, leads_else, leads_first, leads_without, rises_without, in_without_row, without_row_in, gone, Passes, path_cut, path_pass}
 
 -- the caller's guard is on or not
@@ -472,6 +473,7 @@ module _ (c : Core) (j : ℕ) (cell : Cell) (x : ℕ) (l : Link) (b : j < c.star
     scarce = scarce_lasts _ _ _ _ _ _ _ _ _ (le_refl _) (λ k inside. lasts_held _ _ _ _ x (cut_by j) k (λ g _ _. subst (IsLate c.guard g) (sym was) tt)
         (λ g _ low _. inr (since_low c.words.epoch (c.words.announced j) g (c.guard j) (inv.guards.each j b) (omega arith)))) inv.scarce;
     refusals = inv.refusals;
+    swept = swept_cut _ _ _ _ _ _ q x inv.swept;
   }
 
 -- Cut

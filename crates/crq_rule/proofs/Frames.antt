@@ -50,6 +50,7 @@ frame_guards c e announced epochs guard tick cut base position walk inv reading 
   walkers = walkers;
   scarce = scarce;
   refusals = inv.refusals;
+  swept = inv.swept;
 }
 
 -- stamps, rows in hand, rows looked at, cut rows, bases, refusals and holders
@@ -88,6 +89,7 @@ frame_rows c stamp hand ripening cut base refused holding inv reading holders cu
   walkers = walkers;
   scarce = scarce;
   refusals = refusals;
+  swept = inv.swept;
 }
 
 -- the list of steps made, which no part reads
@@ -113,4 +115,5 @@ frame_made c j m inv = record {
   walkers = inv.walkers;
   scarce = inv.scarce;
   refusals = inv.refusals;
+  swept = inv.swept;
 }

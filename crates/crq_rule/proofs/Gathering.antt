@@ -48,6 +48,7 @@ redealt_keeps c deal own told inv = record {
   walkers = inv.walkers;
   scarce = inv.scarce;
   refusals = inv.refusals;
+  swept = inv.swept;
 }
 
 -- entries don't end in a Begin where there are none

@@ -24,12 +24,6 @@ use Rattle.crq_rule.proofs.Frames.{frame_guards}
 pub on_low : (c : Core) → Inv c → (k g : ℕ) → k < c.start.layout.workers → c.guard k ≡ On g → (g ≤ c.words.epoch) × (c.words.epoch ≤ g + 1)
 on_low c inv k g b is = let h = subst (GuardIs c.words.epoch (c.words.announced k)) is (inv.guards.each k b) in (h.2, h.3)
 
--- what a guard that is on found
-pub on_is : (g : Guard) → IsOn g → (x : ℕ) × (g ≡ On x)
-on_is Off on = absurd on
-on_is (Entering x) on = absurd on
-on_is (On x) on = (x, refl)
-
 -- a caller whose guard isn't on stands nowhere, and has no cut row
 not_on : (c : Core) → Inv c → (j : ℕ) → (IsOn (c.guard j) → ⊥) → j < c.start.layout.workers → standing (c.position j) (c.debts j) ≡ []
 not_on c inv j off b = inv.cover.resting j b off

@@ -1,5 +1,5 @@
 -- Each step of each kind keeps the invariant, changes what its own caller knows alone, and one word at most.
-use Rattle.std.proofs.Common.{◌≡◌, ◌≢◌, ℕ, ◌+◌, ◌*◌, ◌^◌, ◌<◌, Bool, [], ◌∷◌, ◌++◌, length, Option, None, Some, sym, refl, ap, append-nil}
+use Rattle.std.proofs.Common.{◌≡◌, ◌≢◌, ℕ, ◌+◌, ◌*◌, ◌^◌, ◌<◌, Bool, List, [], ◌∷◌, ◌++◌, length, Option, None, Some, sym, refl, ap, append-nil}
 use Rattle.crq_base.specs.declared.event.Event.{Event}
 use Rattle.crq_base.specs.declared.entry.Entry.TheVariants.{Begin, Take, Miss}
 use Rattle.crq_base.specs.declared.words.Link.{Link}
@@ -9,6 +9,7 @@ use Rattle.crq_rule.specs.declared.view.Guard.TheVariants.{Off, Entering, On}
 use Rattle.crq_rule.specs.declared.debts.Debts.{Debts}
 use Rattle.crq_rule.specs.declared.view.Position.{Position}
 use Rattle.crq_rule.specs.declared.view.Walk.{Walk}
+use Rattle.crq_rule.specs.declared.view.Sweep.{Sweep}
 use Rattle.crq_rule.specs.declared.view.Caller.{Caller}
 use Rattle.crq_rule.specs.Lists.{put, without}
 use Rattle.crq_rule.specs.Places.{Words, Place, epoch, announced, head, link as link_place, stamp, twin, time, source, sequence, load, word_of}
@@ -17,7 +18,7 @@ use Rattle.crq_rule.specs.Invariant.{Inv}
 use Rattle.crq_rule.specs.ScarceParts.{pending}
 use Rattle.crq_rule.specs.Kinds.{tagged, new_base, new_tick, nowhere, seen_stamp, base_looked, refused_after}
 use Rattle.crq_rule.specs.Ranks.{Cell, at_head, at_row, cell_place, link_at, heads_set, links_set}
-use Rattle.crq_rule.specs.ListKinds.{Content, new_link, no_twin, new_time, new_source, new_sequence, new_load, content_number, content_word, row_place, wrote, link_after, twin_after, event_after, put_entries, cut_debt, unhanded, forgotten, without_stand, unnamed, stands_after, walk_after, relieved}
+use Rattle.crq_rule.specs.ListKinds.{Content, new_link, no_twin, new_time, new_source, new_sequence, new_load, content_number, content_word, row_place, wrote, link_after, twin_after, event_after, put_entries, cut_debt, unhanded, forgotten, without_stand, unnamed, stands_after, walk_after, taken_on, sweep_on, clean_on, relieved}
 use Rattle.crq_rule.specs.Steps.{Kind, split, join, epoch_load, recovery_load, enter, confirm, leave, scan, tick, tick_fails, retire, look, claim, write, read, walk, link, link_fails, control_load, begin, mark, mark_fails, cut, cut_fails, miss, May, After, place_of, entries_of}
 use Rattle.crq_rule.proofs.Puts.{put_else, put_through}
 use Rattle.crq_rule.proofs.GuardLaws.{load_keeps, recovery_keeps, enter_keeps, confirm_keeps, leave_keeps, scan_keeps, tick_keeps, tick_fails_keeps}
@@ -63,6 +64,12 @@ new_position c j cell seeks = let l = link_at c.words.head c.words.link cell in 
 abbrev new_walk : Core → ℕ → Cell → Bool → Option Walk
 new_walk c j cell seeks = walk_after cell seeks (link_at c.words.head c.words.link cell) (c.walk j)
 
+abbrev new_sweep : Core → ℕ → Cell → Bool → Option Sweep
+new_sweep c j cell seeks = let l = link_at c.words.head c.words.link cell in sweep_on (taken_on seeks (c.found j).control cell (c.position j).rows (c.sweep j)) l (c.words.event l.row) (c.sweep j)
+
+abbrev new_clean : Core → ℕ → Cell → Bool → List ℕ
+new_clean c j cell seeks = clean_on (taken_on seeks (c.found j).control cell (c.position j).rows (c.sweep j)) (link_at c.words.head c.words.link cell) (c.clean j)
+
 abbrev new_debts : Core → ℕ → Cell → Debts
 new_debts c j cell = let l = link_at c.words.head c.words.link cell in record (c.debts j) { cut = relieved (c.found j).control cell (c.position j).rows l (c.words.event l.row) (c.debts j).cut }
 
@@ -99,6 +106,8 @@ others_stay (read r p) c j i ne = refl
 others_stay (walk cell seeks) c j i ne = λ x. record (caller_of c i) {
   position = put_else c.position j (new_position c j cell seeks) i ne x;
   walk = put_else c.walk j (new_walk c j cell seeks) i ne x;
+  sweep = put_else c.sweep j (new_sweep c j cell seeks) i ne x;
+  clean = put_else c.clean j (new_clean c j cell seeks) i ne x;
   debts = put_else c.debts j (new_debts c j cell) i ne x;
 }
 others_stay (link cell l r e) c j i ne = λ x. record (caller_of c i) {
@@ -113,6 +122,8 @@ others_stay begin c j i ne = λ x. record (caller_of c i) {
   own = put_else c.own j (c.own j ++ Begin j ∷ []) i ne x;
   base = put_else c.base j None i ne x;
   refused = put_else c.refused j [] i ne x;
+  sweep = put_else c.sweep j None i ne x;
+  clean = put_else c.clean j [] i ne x;
   walk = put_else c.walk j None i ne x;
   found = put_else c.found j (record (c.found j) { control = Some c.words.control }) i ne x;
 }

@@ -15,7 +15,7 @@ use Rattle.crq_rule.proofs.Puts.{stand_in}
 use Rattle.crq_rule.proofs.ScarceLaws.{rows_counted}
 
 -- a caller whose guard isn't off or entering found an epoch
-found_by : (g : Guard) → IsOn g → (e : ℕ) × (g ≡ On e)
+pub found_by : (g : Guard) → IsOn g → (e : ℕ) × (g ≡ On e)
 found_by Off on = absurd on
 found_by (Entering x) on = absurd on
 found_by (On x) on = (x, refl)

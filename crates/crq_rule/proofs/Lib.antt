@@ -15,13 +15,14 @@ pub mod MarkLaws
 pub mod HistoryLaws
 pub mod Pendings
 pub mod ScarceLaws
+pub mod Lawfuls
+pub mod SweepLaws
 pub mod SearchLaws
 pub mod CallLaws
 pub mod ListOpening
 pub mod Frames
 pub mod GuardLaws
 pub mod RowLaws
-pub mod Lawfuls
 pub mod Keeps
 pub mod Glue
 pub mod Gathering

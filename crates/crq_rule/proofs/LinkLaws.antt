@@ -29,6 +29,7 @@ use Rattle.crq_rule.proofs.Puts.{put_here, put_else, put_all}
 use Rattle.crq_rule.proofs.PartLaws.{home_is_row, one_home, sort, of_whom, apart}
 use Rattle.crq_rule.proofs.HistoryLaws.{fresh_put, told_put, pending_put, put_pending, outs_put, not_out, front_of}
 use Rattle.crq_rule.proofs.ScarceLaws.{base_lasts, base_grown, lasts_held, scarce_drop, refusals_grown}
+use Rattle.crq_rule.proofs.SweepLaws.{swept_grown, swept_linked}
 use Rattle.crq_rule.proofs.ChainLaws.{IsOf, IsBelow, cell_leads, cell_rises, in_cell, cell_in, cell_next, leads_else, links_else, heads_else, links_same, heads_same, links_all, heads_all}
 
 -- Lists
@@ -547,4 +548,6 @@ link_keeps c j cell l r e b may is inv = let f = known c j cell l r e b may is i
       (λ k x _ ne old. base_grown _ _ _ (put_entries j e) _ _ k x (no_begin j e k) (base_lasts _ _ _ _ _ _ _ _ k x (le_refl _)
       (lasts_held _ _ _ _ r (listed (head_of c.words.control e)) k (λ _ here _. absurd (ne (one_home c.start.layout k j r here home))) (λ _ _ _ _. inr tt)) old)) inv.scarce;
   refusals = refusals_grown _ _ _ _ (λ k. no_begin j e k) inv.refusals;
+  swept = swept_linked c j cell r e b (inv.holders.held j r b may.in_hand_is).0 f.event_is (fresh_put c.start.layout.workers c.history c.deal c.own c.begun j e b may.fresh inv.told) inv
+      (swept_grown _ _ _ _ _ _ _ (λ k. no_begin j e k) inv.swept) (no_begin j e);
 }

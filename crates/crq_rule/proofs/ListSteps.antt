@@ -22,7 +22,7 @@ use Rattle.crq_rule.specs.Parts.{IsOn, Leads, Covers, standing, rows_of_old, row
 use Rattle.crq_rule.specs.ListParts.{row_word, MarkFits}
 use Rattle.crq_rule.specs.Invariant.{Inv}
 use Rattle.crq_rule.specs.Ranks.{rank, head_of, IsOpen, Cell, at_head, at_row, cell_place, link_at, heads_set, links_set}
-use Rattle.crq_rule.specs.ListKinds.{stands_after, walk_after, relieved, Content, new_link, no_twin, new_time, new_source, new_sequence, new_load, IsContent, content_number, content_word, row_place, wrote, writes, links, event_word, loads_control, begins, marks, cuts, misses, MayWalk, MaySeek, MayLink, MayMark, MayCut, MayMiss, ComesAfter, put_entries, unhanded, forgotten, cut_debt, without_stand, unnamed}
+use Rattle.crq_rule.specs.ListKinds.{stands_after, walk_after, taken_on, sweep_on, clean_on, relieved, Content, new_link, no_twin, new_time, new_source, new_sequence, new_load, IsContent, content_number, content_word, row_place, wrote, writes, links, event_word, loads_control, begins, marks, cuts, misses, MayWalk, MaySeek, MayLink, MayMark, MayCut, MayMiss, ComesAfter, put_entries, unhanded, forgotten, cut_debt, without_stand, unnamed}
 use Rattle.crq_rule.specs.Steps.{Kind, write, walk, link as link_kind, link_fails, control_load, begin, mark, mark_fails, cut, cut_fails, miss, May, After, kind_of, place_of}
 use Rattle.crq_rule.specs.Rule.{IsWords, MovesBy, By, Walked, WalksOn, IsWalkable, FoundControl, wins, quiet}
 use Rattle.crq_base.proofs.WordLaws.{link_one}
@@ -152,6 +152,8 @@ module _ (key : Start) (p : Caller) where
           after = λ i. record (caller_of c j) {
             position = sym (put_here c.position j (record { rows = stands_after cell seeks l e (c.position j).rows; old = (c.position j).old })) i;
             walk = sym (put_here c.walk j (walk_after cell seeks l (c.walk j))) i;
+            sweep = sym (put_here c.sweep j (sweep_on (taken_on seeks (c.found j).control cell (c.position j).rows (c.sweep j)) l e (c.sweep j))) i;
+            clean = sym (put_here c.clean j (clean_on (taken_on seeks (c.found j).control cell (c.position j).rows (c.sweep j)) l (c.clean j))) i;
             debts = sym (put_here c.debts j (record (c.debts j) { cut = relieved (c.found j).control cell (c.position j).rows l e (c.debts j).cut })) i;
           };
           row = λ some. let n = named cell c b inv may' some in (n.0, inv.spelled.events l.row n.0);
@@ -281,6 +283,8 @@ module _ (key : Start) (p : Caller) where
       own = sym (put_here c.own j (c.own j ++ BeginEntry j ∷ [])) i;
       base = sym (put_here c.base j None) i;
       refused = sym (put_here c.refused j []) i;
+      sweep = sym (put_here c.sweep j None) i;
+      clean = sym (put_here c.clean j []) i;
       walk = sym (put_here c.walk j None) i;
       found = sym (put_here c.found j (record (c.found j) { control = Some c.words.control })) i;
     }),

@@ -35,6 +35,7 @@ use Rattle.crq_rule.proofs.PartLaws.{apart}
 use Rattle.crq_rule.proofs.HistoryLaws.{told_other, out_later}
 use Rattle.crq_rule.proofs.CallLaws.{walkers_entry}
 use Rattle.crq_rule.proofs.ScarceLaws.{scarce_grown, refusals_grown}
+use Rattle.crq_rule.proofs.SweepLaws.{swept_grown, del_val, present_listed}
 use Rattle.crq_rule.proofs.SearchLaws.{stand_covered, stand_row, left_beyond, beyond_key}
 
 take_begin : (j k : ℕ) (e : Event) → Take j e ≡ Begin k → ⊥
@@ -42,9 +43,6 @@ take_begin j k e q = cc
 
 no_begin : (j : ℕ) (e : Event) (k : ℕ) → In (Begin k) (Take j e ∷ []) → ⊥
 no_begin j e k i = ⊎_elim (λ (q : Begin k ≡ Take j e). take_begin j k e (sym q)) (λ n. n) i
-
-del_val : Del ≡ Val → ⊥
-del_val e = cc
 
 final_val : (l m : Link) → l ≡ m → l.mark ≡ Val → IsFinal m.mark → ⊥
 final_val l m e val final = subst IsFinal (sym (ap (λ (z : Link). z.mark) e) ∙ val) final
@@ -114,13 +112,6 @@ dead_fits (in_hand j) = tt
 dead_fits (listed q) = inr refl
 dead_fits (cut_by j) = refl
 dead_fits (retired t) = refl
-
--- a present row that nobody has in hand is listed
-present_listed : (h : Holding) (m : Mark) → m ≡ Val → ((j : ℕ) → h ≡ in_hand j → ⊥) → MarkFits h m → (q : ℕ) × (h ≡ listed q)
-present_listed (in_hand j) m val out fits = absurd (out j refl)
-present_listed (listed q) m val out fits = (q, refl)
-present_listed (cut_by j) m val out fits = absurd (del_val (sym fits ∙ val))
-present_listed (retired t) m val out fits = absurd (del_val (sym fits ∙ val))
 
 module _ (l : Layout) (control : Control) (link : ℕ → Link) (twin : ℕ → ℕ) (event : ℕ → Event) (holding : ℕ → Holding) (r : ℕ) where
   chains_dead : (head : ℕ → Link) (chain : ℕ → List ℕ) → Chains head link twin chain → Chains head (dead link r) twin chain
@@ -265,6 +256,7 @@ mark_keeps c j r e b may val inv = let l = c.start.layout in let x = c.words.con
   walkers = walkers_entry _ _ _ _ c.begun _ _ _ _ _ _ _ j (Take j e) inv.told.begun_low (λ _ _. refl) (stands_dead l x k t v h r c.history j e is) inv.walkers;
   scarce = scarce_grown _ _ _ _ _ _ _ (λ k. no_begin j e k) inv.scarce;
   refusals = refusals_grown _ _ _ _ (λ k. no_begin j e k) inv.refusals;
+  swept = swept_grown _ _ _ _ _ _ _ (λ k. no_begin j e k) inv.swept;
 }
   where
     at : (s : Stand) × In s (c.position j).rows × (s.row ≡ r) × (s.event ≡ e)

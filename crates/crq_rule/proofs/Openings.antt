@@ -34,8 +34,10 @@ use Rattle.crq_rule.specs.Opening.{opening_words, opening_head, open_head, shut_
 use Rattle.crq_rule.proofs.Placing.{shows_set, within, epoch_set, control_set, current_set}
 use Rattle.crq_rule.proofs.PartLaws.{one_home, sort, of_whom}
 use Rattle.crq_rule.proofs.HolderLaws.{none_some}
+use Rattle.crq_rule.proofs.Counting.{rows_in, in_rows, rows_once}
 use Rattle.crq_rule.proofs.Pendings.{none_counted}
 use Rattle.crq_rule.proofs.ScarceLaws.{none_base}
+use Rattle.crq_rule.proofs.SweepLaws.{none_sweep}
 use Rattle.crq_rule.proofs.ListOpening.{off_on, opening_heads, opening_sorted, opening_marks, opening_standing, opening_lanes, opening_writing, opening_naming, opening_carriers, opening_told, opening_walkers}
 
 -- Words
@@ -95,18 +97,6 @@ before_heads s = let l = s.layout in let w = unset s in
 pub rows_next : (a n : ℕ) → rows_from a n ++ (a + n + 1) ∷ [] ≡ rows_from a (n + 1)
 rows_next a zero = ap (λ x. x ∷ []) (omega arith)
 rows_next a (suc n) = ap (λ xs. (a + 1) ∷ xs) (ap (λ x. rows_from (a + 1) n ++ x ∷ []) (omega arith) ∙ (rows_next (a + 1) n)) ∙ ap (rows_from a) (let e : suc (n + 1) ≡ suc n + 1 = omega arith in e)
-
-pub rows_in : (a n r : ℕ) → In r (rows_from a n) → (a < r) × (r ≤ a + n)
-rows_in a zero r i = absurd i
-rows_in a (suc n) r i = ⊎_elim (λ (e : r ≡ a + 1). (omega arith, omega arith)) (λ t. let h = rows_in (a + 1) n r t in let lo = h.0 in let hi = h.1 in (omega arith, omega arith)) i
-
-pub in_rows : (a n r : ℕ) → a < r → r ≤ a + n → In r (rows_from a n)
-in_rows a zero r lo hi = absurd (omega arith)
-in_rows a (suc n) r lo hi = dite (ℕ_discrete r (a + 1)) inl (λ ne. inr (in_rows (a + 1) n r (omega arith) (omega arith)))
-
-pub rows_once : (a n : ℕ) → IsOnce (rows_from a n)
-rows_once a zero = tt
-rows_once a (suc n) = ((λ i. let h = (rows_in (a + 1) n (a + 1) i).0 in omega arith), rows_once (a + 1) n)
 
 home_row : (l : Layout) (r : ℕ) → 0 < r → IsHomeRow l (home_of l r) r
 home_row l r above = let h = l.home_is in let s = l.some_rows in
@@ -180,6 +170,7 @@ opening_inv s first = let top = first.upto in let low = first.epoch in record {
   walkers = opening_walkers s first;
   scarce = record { each = λ k b _ is. absurd (none_base b is) };
   refusals = record { each = λ k _. none_counted [] k };
+  swept = record { left = λ k r s _ is. absurd (none_sweep s is); clean_is = λ k q r _ i. absurd i };
 }
   where
     heads_empty : (t : Bool) → (cond t (open_head s.first.generation) shut_head).row ≡ 0

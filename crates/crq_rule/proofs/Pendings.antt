@@ -119,7 +119,7 @@ in_middle [] x ys = inl refl
 in_middle (y ∷ xs) x ys = inr (in_middle xs x ys)
 
 -- an entry of a history that grew stood there before, or is one of the new ones
-split_entry : (h more front back : List Entry) (x : Entry) → h ++ more ≡ front ++ x ∷ back → ((rest : List Entry) × (h ≡ front ++ x ∷ rest)) ⊎ In x more
+pub split_entry : (h more front back : List Entry) (x : Entry) → h ++ more ≡ front ++ x ∷ back → ((rest : List Entry) × (h ≡ front ++ x ∷ rest)) ⊎ In x more
 split_entry [] more front back x e = inr (subst (In x) (sym e) (in_middle front x back))
 split_entry (y ∷ h) more [] back x e = let same : y ≡ x = cc in inl (h, ap (λ z. z ∷ h) same)
 split_entry (y ∷ h) more (z ∷ front) back x e = let first : y ≡ z = cc in let tail : h ++ more ≡ front ++ x ∷ back = cc in

@@ -14,7 +14,8 @@ use Rattle.crq_rule.proofs.CoverLaws.{cover_retire, cover_claim, uncovered}
 use Rattle.crq_rule.proofs.StandLaws.{marks_held, writing_more, naming_held, carriers_held, walkers_held}
 use Rattle.crq_rule.proofs.ScarceLaws.{since_low, scarce_put, scarce_lasts, lasts_held, refusals_put, base_after, refused_counted}
 use Rattle.crq_rule.proofs.Frames.{frame_rows}
-use Rattle.crq_rule.proofs.GuardLaws.{on_low, on_is}
+use Rattle.crq_rule.proofs.GuardLaws.{on_low}
+use Rattle.crq_rule.proofs.Lawfuls.{found_by}
 
 pub retire_keeps : (c : Core) (j r t : ℕ) → j < c.start.layout.workers → MayRetire (c.cut j) r t → Inv c → Inv (retired_at c j r t)
 retire_keeps c j r t b may inv = let x = may.0 in let at = inv.holders.is_cut j x b may.1 in let held : c.holding r ≡ cut_by j = subst (λ z. c.holding z ≡ cut_by j) may.2 at.1 in
@@ -37,7 +38,7 @@ retire_keeps c j r t b may inv = let x = may.0 in let at = inv.holders.is_cut j 
     before held g late = subst (IsLate c.guard g) (sym held) (since_low c.words.epoch (c.words.announced j) g (c.guard j) (inv.guards.each j b) (let low = inv.reading.tags j t may.0 b may.1 may.3 in omega arith))
 
     after : (g : ℕ) → g + 3 ≤ c.words.epoch → g + 2 ≤ t
-    after g low = let on = on_is (c.guard j) (inv.cutting.on j may.0 b may.1) in let h = (on_low c inv j on.0 b on.1).1 in let tag = inv.cutting.tags j t on.0 may.0 b may.1 on.1 may.3 in omega arith
+    after g low = let on = found_by (c.guard j) (inv.cutting.on j may.0 b may.1) in let h = (on_low c inv j on.0 b on.1).1 in let tag = inv.cutting.tags j t on.0 may.0 b may.1 on.1 may.3 in omega arith
 
     other : c.holding r ≡ cut_by j → sort (c.holding r) ≢ 1
     other held z = let e : ◌≡◌ {A = ℕ} 2 1 = sym (ap sort held) ∙ z in absurd (omega arith)

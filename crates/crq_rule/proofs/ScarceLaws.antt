@@ -28,7 +28,7 @@ use Rattle.crq_rule.specs.Kinds.{new_base, has_risen, is_late_word, looked_base,
 use Rattle.crq_rule.specs.Rule.{rows_from}
 use Rattle.crq_rule.proofs.Puts.{put_here, put_else, put_all}
 use Rattle.crq_rule.proofs.PartLaws.{home_is_row, one_home}
-use Rattle.crq_rule.proofs.Counting.{within_list}
+use Rattle.crq_rule.proofs.Counting.{within_list, rows_in, rows_once, rows_long}
 use Rattle.crq_rule.proofs.Pendings.{both, either_of, pending_in, in_pending, counted_grown, pending_counted, none_counted}
 
 pub none_base : (b : Base) → None ≡ Some b → ⊥
@@ -289,21 +289,9 @@ module _ (c : Core) (j : ℕ) (b : j < c.start.layout.workers) (inv : Inv c) whe
 
 -- The count of a refusal
 
-rows_within : (a n r : ℕ) → In r (rows_from a n) → (a < r) × (r ≤ a + n)
-rows_within a zero r i = absurd i
-rows_within a (suc n) r i = ⊎_elim (λ (e : r ≡ a + 1). (omega arith, omega arith)) (λ t. let h = rows_within (a + 1) n r t in let lo = h.0 in let hi = h.1 in (omega arith, omega arith)) i
-
-rows_differ : (a n : ℕ) → IsOnce (rows_from a n)
-rows_differ a zero = tt
-rows_differ a (suc n) = ((λ i. let h = (rows_within (a + 1) n (a + 1) i).0 in omega arith), rows_differ (a + 1) n)
-
-rows_long : (a n : ℕ) → length (rows_from a n) ≡ n
-rows_long a zero = refl
-rows_long a (suc n) = let r = rows_long (a + 1) n in omega arith
-
 -- a caller that has no row in hand, and that found none of its home rows ripe since its recovery began, counts events for half its rows
 pub rows_counted : (c : Core) (k : ℕ) (x : Base) → k < c.start.layout.workers → c.base k ≡ Some x → c.hand k ≡ [] → x.looked ≡ c.start.layout.home → Inv c → c.start.layout.rows ≤ 2 * length x.events
 rows_counted c k x b is none all inv = let l = c.start.layout in let old = inv.scarce.each k x b is in
-    let count = within_list (rows_from (k * l.home) l.home) old.late.rows (rows_differ (k * l.home) l.home) (λ r i. let home = rows_within (k * l.home) l.home r i in
+    let count = within_list (rows_from (k * l.home) l.home) old.late.rows (rows_once (k * l.home) l.home) (λ r i. let home = rows_in (k * l.home) l.home r i in
     old.late.all r home (⊎_elim (λ (held : c.holding r ≡ in_hand k). absurd (subst (In r) none (inv.holders.of_hand k r (home_is_row l k r b home) held).1)) (λ late. late) (old.looked r home (let hi = home.1 in omega arith)))) in
     let few = old.late.few in let long = rows_long (k * l.home) l.home in let h = l.home_is in omega arith

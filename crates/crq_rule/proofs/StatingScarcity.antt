@@ -21,6 +21,7 @@ scarcity_holds c inv = record {
       (old.third (omega arith), ⊎_elim (λ held. inl (inv.holders.of_hand k r (home_is_row c.start.layout k r inside home) held).1) (λ late. inr (home, late)) (old.looked r home low));
   counted = λ k b inside is. (inv.scarce.each k b inside is).counted;
   refused = inv.refusals.each;
+  swept = λ k q r front back inside clean head home i parts out. inv.swept.clean_is k q r inside clean head home i (front, back, parts, out);
 }
 
 -- more events than half of the rows less two

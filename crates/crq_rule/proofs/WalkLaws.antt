@@ -30,6 +30,7 @@ use Rattle.crq_rule.specs.HistoryParts.{StandsFrom}
 use Rattle.crq_rule.specs.Invariant.{Inv}
 use Rattle.crq_rule.specs.Ranks.{rank, head_of, IsOpen, Cell, at_head, at_row, link_at}
 use Rattle.crq_rule.specs.ListKinds.{is_final, is_passed, is_val, stands_after, walk_after, walked, is_beyond, relieved, next_stand, walked_from, MayWalk, MaySeek}
+use Rattle.crq_rule.proofs.SweepLaws.{val_is, swept_walked}
 use Rattle.crq_rule.proofs.Puts.{put_here, put_else, put_all}
 use Rattle.crq_rule.proofs.PartLaws.{sort}
 use Rattle.crq_rule.proofs.Standings.{least, first_in, next_above, adjacent, longer, reached, path_in, in_join, join_in, rows_in, next_in, stood, row_stood, row_stays, row_next}
@@ -157,12 +158,6 @@ on_is : (g : Guard) → IsOn g → (x : ℕ) × (g ≡ On x)
 on_is Off on = absurd on
 on_is (Entering x) on = absurd on
 on_is (On x) on = (x, refl)
-
-val_is : (m : Mark) → is_val m ≡ true → m ≡ Val
-val_is Val e = refl
-val_is Invalid e = absurd (false≢true e)
-val_is Mov e = absurd (false≢true e)
-val_is Del e = absurd (false≢true e)
 
 final_is : (m : Mark) → is_final m ≡ true → IsFinal m
 final_is Val e = absurd (false≢true e)
@@ -363,6 +358,7 @@ walk_keeps c j cell seeks b is_on may seek inv = record {
   told = inv.told;
   scarce = inv.scarce;
   refusals = inv.refusals;
+  swept = swept_walked c j b inv cell seeks;
   walkers = record {
     opened = λ k w. put_all c.walk j (new_walk c j cell seeks) (λ k o. k < c.start.layout.workers → o ≡ Some w → IsHead w.head × IsOpen c.words.control w.head) (λ _ is. (fits w is).opened) (λ k _. inv.walkers.opened k w) k;
     at_stand = λ k w. put_all c.walk j (new_walk c j cell seeks) (λ k o. k < c.start.layout.workers → o ≡ Some w → (w.at ≡ 0) ⊎ In w.at (rows_of (put c.position j (new_position c j cell seeks) k).rows))

@@ -36,8 +36,10 @@ use Rattle.crq_rule.proofs.PartLaws.{sort, of_whom}
 use Rattle.crq_rule.proofs.HolderLaws.{none_some, some_some}
 use Rattle.crq_rule.proofs.Pendings.{none_counted}
 use Rattle.crq_rule.proofs.ScarceLaws.{none_base}
+use Rattle.crq_rule.proofs.SweepLaws.{none_sweep}
 use Rattle.crq_rule.proofs.ListOpening.{no_walk}
-use Rattle.crq_rule.proofs.Openings.{rows_in, in_rows, rows_once, opening_link, opening_inv}
+use Rattle.crq_rule.proofs.Counting.{rows_in, in_rows, rows_once}
+use Rattle.crq_rule.proofs.Openings.{opening_link, opening_inv}
 
 abbrev layout : Layout
 layout = record { workers = 2; rows = 4; home = 8; all = 16; few = (omega arith, omega arith); some_rows = (omega arith, omega arith); home_is = refl; all_is = refl; all_fit = omega arith }
@@ -328,6 +330,7 @@ core_inv = record {
   walkers = record { opened = old.walkers.opened; at_stand = λ k w b at. absurd (no_walk w at); left = λ k w _ _ _ _ at _ _ _ _ _. absurd (no_walk w at) };
   scarce = record { each = λ k b _ is. absurd (none_base b is) };
   refusals = record { each = λ k _. none_counted entries k };
+  swept = record { left = λ k r s _ is. absurd (none_sweep s is); clean_is = λ k q r _ i. absurd i };
 }
 
 pub witness : Witness core

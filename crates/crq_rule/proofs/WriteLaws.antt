@@ -24,6 +24,7 @@ use Rattle.crq_rule.specs.ListParts.{ranks, MarkFits, TwinFits, IsNamed, row_wor
 use Rattle.crq_rule.specs.HistoryParts.{IsLive}
 use Rattle.crq_rule.specs.Invariant.{Inv}
 use Rattle.crq_rule.specs.ListKinds.{Content, new_link, no_twin, new_time, new_source, new_sequence, new_load, IsContent, content_number, content_word, link_after, twin_after, event_after, unwritten, wrote, written_at}
+use Rattle.crq_rule.proofs.SweepLaws.{swept_events}
 use Rattle.crq_rule.proofs.Puts.{put_here, put_else, put_all}
 use Rattle.crq_rule.proofs.PartLaws.{sort, of_whom}
 
@@ -304,6 +305,7 @@ module _ (c : Core) (j r : ℕ) (x : Content) (b : j < c.start.layout.workers) (
     told = inv.told;
     scarce = inv.scarce;
     refusals = inv.refusals;
+    swept = swept_events _ _ _ _ _ _ event (λ q s d i. events_else s (chained_else q s d i)) inv.swept;
     walkers = record {
       opened = inv.walkers.opened;
       at_stand = inv.walkers.at_stand;

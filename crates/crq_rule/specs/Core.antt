@@ -15,6 +15,7 @@ use Rattle.crq_rule.specs.declared.view.Found.{Found}
 use Rattle.crq_rule.specs.declared.view.Wrote.{Wrote}
 use Rattle.crq_rule.specs.declared.view.Walk.{Walk}
 use Rattle.crq_rule.specs.declared.view.Help.{Help}
+use Rattle.crq_rule.specs.declared.view.Sweep.{Sweep}
 use Rattle.crq_rule.specs.declared.view.Told.{Told}
 use Rattle.crq_rule.specs.declared.view.Made.{Made}
 use Rattle.crq_rule.specs.declared.view.Caller.{Caller}
@@ -56,6 +57,7 @@ pub record Core : Type 0 where
   pub written : ℕ → List Wrote
   pub walk : ℕ → Option Walk
   pub help : ℕ → Option Help
+  pub sweep : ℕ → Option Sweep
   pub clean : ℕ → List ℕ
   pub refused : ℕ → List Event
   pub told : ℕ → Told
@@ -82,6 +84,7 @@ caller_of c j = record {
   written = c.written j;
   walk = c.walk j;
   help = c.help j;
+  sweep = c.sweep j;
   clean = c.clean j;
   refused = c.refused j;
   told = c.told j;

@@ -3,7 +3,7 @@ use Rattle.crq_rule.specs.Core.{Core}
 use Rattle.crq_rule.specs.Parts.{Spelled, Reading, Guards, Holders, Cutting, Stamps, Chains, Cover}
 use Rattle.crq_rule.specs.ListParts.{Heads, Sorted, Marks, Standing, Lanes, Writing, Naming}
 use Rattle.crq_rule.specs.HistoryParts.{Carriers, Told, Walkers}
-use Rattle.crq_rule.specs.ScarceParts.{Scarce, Refusals}
+use Rattle.crq_rule.specs.ScarceParts.{Scarce, Refusals, Swept}
 
 pub record Inv (c : Core) : Type 0 where
   pub spelled : Spelled c.start.layout c.words.control c.words.current c.words.pin c.words.head c.words.link c.words.twin c.words.event
@@ -26,3 +26,4 @@ pub record Inv (c : Core) : Type 0 where
   pub walkers : Walkers c.start.layout c.words.control c.history c.begun c.words.link c.words.twin c.words.event c.holding c.position c.walk
   pub scarce : Scarce c.start.layout c.words.epoch c.history c.base c.guard c.holding
   pub refusals : Refusals c.start.layout.workers c.history c.refused
+  pub swept : Swept c.start.layout c.history c.words.event c.chain c.sweep c.clean

@@ -12,6 +12,7 @@ use Rattle.crq_rule.specs.declared.debts.CutDebt.{CutDebt}
 use Rattle.crq_rule.specs.declared.view.Stand.{Stand}
 use Rattle.crq_rule.specs.declared.view.Wrote.{Wrote}
 use Rattle.crq_rule.specs.declared.view.Walk.{Walk}
+use Rattle.crq_rule.specs.declared.view.Sweep.{Sweep}
 use Rattle.crq_rule.specs.declared.view.Caller.{Caller}
 use Rattle.crq_rule.specs.Lists.{put, In}
 use Rattle.crq_rule.specs.Places.{Place, IsHead, link, twin, time, source, sequence, load}
@@ -167,10 +168,37 @@ abbrev pub relieved : Option Control → Cell → List Stand → Link → Event 
 relieved x cell ss l e None = None
 relieved x cell ss l e (Some d) = cond (is_val l.mark && (is_beyond x cell ss d && ((l.row == 0) || nat_lt (rank d.event d.row) (rank e l.row)))) None (Some d)
 
+-- The sweep, which each walk but that of a take takes on: at a present head it begins anew, and at a present row up to which it has come it goes on to the row that is named, or ends. A caller has swept a list with that last step
+
+-- the row r is of the sweep's list, and doesn't come after its place
+abbrev pub is_passing : Option Control → ℕ → List Stand → Sweep → Bool
+is_passing None r ss s = false
+is_passing (Some x) r [] s = false
+is_passing (Some x) r (t ∷ ss) s = cond (t.row == r) ((head_of x t.event == s.head) && nat_le (rank t.event r) s.rank) (is_passing (Some x) r ss s)
+
+-- the head of the list whose sweep the cell takes on
+abbrev pub swept_head : Option Control → Cell → List Stand → Option Sweep → Option ℕ
+swept_head x (at_head q) ss o = Some q
+swept_head x (at_row r) ss None = None
+swept_head x (at_row r) ss (Some s) = cond (is_passing x r ss s) (Some s.head) None
+
+abbrev pub taken_on : Bool → Option Control → Cell → List Stand → Option Sweep → Option ℕ
+taken_on seeks x cell ss o = cond seeks None (swept_head x cell ss o)
+
+abbrev pub sweep_on : Option ℕ → Link → Event → Option Sweep → Option Sweep
+sweep_on None l e o = o
+sweep_on (Some q) l e o = cond (is_val l.mark) (cond (l.row == 0) None (Some (record { head = q; rank = rank e l.row }))) o
+
+abbrev pub clean_on : Option ℕ → Link → List ℕ → List ℕ
+clean_on None l qs = qs
+clean_on (Some q) l qs = cond (is_val l.mark && (l.row == 0)) (q ∷ qs) qs
+
 abbrev pub walks : Cell → Bool → Link → Event → Caller → Caller
 walks cell seeks l e p = record p {
   position = record { rows = stands_after cell seeks l e p.position.rows; old = p.position.old };
   walk = walk_after cell seeks l p.walk;
+  sweep = sweep_on (taken_on seeks p.found.control cell p.position.rows p.sweep) l e p.sweep;
+  clean = clean_on (taken_on seeks p.found.control cell p.position.rows p.sweep) l p.clean;
   debts = record p.debts { cut = relieved p.found.control cell p.position.rows l e p.debts.cut };
 }
 
@@ -178,6 +206,8 @@ abbrev pub walked_from : Core → ℕ → Cell → Bool → Core
 walked_from c j cell seeks = let l = link_at c.words.head c.words.link cell in let e = c.words.event l.row in record c {
   position = put c.position j (record { rows = stands_after cell seeks l e (c.position j).rows; old = (c.position j).old });
   walk = put c.walk j (walk_after cell seeks l (c.walk j));
+  sweep = put c.sweep j (sweep_on (taken_on seeks (c.found j).control cell (c.position j).rows (c.sweep j)) l e (c.sweep j));
+  clean = put c.clean j (clean_on (taken_on seeks (c.found j).control cell (c.position j).rows (c.sweep j)) l (c.clean j));
   debts = put c.debts j (record (c.debts j) { cut = relieved (c.found j).control cell (c.position j).rows l e (c.debts j).cut });
 }
 
@@ -212,7 +242,7 @@ linked c j cell l r e = let q = head_of c.words.control e in let new : Link = re
 -- Begin: the control word x was found
 
 abbrev pub begins : Control → Caller → Caller
-begins x p = record p { own = p.own ++ Begin p.number ∷ []; base = None; refused = []; walk = None; found = record p.found { control = Some x } }
+begins x p = record p { own = p.own ++ Begin p.number ∷ []; base = None; refused = []; walk = None; sweep = None; clean = []; found = record p.found { control = Some x } }
 
 abbrev pub begun_by : Core → ℕ → Core
 begun_by c j = record c {
@@ -221,6 +251,8 @@ begun_by c j = record c {
   begun = put c.begun j (length c.history);
   base = put c.base j None;
   refused = put c.refused j [];
+  sweep = put c.sweep j None;
+  clean = put c.clean j [];
   walk = put c.walk j None;
   found = put c.found j (record (c.found j) { control = Some c.words.control });
 }

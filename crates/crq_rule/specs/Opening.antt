@@ -75,6 +75,7 @@ opening_core s = record {
   written = λ j. (fresh s j).written;
   walk = λ j. (fresh s j).walk;
   help = λ j. (fresh s j).help;
+  sweep = λ j. (fresh s j).sweep;
   clean = λ j. (fresh s j).clean;
   refused = λ j. (fresh s j).refused;
   told = λ j. (fresh s j).told;

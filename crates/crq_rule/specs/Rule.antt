@@ -73,6 +73,7 @@ fresh key j = record {
   written = [];
   walk = None;
   help = None;
+  sweep = None;
   clean = [];
   refused = [];
   told = record { tables = 0; settled = 0 };

@@ -7,10 +7,12 @@ use Rattle.crq_base.specs.Histories.{puts, outs}
 use Rattle.crq_rule.specs.declared.layout.Layout.{Layout}
 use Rattle.crq_rule.specs.declared.view.Guard.{Guard}
 use Rattle.crq_rule.specs.declared.view.Base.{Base}
+use Rattle.crq_rule.specs.declared.view.Sweep.{Sweep}
 use Rattle.crq_rule.specs.Lists.{In, IsOnce}
-use Rattle.crq_rule.specs.Places.{IsHomeRow}
+use Rattle.crq_rule.specs.Places.{IsHomeRow, IsHead}
 use Rattle.crq_rule.specs.Core.{Holding, in_hand, listed, cut_by, retired}
 use Rattle.crq_rule.specs.Parts.{OnSince}
+use Rattle.crq_rule.specs.Ranks.{rank}
 
 -- What is pending, as a list
 
@@ -75,3 +77,15 @@ pub record Scarce (l : Layout) (epoch : ℕ) (history : List Entry) (base : ℕ 
 
 pub record Refusals (n : ℕ) (history : List Entry) (refused : ℕ → List Event) : Type 0 where
   pub each : (k : ℕ) → k < n → AreCounted history k (refused k)
+
+-- 19. Sweeps: what a caller has swept holds none of its home rows whose event was out at its last Begin
+
+-- the event was out at some Begin of the caller k: so it was at the last one
+abbrev pub WasOut : List Entry → ℕ → Event → Type 0
+WasOut history k e = (front : List Entry) × (back : List Entry) × (history ≡ front ++ Begin k ∷ back) × Contains (outs front) e
+
+-- Such a row, in the list of a sweep, isn't passed yet; and it isn't in a list that is clean. What the sweep keeps of its place is a number, which no step of others changes: so it needs no stand, and the own cut of a row
+-- leaves it. Once events are copied, a row that is frozen or a copy joins here by what its debtor knows of the old row's event, and a head by its generation
+pub record Swept (l : Layout) (history : List Entry) (event : ℕ → Event) (chain : ℕ → List ℕ) (sweep : ℕ → Option Sweep) (clean : ℕ → List ℕ) : Type 0 where
+  pub left : (k r : ℕ) (s : Sweep) → k < l.workers → sweep k ≡ Some s → IsHead s.head → IsHomeRow l k r → In r (chain s.head) → WasOut history k (event r) → s.rank ≤ rank (event r) r
+  pub clean_is : (k q r : ℕ) → k < l.workers → In q (clean k) → IsHead q → IsHomeRow l k r → In r (chain q) → WasOut history k (event r) → ⊥

@@ -3,7 +3,7 @@ use Rattle.std.specs.Prelude.{◌≡◌, ◌⊎◌, ◌↔◌, ℕ, ◌+◌, ◌
 use Rattle.std.specs.declared.cmp.Ordering.TheVariants.{Equal}
 use Rattle.crq_base.specs.declared.event.Event.{Event}
 use Rattle.crq_base.specs.declared.entry.Entry.{Entry}
-use Rattle.crq_base.specs.declared.entry.Entry.TheVariants.{Put}
+use Rattle.crq_base.specs.declared.entry.Entry.TheVariants.{Begin, Put}
 use Rattle.crq_base.specs.Entries.{caller_of as whose}
 use Rattle.crq_base.specs.Keys.{key_cmp}
 use Rattle.crq_base.specs.Histories.{puts, settleds, outs, own as own_of, IsEarlier, IsPending, Began, IsLegal}
@@ -212,6 +212,9 @@ pub record ScarcityHolds (c : Core) : Type 0 where
       → (b.epoch + 3 ≤ c.words.epoch) × (In r (c.hand k) ⊎ IsLateRow c k b.epoch r)
   pub counted : (k : ℕ) (b : Base) → k < c.start.layout.workers → c.base k ≡ Some b → AreCounted c.history k b.events
   pub refused : (k : ℕ) → k < c.start.layout.workers → AreCounted c.history k (c.refused k)
+  -- a listed home row whose event was out at its caller's last Begin, or at any other, stands in no list that this caller has swept since
+  pub swept : (k q r : ℕ) (front back : List Entry) → k < c.start.layout.workers → In q (c.clean k) → IsHead q → IsHomeRow c.start.layout k r → In r (c.chain q) → c.history ≡ front ++ Begin k ∷ back
+      → Contains (outs front) (c.words.event r) → ⊥
 
 -- A state that meets the invariant in which the listed row r is covered by a guard, the row s was cut and has a tag, and the row t is retired
 pub record Witness (c : Core) : Type 0 where

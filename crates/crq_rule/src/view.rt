@@ -81,6 +81,13 @@ pub struct Walk {
     pub at: u64,
 }
 
+/// How far a caller's sweep came along the list of a head. What it has not passed yet is of this place in the list's order or
+/// comes after it.
+pub struct Sweep {
+    pub head: u64,
+    pub rank: u64,
+}
+
 /// What a helper of a migration has passed: the new heads that it found prepared, the old heads that it found frozen and
 /// that it found empty, the pin, and current's epoch that it loaded for the pin.
 pub struct Help {
@@ -140,7 +147,8 @@ pub struct Caller {
     pub written: LinkedList<Wrote>,
     pub walk: Option<Walk>,
     pub help: Option<Help>,
-    /// The heads whose lists the caller's sweep found without a dead row since its last Begin.
+    pub sweep: Option<Sweep>,
+    /// The heads whose lists the caller swept to the end since its last Begin.
     pub clean: LinkedList<u64>,
     /// The events that the last refusal for want of rows counted, if the caller has begun no call since.
     pub refused: LinkedList<Event>,

@@ -28,7 +28,7 @@ returns-in-Ok-Rows c = λ n may. let o = c.in_default.ensures n c.args.budget ma
 
 pub returns-in-Some-front : goal.returns-in-Some-front
 returns-in-Some-front c = λ n may. let o = c.in_default.ensures n c.args.budget may in let w = c.in-Ok.ensures n (may_go may o.ran) in let first = c.in-Some-front.ensures.item.3 in
-    recovered_row c.requires.rests o w c.in-Some-front.row.now (c.in-Ok-recover_within.ensures n (may_go (may_go may o.ran) w.ran)) first.0 first.1
+    recovered_row c.requires.rests o w c.in-Some-front.row.now (c.in-Ok-Ready.ensures n (may_go (may_go may o.ran) w.ran)) first.0 first.1
 
 pub returns-in-Err : goal.returns-in-Err
 returns-in-Err c = λ n may. let o = c.in_default.ensures n c.args.budget may in let w = c.in-Ok.ensures n (may_go may o.ran) in recovered_late c.requires.rests o w (c.in-Err.ensures n (may_go (may_go may o.ran) w.ran))
