@@ -115,13 +115,20 @@ fn fill(queue: &Calendar, worker: &mut Worker) -> (u32, Option<Refusal>)
     (MANY, None)
 }
 
-/// Has one worker put an event that the other one takes without cutting its row, and says whether the other owes that.
-fn owe(queue: &Calendar, worker: &mut Worker, other: &mut Worker) -> bool
+/// Where that is asked, has a worker put an event that the other one, if there is one, takes without cutting its row. It
+/// says whether the other owes that.
+fn owe(queue: &Calendar, worker: &mut Worker, other: Option<Worker>, asked: bool) -> bool
     requires worker { IsWorker queue.now.table worker.old }
-    requires other { IsWorker queue.now.table other.old }
+    requires other { (w : Worker) → other ≡ Some w → IsWorker queue.now.table w }
     ensures { WorksOn queue.now.table worker.old worker.new }
 {
+    if !asked {
+        return false;
+    }
     let put = worker.put(queue, 0, 0, BUDGET);
+    let Some(mut other) = other else {
+        return false;
+    };
     let end = other.take(queue, LIMIT, 1);
     put == Ok(PutEnd::Settled) && end.is_ok() && other.pass.owes() == Owes::Cut
 }
@@ -138,10 +145,7 @@ fn filled(
     requires rows { (4 ≤ rows) × (rows ≤ 131072) }
 {
     let (queue, mut worker, other) = pair(alloc, callers, rows)?;
-    let mut owes = false;
-    if let Some(mut other) = other {
-        owes = owing && owe(&queue, &mut worker, &mut other);
-    }
+    let owes = owe(&queue, &mut worker, other, owing);
     let (pending, refusal) = fill(&queue, &mut worker);
     Ok((owes, pending, refusal))
 }
@@ -173,7 +177,7 @@ fn rows_run_out_late(rt: HostRuntime) -> Result<(), Fail> {
             "{callers} callers, {rows} rows"
         );
         assert!(rt;
-            2 * pending >= rows,
+            pending >= rows.div_ceil(2),
             "{callers} callers, {rows} rows: {pending}"
         );
         assert_eq!(rt; pending, puts, "{callers} callers, {rows} rows");

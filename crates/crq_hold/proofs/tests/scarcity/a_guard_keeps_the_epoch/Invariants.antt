@@ -1,5 +1,3 @@
-use Rattle.std.specs.Prelude.{◌≡◌, None}
-use Rattle.crq_rows.specs.Passes.{caller, IsPassOf}
 use Rattle.crq_hold.specs.Workers.{IsWorker}
 use Rattle.crq_hold.proofs.tests.scarcity.a_guard_keeps_the_epoch.Given as goal
 
