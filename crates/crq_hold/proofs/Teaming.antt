@@ -151,3 +151,20 @@ lone_worker table workers rest w all one is = let at = ap (λ ws. slice_get ws 0
 -- the workers that a slice had, which was written over the whole of a list
 pub written_over : (table : Table) (n : ℕ) (new old : List Worker) → n ≡ length new → AreWorkers table new → AreWorkers table (take n (new ++ drop (length new) old))
 written_over table n new old is = subst (AreWorkers table) (sym (ap (λ n. take n (new ++ drop (length new) old)) is ∙ take-append_seam new (drop (length new) old)))
+
+-- workers of a list, from whose end one was popped
+at_end : (rest : List Worker) (w : Worker) → slice_get (rest ++ w ∷ []) (length rest) ≡ Some w
+at_end [] w = refl
+at_end (v ∷ rest) w = at_end rest w
+
+before_end : (rest : List Worker) (w v : Worker) (k : ℕ) → slice_get rest k ≡ Some v → slice_get (rest ++ w ∷ []) k ≡ Some v
+before_end [] w v k e = let b = slice_get_within [] k v e in absurd (omega arith)
+before_end (x ∷ rest) w v zero e = e
+before_end (x ∷ rest) w v (suc k) e = before_end rest w v k e
+
+module _ (table : Table) (workers rest : List Worker) (w : Worker) (each : (k : ℕ) (v : Worker) → slice_get workers k ≡ Some v → IsWorker table v) (is : workers ≡ rest ++ w ∷ []) where
+  pub popped_worker : IsWorker table w
+  popped_worker = each (length rest) w (ap (λ ws. slice_get ws (length rest)) is ∙ at_end rest w)
+
+  pub others_work : (k : ℕ) (v : Worker) → slice_get rest k ≡ Some v → IsWorker table v
+  others_work k v e = each k v (ap (λ ws. slice_get ws k) is ∙ before_end rest w v k e)

@@ -13,14 +13,17 @@ use Rattle.crq_base.specs.declared.answers.TakeEnd.TheVariants.{Taken, Missed}
 use Rattle.crq_base.specs.declared.answers.Refusal.{Refusal}
 use Rattle.crq_rule.specs.declared.pass.Pass.{Pass}
 use Rattle.crq_rule.specs.declared.pass.Table.{Table}
+use Rattle.crq_rule.specs.declared.view.Made.{Made}
+use Rattle.crq_rule.specs.declared.view.Caller.{Caller}
+use Rattle.crq_rule.specs.Kinds.{loads_epoch, tagged}
 use Rattle.crq_rule.specs.Lists.{In}
 use Rattle.crq_rule.specs.HistoryParts.{owner_of}
 use Rattle.crq_rule.specs.ListKinds.{IsFresh, put_entries}
-use Rattle.crq_rows.specs.Passes.{caller}
+use Rattle.crq_rows.specs.Passes.{caller, Stepped}
 use Rattle.crq_queue.specs.Wholes.{IsResting}
 use Rattle.crq_queue.specs.Calls.{call, Called, PutAnswers, TakeAnswers, SettleAnswers}
 use Rattle.crq_hold.specs.declared.worker.Worker.{Worker}
-use Rattle.crq_hold.specs.Workers.{IsNumbered, IsWorker, PutAndTook, next_event, put_count, takes_of}
+use Rattle.crq_hold.specs.Workers.{IsNumbered, IsWorker, WorksOn, PutAndTook, next_event, put_count, takes_of}
 
 in_either : {A : Type 0} (xs ys : List A) (a : A) → In a (xs ++ ys) → In a xs ⊎ In a ys
 in_either [] ys a h = inr h
@@ -131,3 +134,22 @@ module _ (table : Table) (budget : ℕ) (old new : Pass) (limit : ℕ) where
   take_rests (Ok (Taken e route)) a = a.0.called.rests
   take_rests (Ok Missed) a = a.0.called.rests
   take_rests (Err r) a = ⊎_elim (λ s. s.called.rests) (λ b. b.on.called.rests) a
+
+-- a worker whose pass loaded the epoch
+pub epoch_on : (table : Table) (worker : Worker) → IsWorker table worker → (new : Pass) (m : Made) (r : ℕ) → Stepped table worker.pass new m (loads_epoch r) → WorksOn table worker (record worker { pass = new })
+epoch_on table worker w new m r s = record {
+  worker = record {
+    rests = record {
+      is = s.is;
+      guard = ap (λ (p : Caller). p.guard) s.part ∙ w.rests.guard;
+      cut = ap (λ (p : Caller). p.cut) s.part ∙ ap (tagged r) w.rests.cut;
+      settle = ap (λ (p : Pass). p.debts.settle) s.same ∙ w.rests.settle;
+      copy = ap (λ (p : Pass). p.debts.copy) s.same ∙ w.rests.copy;
+      second_cut = ap (λ (p : Pass). p.debts.second_cut) s.same ∙ w.rests.second_cut;
+    };
+    span = ap (λ (p : Caller). p.deal.span) s.part ∙ w.span;
+    numbered = λ k e i from. w.numbered k e (subst (λ (p : Caller). In (Put k e) p.deal.history ⊎ In (Put k e) p.own) s.part i) (from ∙ ap (λ (p : Pass). p.number) s.same);
+    counted = ap (λ (p : Caller). length (puts p.own)) s.part ∙ w.counted;
+  };
+  number = ap (λ (p : Pass). p.number) s.same;
+}

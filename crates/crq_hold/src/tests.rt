@@ -6,6 +6,7 @@ ghost use Rattle.crq_hold.specs.Teams.{AreFree};
 mod churning;
 mod owing;
 mod phases;
+mod scarcity;
 
 use crate::team::team;
 use crate::words::job_of;
