@@ -9,6 +9,7 @@ mod first;
 mod holder;
 mod kinds;
 mod legality;
+mod limits;
 mod memory;
 mod words;
 
@@ -19,5 +20,6 @@ pub use first::First;
 pub use holder::Holder;
 pub use kinds::StepKind;
 pub use legality::{Fault, judge};
+pub use limits::{MOST_ROWS, MOST_WORKERS};
 pub use memory::Memory;
 pub use words::{Control, Current, Link, Mark, Pin, Stamp, spelling_law, word_law};
