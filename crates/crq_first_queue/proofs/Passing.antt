@@ -16,12 +16,12 @@ use Rattle.crq_base.specs.declared.answers.TakeEnd.{TakeEnd}
 use Rattle.crq_base.specs.declared.answers.TakeEnd.TheVariants.{Taken, Missed}
 use Rattle.crq_base.specs.declared.answers.Refusal.{Refusal}
 use Rattle.crq_base.specs.Histories.{puts, outs, put_of, taken_of}
+use Rattle.crq_base.specs.Lists.{In}
+use Rattle.crq_base.specs.Sources.{owner_of}
 use Rattle.crq_rule.specs.declared.pass.Pass.{Pass}
 use Rattle.crq_rule.specs.declared.pass.Table.{Table}
 use Rattle.crq_rule.specs.declared.pass.Seating.{Seating}
 use Rattle.crq_rule.specs.declared.pass.Seating.TheVariants.{Here, Lifted}
-use Rattle.crq_rule.specs.Lists.{In}
-use Rattle.crq_rule.specs.HistoryParts.{owner_of}
 use Rattle.crq_rule.proofs.HistoryLaws.{in_append}
 use Rattle.crq_rows.specs.Passes.{caller}
 use Rattle.crq_rows.proofs.Slots.{get_here, get_else}

@@ -5,9 +5,9 @@ use Rattle.crq_base.specs.declared.entry.Entry.{Entry}
 use Rattle.crq_base.specs.declared.answers.TakeEnd.{TakeEnd}
 use Rattle.crq_base.specs.declared.answers.TakeEnd.TheVariants.{Taken, Missed}
 use Rattle.crq_base.specs.Histories.{puts, outs}
+use Rattle.crq_base.specs.Sources.{IsFresh}
 use Rattle.crq_rule.specs.declared.pass.Pass.{Pass}
 use Rattle.crq_rule.specs.declared.pass.Table.{Table}
-use Rattle.crq_rule.specs.ListKinds.{IsFresh}
 use Rattle.crq_rows.specs.Passes.{caller}
 use Rattle.crq_queue.specs.Wholes.{IsResting}
 use Rattle.crq_first_queue.specs.declared.Trouble.{Trouble}

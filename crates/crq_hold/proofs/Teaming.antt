@@ -8,11 +8,11 @@ use mathlib.Core.Logic.{dite}
 use native.Mathlib.Decide.{ℕ_discrete}
 use Rattle.crq_base.specs.declared.entry.Entry.{Entry}
 use Rattle.crq_base.specs.Histories.{puts}
+use Rattle.crq_base.specs.Lists.{In}
 use Rattle.crq_rule.specs.declared.pass.Pass.{Pass}
 use Rattle.crq_rule.specs.declared.pass.Table.{Table}
 use Rattle.crq_rule.specs.declared.pass.Seating.{Seating}
 use Rattle.crq_rule.specs.declared.pass.Seating.TheVariants.{Here}
-use Rattle.crq_rule.specs.Lists.{In}
 use Rattle.crq_rows.proofs.Slots.{get_here}
 use Rattle.crq_queue.specs.declared.calendar.Whole.{Whole}
 use Rattle.crq_queue.specs.Wholes.{IsResting, AreResting, AreDealt, history_of}

@@ -11,14 +11,14 @@ use Rattle.crq_base.specs.declared.answers.PutEnd.TheVariants.{Settled as IsSett
 use Rattle.crq_base.specs.declared.answers.TakeEnd.{TakeEnd}
 use Rattle.crq_base.specs.declared.answers.TakeEnd.TheVariants.{Taken, Missed}
 use Rattle.crq_base.specs.declared.answers.Refusal.{Refusal}
+use Rattle.crq_base.specs.Lists.{In}
+use Rattle.crq_base.specs.Sources.{owner_of, IsFresh}
 use Rattle.crq_rule.specs.declared.pass.Pass.{Pass}
 use Rattle.crq_rule.specs.declared.pass.Table.{Table}
 use Rattle.crq_rule.specs.declared.view.Made.{Made}
 use Rattle.crq_rule.specs.declared.view.Caller.{Caller}
 use Rattle.crq_rule.specs.Kinds.{loads_epoch, tagged}
-use Rattle.crq_rule.specs.Lists.{In}
-use Rattle.crq_rule.specs.HistoryParts.{owner_of}
-use Rattle.crq_rule.specs.ListKinds.{IsFresh, put_entries}
+use Rattle.crq_rule.specs.ListKinds.{put_entries}
 use Rattle.crq_rows.specs.Passes.{caller, Stepped}
 use Rattle.crq_queue.specs.Wholes.{IsResting}
 use Rattle.crq_queue.specs.Calls.{call, Called, PutAnswers, TakeAnswers, SettleAnswers}

@@ -10,6 +10,8 @@ use Rattle.crq_base.specs.declared.words.Link.{Link}
 use Rattle.crq_base.specs.declared.words.Mark.TheVariants.{Val}
 use Rattle.crq_base.specs.declared.kinds.StepKind.TheVariants.{Write, Link as LinkKind}
 use Rattle.crq_base.specs.Words.{link_word}
+use Rattle.crq_base.specs.Lists.{In}
+use Rattle.crq_base.specs.Sources.{IsFresh}
 use Rattle.crq_rule.specs.declared.pass.Pass.{Pass}
 use Rattle.crq_rule.specs.declared.pass.Table.{Table}
 use Rattle.crq_rule.specs.declared.layout.Layout.{Layout}
@@ -19,12 +21,11 @@ use Rattle.crq_rule.specs.declared.view.Found.{Found}
 use Rattle.crq_rule.specs.declared.view.Made.{Made}
 use Rattle.crq_rule.specs.declared.view.Stand.{Stand}
 use Rattle.crq_rule.specs.declared.view.Wrote.{Wrote}
-use Rattle.crq_rule.specs.Lists.{In}
 use Rattle.crq_rule.specs.Places.{index, IsRow, IsHead, link}
 use Rattle.crq_rule.specs.Parts.{IsOn, IsEvent}
 use Rattle.crq_rule.specs.Kinds.{makes}
 use Rattle.crq_rule.specs.Ranks.{rank, head_of, at_head, at_row, cell_place}
-use Rattle.crq_rule.specs.ListKinds.{Content, no_twin, new_time, new_source, new_sequence, new_load, IsContent, content_number, content_word, event_word, unwritten, wrote, writes, links, put_entries, StandsOn, IsWritten, IsFresh, ComesAfter, ComesBefore, MayLink}
+use Rattle.crq_rule.specs.ListKinds.{Content, no_twin, new_time, new_source, new_sequence, new_load, IsContent, content_number, content_word, event_word, unwritten, wrote, writes, links, put_entries, StandsOn, IsWritten, ComesAfter, ComesBefore, MayLink}
 use Rattle.crq_rows.specs.Passes.{caller, IsPassOf, Stepped, step_made, store_made, counted}
 use Rattle.crq_rows.proofs.Reached.{hand_row, stand_row}
 use Rattle.crq_list.specs.declared.parts.Before.{Before}

@@ -4,12 +4,12 @@ use Rattle.crq_base.specs.declared.event.Event.{Event}
 use Rattle.crq_base.specs.declared.words.Mark.TheVariants.{Del}
 use Rattle.crq_base.specs.declared.words.Control.{Control}
 use Rattle.crq_base.specs.Words.{IsLink}
+use Rattle.crq_base.specs.Lists.{In}
 use Rattle.crq_rule.specs.declared.pass.Pass.{Pass}
 use Rattle.crq_rule.specs.declared.pass.Table.{Table}
 use Rattle.crq_rule.specs.declared.view.CutRow.{CutRow}
 use Rattle.crq_rule.specs.declared.view.Stand.{Stand}
 use Rattle.crq_rule.specs.declared.view.Caller.{Caller}
-use Rattle.crq_rule.specs.Lists.{In}
 use Rattle.crq_rule.specs.Parts.{IsOn}
 use Rattle.crq_rule.specs.Ranks.{at_head}
 use Rattle.crq_rule.specs.ListKinds.{StandsOn}

@@ -10,13 +10,14 @@ use Rattle.crq_base.specs.declared.entry.Entry.TheVariants.{Begin, Put, Take, Mi
 use Rattle.crq_base.specs.declared.event.Event.{Event}
 use Rattle.crq_base.specs.declared.kinds.StepKind.TheVariants.{Begin as BeginKind}
 use Rattle.crq_base.specs.declared.words.Control.{Control}
+use Rattle.crq_base.specs.Sources.{IsFresh}
 use Rattle.crq_rule.specs.declared.debts.Debts.{Debts}
 use Rattle.crq_rule.specs.declared.pass.Pass.{Pass}
 use Rattle.crq_rule.specs.declared.pass.Table.{Table}
 use Rattle.crq_rule.specs.declared.view.Caller.{Caller}
 use Rattle.crq_rule.specs.declared.view.Found.{Found}
 use Rattle.crq_rule.specs.HistoryParts.{EndsInBegin}
-use Rattle.crq_rule.specs.ListKinds.{IsFresh, begins, cut_debt, put_entries}
+use Rattle.crq_rule.specs.ListKinds.{begins, cut_debt, put_entries}
 use Rattle.crq_rule.proofs.Puts.{in_snoc}
 use Rattle.crq_rows.specs.Passes.{caller}
 use Rattle.crq_list.specs.Swaps.{Controlled}

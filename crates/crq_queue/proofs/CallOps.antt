@@ -3,16 +3,16 @@ use Rattle.std.proofs.Common.{◌≡◌, ⊎_elim, ℕ, ◌*◌, ◌%◌, ◌≤
 use Rattle.crq_base.specs.declared.event.Event.{Event}
 use Rattle.crq_base.specs.declared.words.Control.{Control}
 use Rattle.crq_base.specs.declared.words.Link.{Link}
+use Rattle.crq_base.specs.Lists.{In}
+use Rattle.crq_base.specs.Sources.{IsFresh}
 use Rattle.crq_rule.specs.declared.debts.CutDebt.{CutDebt}
 use Rattle.crq_rule.specs.declared.debts.Debts.{Debts}
 use Rattle.crq_rule.specs.declared.pass.Pass.{Pass}
 use Rattle.crq_rule.specs.declared.pass.Table.{Table}
-use Rattle.crq_rule.specs.Lists.{In}
 use Rattle.crq_rule.specs.Parts.{IsEvent}
 use Rattle.crq_rule.specs.Places.{IsHead}
 use Rattle.crq_rule.specs.Ranks.{head_of, IsOpen, at_head}
 use Rattle.crq_rule.specs.HistoryParts.{EndsInBegin}
-use Rattle.crq_rule.specs.ListKinds.{IsFresh}
 use Rattle.crq_rows.specs.Passes.{caller, IsPassOf}
 use Rattle.crq_list.specs.declared.parts.ListAt.{ListAt}
 use Rattle.crq_list.specs.declared.parts.Spot.TheVariants.{Head}

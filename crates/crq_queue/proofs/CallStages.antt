@@ -12,6 +12,8 @@ use Rattle.crq_base.specs.declared.holder.Holder.{Holder}
 use Rattle.crq_base.specs.declared.event.Event.{Event}
 use Rattle.crq_base.specs.declared.kinds.StepKind.TheVariants.{ControlLoad, Miss as MissKind}
 use Rattle.crq_base.specs.declared.words.Control.{Control}
+use Rattle.crq_base.specs.Lists.{In}
+use Rattle.crq_base.specs.Sources.{IsFresh}
 use Rattle.crq_rule.specs.declared.debts.CutDebt.{CutDebt}
 use Rattle.crq_rule.specs.declared.debts.Debts.{Debts}
 use Rattle.crq_rule.specs.declared.layout.Layout.{Layout}
@@ -19,12 +21,11 @@ use Rattle.crq_rule.specs.declared.pass.Pass.{Pass}
 use Rattle.crq_rule.specs.declared.pass.Table.{Table}
 use Rattle.crq_rule.specs.declared.view.Deal.{Deal}
 use Rattle.crq_rule.specs.declared.view.Made.{Made}
-use Rattle.crq_rule.specs.Lists.{In}
 use Rattle.crq_rule.specs.Parts.{IsEvent}
 use Rattle.crq_rule.specs.Places.{IsHead}
 use Rattle.crq_rule.specs.Ranks.{head_of, IsOpen, Cell, at_head, at_row}
 use Rattle.crq_rule.specs.HistoryParts.{EndsInBegin}
-use Rattle.crq_rule.specs.ListKinds.{IsFresh, MayMiss, loads_control, misses, put_entries}
+use Rattle.crq_rule.specs.ListKinds.{MayMiss, loads_control, misses, put_entries}
 use Rattle.crq_rows.specs.declared.recover.Recover.{Recover}
 use Rattle.crq_rows.specs.declared.recover.RecoverOp.{RecoverOp}
 use Rattle.crq_rows.specs.Recovering.{CountsRows, RecoverAnswer}

@@ -11,6 +11,7 @@ use Rattle.crq_base.specs.declared.event.Event.{Event}
 use Rattle.crq_base.specs.declared.entry.Entry.{Entry}
 use Rattle.crq_base.specs.Entries.{caller_of as whose}
 use Rattle.crq_base.specs.Histories.{puts, settleds, own as own_of, IsLegal}
+use Rattle.crq_base.specs.Refusals.{AreCounted}
 use Rattle.crq_rule.specs.declared.layout.Start.{Start}
 use Rattle.crq_rule.specs.declared.pass.Pass.{Pass}
 use Rattle.crq_rule.specs.declared.pass.Table.{Table}
@@ -20,7 +21,6 @@ use Rattle.crq_rule.specs.declared.view.Caller.{Caller}
 use Rattle.crq_rule.specs.declared.view.View.{View}
 use Rattle.crq_rule.specs.Deals.{HasAll, Gathered, settled_part}
 use Rattle.crq_rule.specs.Rule.{Lawful, joined}
-use Rattle.crq_rule.specs.ScarceParts.{AreCounted}
 use Rattle.crq_rows.specs.Passes.{caller}
 use Rattle.crq_rows.proofs.Deals.{same_pass}
 use Rattle.crq_rows.proofs.Slots.{get_here, get_else}

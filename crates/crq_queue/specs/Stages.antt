@@ -6,12 +6,12 @@ use Rattle.crq_base.specs.declared.words.Control.{Control}
 use Rattle.crq_base.specs.declared.answers.Refusal.{Refusal}
 use Rattle.crq_base.specs.declared.answers.Refusal.TheVariants.{Again, Held, Rows, Epochs}
 use Rattle.crq_base.specs.declared.kinds.StepKind.TheVariants.{Begin as BeginKind}
+use Rattle.crq_base.specs.Lists.{In}
 use Rattle.crq_rows.specs.Recovering.{CountsRows}
 use Rattle.crq_rows.specs.declared.recover.Recover.TheVariants.{Held as IsHeld, Rows as NoRows}
 use Rattle.crq_list.specs.Swaps.{Controlled}
 use Rattle.crq_rule.specs.declared.pass.Pass.{Pass}
 use Rattle.crq_rule.specs.declared.pass.Table.{Table}
-use Rattle.crq_rule.specs.Lists.{In}
 use Rattle.crq_rule.specs.ListKinds.{begins, cut_debt, put_entries}
 use Rattle.crq_rows.specs.Passes.{caller}
 use Rattle.crq_queue.specs.declared.runs.Spent.{Spent}

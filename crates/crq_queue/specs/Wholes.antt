@@ -7,6 +7,8 @@ use Rattle.crq_base.specs.declared.event.Event.{Event}
 use Rattle.crq_base.specs.declared.entry.Entry.{Entry}
 use Rattle.crq_base.specs.Entries.{caller_of as whose}
 use Rattle.crq_base.specs.Histories.{puts, settleds, own as own_of, IsLegal}
+use Rattle.crq_base.specs.Lists.{In}
+use Rattle.crq_base.specs.Refusals.{AreCounted}
 use Rattle.crq_rule.specs.declared.pass.Pass.{Pass}
 use Rattle.crq_rule.specs.declared.pass.Rest.{Rest}
 use Rattle.crq_rule.specs.declared.pass.Table.{Table}
@@ -14,9 +16,7 @@ use Rattle.crq_rule.specs.declared.pass.Seating.{Seating}
 use Rattle.crq_rule.specs.declared.pass.Seating.TheVariants.{Here, Resting}
 use Rattle.crq_rule.specs.declared.view.Caller.{Caller}
 use Rattle.crq_rule.specs.declared.view.Guard.TheVariants.{Off}
-use Rattle.crq_rule.specs.Lists.{In}
 use Rattle.crq_rule.specs.Rule.{Lawful}
-use Rattle.crq_rule.specs.ScarceParts.{AreCounted}
 use Rattle.crq_rows.specs.Passes.{caller, IsOwed, IsPassOf}
 use Rattle.crq_queue.specs.declared.calendar.Whole.{Whole}
 use Rattle.crq_queue.specs.declared.calendar.Closed.{Closed}

@@ -2,11 +2,11 @@
 ghost use Rattle.std.specs.Prelude.{◌≡◌, ◌≤◌, ◌<◌, ◌*◌, ◌%◌, ◌++◌, [], ◌∷◌, ℕ, Some, None, Ok, Err, length, is_some, true};
 ghost use Rattle.crq_base.specs.declared.words.Control.{Control};
 ghost use Rattle.crq_base.specs.Words.{IsControl};
+ghost use Rattle.crq_base.specs.Lists.{In};
+ghost use Rattle.crq_base.specs.Sources.{IsFresh};
 ghost use Rattle.crq_rule.specs.declared.view.Guard.TheVariants.{Off};
-ghost use Rattle.crq_rule.specs.Lists.{In};
 ghost use Rattle.crq_rule.specs.HistoryParts.{EndsInBegin};
 ghost use Rattle.crq_rule.specs.Ranks.{head_of};
-ghost use Rattle.crq_rule.specs.ListKinds.{IsFresh};
 ghost use Rattle.crq_rows.specs.Passes.{caller, IsPassOf};
 ghost use Rattle.crq_queue.specs.Wholes.{IsResting};
 ghost use Rattle.crq_queue.specs.Runs.{MayRun, IsInside};

@@ -5,7 +5,7 @@ use Rattle.crq_rule.specs.declared.pass.Pass.{Pass}
 use Rattle.crq_rule.specs.declared.pass.Table.{Table}
 use Rattle.crq_rule.specs.Places.{index, stamp, IsRow, IsHomeRow}
 use Rattle.crq_base.specs.declared.event.Event.{Event}
-use Rattle.crq_rule.specs.Lists.{In}
+use Rattle.crq_base.specs.Lists.{In}
 use Rattle.crq_rule.specs.Kinds.{MayRetire, IsRipe}
 use Rattle.crq_rule.specs.ListKinds.{row_place, StandsOn}
 use Rattle.crq_rule.proofs.ListSteps.{row_place_is}

@@ -1,12 +1,12 @@
 -- Looking for a free row: what it knows between two steps, and what each step tells.
 use Rattle.std.specs.Prelude.{◌≡◌, ℕ, ◌+◌, ◌-◌, ◌*◌, ◌<◌, ◌≤◌, List, [], ◌∷◌, ◌++◌, None}
 use Rattle.crq_base.specs.declared.kinds.StepKind.TheVariants.{EpochLoad, Look, Claim}
+use Rattle.crq_base.specs.Lists.{In}
 use Rattle.crq_rule.specs.declared.layout.Layout.{Layout}
 use Rattle.crq_rule.specs.declared.view.Made.{Made}
 use Rattle.crq_rule.specs.declared.view.Caller.{Caller}
 use Rattle.crq_rule.specs.declared.pass.Pass.{Pass}
 use Rattle.crq_rule.specs.declared.pass.Table.{Table}
-use Rattle.crq_rule.specs.Lists.{In}
 use Rattle.crq_rule.specs.Places.{index, epoch, stamp, IsHomeRow}
 use Rattle.crq_rule.specs.Kinds.{IsRipe}
 use Rattle.crq_rows.specs.declared.own.OwnOp.{OwnOp}

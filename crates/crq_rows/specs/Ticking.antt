@@ -6,12 +6,12 @@ use Rattle.crq_base.specs.declared.holder.Holder.TheVariants.{Seat, Last}
 use Rattle.crq_rule.specs.declared.layout.Layout.{Layout}
 use Rattle.crq_rule.specs.declared.view.Guard.TheVariants.{Off}
 use Rattle.crq_base.specs.declared.event.Event.{Event}
+use Rattle.crq_base.specs.Lists.{In}
 use Rattle.crq_rule.specs.declared.view.Base.{Base}
 use Rattle.crq_rule.specs.declared.view.Made.{Made}
 use Rattle.crq_rule.specs.declared.view.Caller.{Caller}
 use Rattle.crq_rule.specs.declared.pass.Pass.{Pass}
 use Rattle.crq_rule.specs.declared.pass.Table.{Table}
-use Rattle.crq_rule.specs.Lists.{In}
 use Rattle.crq_rule.specs.Places.{index, epoch, announced}
 use Rattle.crq_rule.specs.Parts.{LetsRise}
 use Rattle.crq_rule.specs.Kinds.{new_base, loads_based}

@@ -1,7 +1,7 @@
 //! Free rows for a pass that has none, by raising the epoch.
 ghost use Rattle.std.specs.Prelude.{◌≡◌, ◌<◌, ◌+◌, []};
+ghost use Rattle.crq_base.specs.Lists.{In};
 ghost use Rattle.crq_rule.specs.declared.view.Guard.TheVariants.{Off};
-ghost use Rattle.crq_rule.specs.Lists.{In};
 ghost use Rattle.crq_rule.specs.Places.{IsHomeRow};
 ghost use Rattle.crq_rows.specs.Passes.{caller, IsPassOf};
 ghost use Rattle.crq_rows.specs.Ticking.{IsTicking};

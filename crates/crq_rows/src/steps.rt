@@ -3,10 +3,10 @@ ghost use Rattle.std.specs.Prelude.{◌≡◌, ◌≢◌, ◌+◌, ◌<◌, ◌�
 ghost use Rattle.crq_base.specs.declared.kinds.StepKind.TheVariants.{EpochLoad, Enter, Confirm, Leave, Scan, Tick, Retire, Look, Claim, Write, Read};
 ghost use Rattle.crq_base.specs.Words.{stamp_word};
 ghost use Rattle.crq_rule.specs.declared.view.Guard.TheVariants.{Off};
-ghost use Rattle.crq_rule.specs.Lists.{In};
 ghost use Rattle.crq_rule.specs.Places.{index, epoch, announced, stamp, IsHomeRow};
 ghost use Rattle.crq_rule.specs.Kinds.{loads_epoch, enters, confirms, leaves, scans, ticks, retires, looks, claims, HasScanned, IsEntering, MayRetire, IsRipe};
 ghost use Rattle.crq_base.specs.declared.event.Event.{Event};
+ghost use Rattle.crq_base.specs.Lists.{In};
 ghost use Rattle.crq_rule.specs.ListKinds.{Content, IsContent, content_number, content_word, row_place, writes, StandsOn, event_word};
 ghost use Rattle.crq_rule.specs.Rule.{TellsEpoch, BeginsRecovery};
 ghost use Rattle.crq_rows.specs.Reading.{stays};

@@ -3,7 +3,8 @@ use Rattle.std.proofs.Common.{◌≡◌, ◌≢◌, ◌⊎◌, ⊎_elim, inl, in
 use mathlib.Core.Logic.{dite}
 use native.Mathlib.Decide.{ℕ_discrete}
 use Rattle.crq_base.specs.declared.words.Link.{Link}
-use Rattle.crq_rule.specs.Lists.{put, In}
+use Rattle.crq_base.specs.Lists.{In}
+use Rattle.crq_rule.specs.Lists.{put}
 use Rattle.crq_rule.specs.Parts.{Leads}
 use Rattle.crq_rule.specs.Ranks.{Cell, at_head, at_row, link_at, heads_set, links_set, Rises, after_row, after_cell}
 use Rattle.crq_rule.proofs.Puts.{put_here, put_else, put_all}

@@ -3,12 +3,13 @@ use Rattle.std.proofs.Common.{◌≡◌, ⊎_elim, inl, inr, ℕ, ◌+◌, ◌<�
 use mathlib.Core.Logic.{dite}
 use native.Mathlib.Decide.{ℕ_discrete}
 use Rattle.crq_base.specs.declared.words.Link.{Link}
+use Rattle.crq_base.specs.Lists.{In}
 use Rattle.crq_rule.specs.declared.debts.Debts.{Debts}
 use Rattle.crq_rule.specs.declared.view.Guard.{Guard}
 use Rattle.crq_rule.specs.declared.view.Guard.TheVariants.{On}
 use Rattle.crq_rule.specs.declared.view.CutRow.{CutRow}
 use Rattle.crq_rule.specs.declared.view.Position.{Position}
-use Rattle.crq_rule.specs.Lists.{put, In}
+use Rattle.crq_rule.specs.Lists.{put}
 use Rattle.crq_rule.specs.Core.{Holding, in_hand, retired}
 use Rattle.crq_rule.specs.Parts.{Cover, Covers, HasTag, IsOn, standing}
 use Rattle.crq_rule.specs.Kinds.{tagged, nowhere}

@@ -9,14 +9,14 @@ use Rattle.crq_base.specs.declared.entry.Entry.{Entry}
 use Rattle.crq_base.specs.declared.entry.Entry.TheVariants.{Begin, Put}
 use Rattle.crq_base.specs.Entries.{caller_of as whose}
 use Rattle.crq_base.specs.Histories.{own as own_of}
+use Rattle.crq_base.specs.Lists.{In}
+use Rattle.crq_base.specs.Refusals.{AreCounted}
 use Rattle.crq_rule.specs.declared.layout.Start.{Start}
 use Rattle.crq_rule.specs.declared.view.Deal.{Deal}
 use Rattle.crq_rule.specs.declared.view.Caller.{Caller}
 use Rattle.crq_rule.specs.declared.view.View.{View}
-use Rattle.crq_rule.specs.Lists.{In}
 use Rattle.crq_rule.specs.Core.{Core, caller_of}
 use Rattle.crq_rule.specs.HistoryParts.{Told}
-use Rattle.crq_rule.specs.ScarceParts.{AreCounted}
 use Rattle.crq_rule.specs.Invariant.{Inv}
 use Rattle.crq_rule.specs.Rule.{IsWords, Carries, Stands}
 use Rattle.crq_rule.specs.Deals.{HasAll, settled_part, dealt_again, Gathered, spanned_part, spans, IsSilent}

@@ -2,11 +2,12 @@
 use Rattle.std.proofs.Common.{◌≡◌, ⊎_elim, ℕ, ◌+◌, ◌^◌, ◌<◌, ◌≤◌, [], ◌∷◌, length, Some, None, sym, refl, ap, ◌∙◌, subst, arith, le_refl}
 use mathlib.Core.Logic.{dite}
 use native.Mathlib.Decide.{ℕ_discrete}
+use Rattle.crq_base.specs.Lists.{In}
 use Rattle.crq_rule.specs.declared.view.Guard.{Guard}
 use Rattle.crq_rule.specs.declared.view.Guard.TheVariants.{Off, Entering, On}
 use Rattle.crq_rule.specs.declared.view.Tick.{Tick}
 use Rattle.crq_rule.specs.declared.view.CutRow.{CutRow}
-use Rattle.crq_rule.specs.Lists.{put, In}
+use Rattle.crq_rule.specs.Lists.{put}
 use Rattle.crq_rule.specs.Core.{Core}
 use Rattle.crq_rule.specs.ScarceParts.{pending, IsBase}
 use Rattle.crq_rule.specs.Parts.{Cutting, Reading, Stamps, Guards, GuardIs, OnSince, IsOn, LetsRise, standing, rows_of_copy}

@@ -5,11 +5,11 @@ use native.Mathlib.Decide.{ℕ_discrete}
 use lib.Seq.{set-get_or}
 use prog.Atomic.{either}
 use Rattle.crq_base.specs.declared.kinds.StepKind.TheVariants.{EpochLoad, Enter, Confirm, Leave, Scan, Tick as TickKind}
+use Rattle.crq_base.specs.Lists.{In}
 use Rattle.crq_rule.specs.declared.layout.Start.{Start}
 use Rattle.crq_rule.specs.declared.view.Guard.TheVariants.{Off, Entering, On}
 use Rattle.crq_rule.specs.declared.view.Tick.{Tick}
 use Rattle.crq_rule.specs.declared.view.Caller.{Caller}
-use Rattle.crq_rule.specs.Lists.{In}
 use Rattle.crq_rule.specs.Places.{index, epoch, announced, Shows}
 use Rattle.crq_rule.specs.Core.{Core, caller_of}
 use Rattle.crq_rule.specs.Invariant.{Inv}

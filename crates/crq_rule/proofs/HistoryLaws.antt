@@ -13,10 +13,12 @@ use Rattle.crq_base.specs.Entries.{caller_of as whose}
 use Rattle.crq_base.specs.Histories.{put_of, puts, settleds, outs, own as own_of, IsPending, Began, MayFollow, IsLegalAfter, IsLegal}
 use Rattle.crq_base.proofs.HistoryLaws.{puts-append, settleds-append, outs-append, own-append, legal_append, last_one, began_now}
 use Rattle.crq_base.proofs.Deeds.{alone, done_at}
+use Rattle.crq_base.specs.Lists.{In}
+use Rattle.crq_base.specs.Sources.{owner_of, IsFresh}
 use Rattle.crq_rule.specs.declared.view.Deal.{Deal}
-use Rattle.crq_rule.specs.Lists.{put, In}
-use Rattle.crq_rule.specs.HistoryParts.{Told, EndsInBegin, owner_of}
-use Rattle.crq_rule.specs.ListKinds.{IsFresh, put_entries}
+use Rattle.crq_rule.specs.Lists.{put}
+use Rattle.crq_rule.specs.HistoryParts.{Told, EndsInBegin}
+use Rattle.crq_rule.specs.ListKinds.{put_entries}
 use Rattle.crq_rule.proofs.Puts.{put_here, put_else, put_all}
 
 put_settled : (j k : ℕ) (e f : Event) → Put j e ≡ Settled k f → ⊥

@@ -1,8 +1,9 @@
 -- How the part on holders stays where a row goes from one holder to the next.
 use Rattle.std.proofs.Common.{◌≡◌, ◌≢◌, ⊎_elim, inl, inr, ℕ, ◌<◌, List, [], ◌∷◌, ◌++◌, Option, Some, None, sym, refl, ap, ◌∙◌, subst, arith}
+use Rattle.crq_base.specs.Lists.{In, IsOnce}
 use Rattle.crq_rule.specs.declared.layout.Layout.{Layout}
 use Rattle.crq_rule.specs.declared.view.CutRow.{CutRow}
-use Rattle.crq_rule.specs.Lists.{put, In, IsOnce}
+use Rattle.crq_rule.specs.Lists.{put}
 use Rattle.crq_rule.specs.Places.{IsRow, IsHomeRow, IsHead}
 use Rattle.crq_rule.specs.Core.{Holding, in_hand, listed, cut_by, retired}
 use Rattle.crq_rule.specs.Parts.{Holders}

@@ -1,11 +1,11 @@
 -- What the invariant says of what one caller knows alone.
 use Rattle.std.proofs.Common.{◌≡◌, ◌∙◌, false, ℕ, [], ◌++◌, ◌<◌, sym, refl, ap, subst, arith}
 use Rattle.crq_base.specs.Words.{IsLink, IsControl}
+use Rattle.crq_base.specs.Lists.{In}
 use Rattle.crq_rule.specs.Ranks.{head_of}
 use Rattle.crq_rule.specs.declared.view.Guard.{Guard}
 use Rattle.crq_rule.specs.declared.view.Guard.TheVariants.{Off, Entering, On}
 use Rattle.crq_rule.specs.declared.view.Stand.{Stand}
-use Rattle.crq_rule.specs.Lists.{In}
 use Rattle.crq_rule.specs.Places.{IsRow}
 use Rattle.crq_rule.specs.Core.{Core, caller_of}
 use Rattle.crq_rule.specs.Parts.{Covers, IsEvent, IsOn, standing, rows_of_old, rows_of_copy}

@@ -11,12 +11,13 @@ use Rattle.crq_base.specs.declared.words.Mark.TheVariants.{Val, Mov, Del}
 use Rattle.crq_base.specs.Words.{IsLink}
 use Rattle.crq_base.specs.Histories.{puts}
 use Rattle.crq_base.proofs.WordLaws.{link_one}
+use Rattle.crq_base.specs.Lists.{In, IsOnce}
 use Rattle.crq_rule.specs.declared.view.Guard.{Guard}
 use Rattle.crq_rule.specs.declared.view.Guard.TheVariants.{Off, Entering, On}
 use Rattle.crq_rule.specs.declared.view.CutRow.{CutRow}
 use Rattle.crq_rule.specs.declared.view.Stand.{Stand}
 use Rattle.crq_rule.specs.declared.view.Wrote.{Wrote}
-use Rattle.crq_rule.specs.Lists.{put, In, IsOnce}
+use Rattle.crq_rule.specs.Lists.{put}
 use Rattle.crq_rule.specs.Places.{IsRow, IsHomeRow, IsHead}
 use Rattle.crq_rule.specs.Core.{Core, caller_of, Holding, in_hand, listed, cut_by, retired}
 use Rattle.crq_rule.specs.Parts.{Spelled, IsEvent, Holders, Stamps, stamp_of, Chains, Leads, Names, IsPath, Reaches, rows_of, standing, Covers, Cover, HasTag, IsOn}

@@ -15,7 +15,6 @@ use Rattle.crq_base.specs.Words.{link_word, IsLink}
 use Rattle.crq_rule.specs.declared.layout.Start.{Start}
 use Rattle.crq_rule.specs.declared.view.Stand.{Stand}
 use Rattle.crq_rule.specs.declared.view.Caller.{Caller}
-use Rattle.crq_rule.specs.Lists.{In}
 use Rattle.crq_rule.specs.Places.{index, control, link, IsPlace, IsRow, word_of}
 use Rattle.crq_rule.specs.Core.{Core, Holding, caller_of, in_hand, listed, cut_by, retired}
 use Rattle.crq_rule.specs.Parts.{IsOn, Leads, Covers, standing, rows_of_old, rows_of_copy}
@@ -26,6 +25,7 @@ use Rattle.crq_rule.specs.ListKinds.{stands_after, walk_after, taken_on, sweep_o
 use Rattle.crq_rule.specs.Steps.{Kind, write, walk, link as link_kind, link_fails, control_load, begin, mark, mark_fails, cut, cut_fails, miss, May, After, kind_of, place_of}
 use Rattle.crq_rule.specs.Rule.{IsWords, MovesBy, By, Walked, WalksOn, IsWalkable, FoundControl, wins, quiet}
 use Rattle.crq_base.proofs.WordLaws.{link_one}
+use Rattle.crq_base.specs.Lists.{In}
 use Rattle.crq_rule.proofs.Puts.{put_here, stand_in}
 use Rattle.crq_rule.proofs.Placing.{shows_set}
 use Rattle.crq_rule.proofs.GuardSteps.{same_words}

@@ -13,6 +13,7 @@ use Rattle.crq_base.specs.Words.{IsLink}
 use Rattle.crq_base.specs.Histories.{puts, outs, IsPending, MayFollow}
 use Rattle.crq_base.proofs.HistoryLaws.{outs-append, puts-append}
 use Rattle.crq_base.proofs.Deeds.{alone}
+use Rattle.crq_base.specs.Lists.{In}
 use Rattle.crq_rule.specs.declared.debts.CutDebt.{CutDebt}
 use Rattle.crq_rule.specs.declared.debts.Debts.{Debts}
 use Rattle.crq_rule.specs.declared.layout.Layout.{Layout}
@@ -21,7 +22,7 @@ use Rattle.crq_rule.specs.declared.view.CutRow.{CutRow}
 use Rattle.crq_rule.specs.declared.view.Position.{Position}
 use Rattle.crq_rule.specs.declared.view.Stand.{Stand}
 use Rattle.crq_rule.specs.declared.view.Wrote.{Wrote}
-use Rattle.crq_rule.specs.Lists.{put, In}
+use Rattle.crq_rule.specs.Lists.{put}
 use Rattle.crq_rule.specs.Places.{IsRow}
 use Rattle.crq_rule.specs.Core.{Core, Holding, in_hand, listed, cut_by, retired, caller_of}
 use Rattle.crq_rule.specs.Parts.{IsEvent, Leads, Chains, IsPath, Reaches, Covers, Cover, rows_of, rows_of_old, rows_of_copy}

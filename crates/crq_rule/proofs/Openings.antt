@@ -15,6 +15,7 @@ use Rattle.crq_base.specs.declared.words.Current.{Current}
 use Rattle.crq_base.specs.declared.words.Mark.TheVariants.{Val}
 use Rattle.crq_base.specs.Words.{link_word, control_word, current_word, pin_word, IsLink}
 use Rattle.crq_base.specs.Starts.{IsFirst}
+use Rattle.crq_base.specs.Lists.{In, IsOnce}
 use Rattle.crq_rule.specs.declared.layout.Layout.{Layout}
 use Rattle.crq_rule.specs.declared.layout.Start.{Start}
 use Rattle.crq_rule.specs.declared.pass.Rest.{Rest}
@@ -22,7 +23,6 @@ use Rattle.crq_rule.specs.declared.pass.Seating.{Seating}
 use Rattle.crq_rule.specs.declared.pass.Seating.TheVariants.{Resting}
 use Rattle.crq_rule.specs.declared.view.Caller.{Caller}
 use Rattle.crq_rule.specs.declared.view.View.{View}
-use Rattle.crq_rule.specs.Lists.{In, IsOnce}
 use Rattle.crq_rule.specs.Widths.{width}
 use Rattle.crq_rule.specs.Places.{Words, Place, spare, epoch, control, current, head, index, IsPlace, IsRow, IsHomeRow, word_of, Shows}
 use Rattle.crq_rule.specs.Core.{in_hand}

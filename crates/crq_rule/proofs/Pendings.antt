@@ -9,8 +9,9 @@ use Rattle.crq_base.specs.declared.entry.Entry.{Entry}
 use Rattle.crq_base.specs.declared.entry.Entry.TheVariants.{Begin, Put, Settled, Take, Miss, Table}
 use Rattle.crq_base.specs.Histories.{puts, outs, IsPending, MayFollow, IsLegal}
 use Rattle.crq_base.proofs.HistoryLaws.{puts-append, outs-append, legal_front}
-use Rattle.crq_rule.specs.Lists.{In, IsOnce}
-use Rattle.crq_rule.specs.ScarceParts.{is_event, has_event, without_taken, pending, AreCounted}
+use Rattle.crq_base.specs.Lists.{In, IsOnce}
+use Rattle.crq_base.specs.Refusals.{AreCounted}
+use Rattle.crq_rule.specs.ScarceParts.{is_event, has_event, without_taken, pending}
 use Rattle.crq_rule.proofs.Puts.{once_snoc}
 use Rattle.crq_rule.proofs.HistoryLaws.{by_legal}
 

@@ -2,8 +2,9 @@
 use Rattle.std.proofs.Common.{◌≡◌, ◌≢◌, ◌⊎◌, ⊎_elim, inl, inr, ℕ, List, [], ◌∷◌, ◌++◌, cond, sym, refl, ap, ◌∙◌, eq-eqb, ne_eqb, subst}
 use mathlib.Core.Logic.{dite}
 use native.Mathlib.Decide.{ℕ_discrete}
+use Rattle.crq_base.specs.Lists.{In, IsOnce}
 use Rattle.crq_rule.specs.declared.view.Stand.{Stand}
-use Rattle.crq_rule.specs.Lists.{put, In, IsOnce, without}
+use Rattle.crq_rule.specs.Lists.{put, without}
 use Rattle.crq_rule.specs.Parts.{rows_of}
 
 module _ {A : Type 0} where

@@ -1,6 +1,6 @@
 -- Each kind of step on retired rows keeps the invariant. A row that may be claimed is covered by no guard.
 use Rattle.std.proofs.Common.{◌≡◌, ◌≢◌, inl, inr, ℕ, ◌+◌, ◌<◌, ◌≤◌, None, le_refl, sym, ap, ◌∙◌, subst, arith}
-use Rattle.crq_rule.specs.Lists.{In}
+use Rattle.crq_base.specs.Lists.{In}
 use Rattle.crq_rule.specs.Places.{IsHomeRow}
 use Rattle.crq_rule.specs.Core.{Core, in_hand, cut_by, retired}
 use Rattle.crq_rule.specs.ListParts.{MarkFits, TwinFits}

@@ -2,9 +2,10 @@
 use Rattle.std.proofs.Common.{◌≡◌, ℕ, ◌+◌, ◌*◌, ◌<◌, List, [], ◌∷◌, ◌++◌, length, set, None, sym, refl, ap, ◌∙◌, subst, arith}
 use Rattle.std.proofs.lemmas.List.{length-append}
 use Rattle.crq_base.specs.declared.kinds.StepKind.TheVariants.{Retire, Look, Claim}
+use Rattle.crq_base.specs.Lists.{In}
 use Rattle.crq_rule.specs.declared.layout.Start.{Start}
 use Rattle.crq_rule.specs.declared.view.Caller.{Caller}
-use Rattle.crq_rule.specs.Lists.{put, In, without}
+use Rattle.crq_rule.specs.Lists.{put, without}
 use Rattle.crq_rule.specs.Places.{index, stamp, IsRow, IsHomeRow, Shows}
 use Rattle.crq_rule.specs.Core.{Core, caller_of}
 use Rattle.crq_rule.specs.Invariant.{Inv}

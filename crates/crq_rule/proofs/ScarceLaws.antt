@@ -10,19 +10,21 @@ use Rattle.crq_base.specs.declared.entry.Entry.TheVariants.{Begin}
 use Rattle.crq_base.specs.declared.words.Mark.{Mark}
 use Rattle.crq_base.specs.declared.words.Mark.TheVariants.{Val, Del}
 use Rattle.crq_base.specs.Histories.{IsPending}
+use Rattle.crq_base.specs.Lists.{In, IsOnce}
+use Rattle.crq_base.specs.Refusals.{AreCounted}
 use Rattle.crq_rule.specs.declared.debts.CutDebt.{CutDebt}
 use Rattle.crq_rule.specs.declared.debts.Debts.{Debts}
 use Rattle.crq_rule.specs.declared.layout.Layout.{Layout}
 use Rattle.crq_rule.specs.declared.view.Guard.{Guard}
 use Rattle.crq_rule.specs.declared.view.Guard.TheVariants.{Off, Entering, On}
 use Rattle.crq_rule.specs.declared.view.Base.{Base}
-use Rattle.crq_rule.specs.Lists.{put, In, IsOnce}
+use Rattle.crq_rule.specs.Lists.{put}
 use Rattle.crq_rule.specs.Places.{IsRow, IsHomeRow}
 use Rattle.crq_rule.specs.Core.{Core, Holding, in_hand, listed, cut_by, retired}
 use Rattle.crq_rule.specs.Parts.{GuardIs, OnSince, IsOn, stamp_of}
 use Rattle.crq_rule.specs.ListParts.{MarkFits, IsNamed}
 use Rattle.crq_rule.specs.HistoryParts.{IsLive}
-use Rattle.crq_rule.specs.ScarceParts.{pending, IsLate, IsScarce, AreCounted, slots, IsBase, Scarce, Refusals}
+use Rattle.crq_rule.specs.ScarceParts.{pending, IsLate, IsScarce, slots, IsBase, Scarce, Refusals}
 use Rattle.crq_rule.specs.Invariant.{Inv}
 use Rattle.crq_rule.specs.Kinds.{new_base, has_risen, is_late_word, looked_base, refused_after, base_looked}
 use Rattle.crq_rule.specs.Rule.{rows_from}

@@ -10,7 +10,7 @@ use Rattle.crq_rule.specs.declared.view.Guard.{Guard}
 use Rattle.crq_rule.specs.declared.view.Position.{Position}
 use Rattle.crq_rule.specs.declared.view.Wrote.{Wrote}
 use Rattle.crq_rule.specs.declared.view.Walk.{Walk}
-use Rattle.crq_rule.specs.Lists.{put, In}
+use Rattle.crq_rule.specs.Lists.{put}
 use Rattle.crq_rule.specs.Places.{IsRow, IsHead}
 use Rattle.crq_rule.specs.Core.{Holding, in_hand, listed}
 use Rattle.crq_rule.specs.Parts.{Covers, standing, rows_of}
@@ -19,6 +19,7 @@ use Rattle.crq_rule.specs.HistoryParts.{Carriers, Walkers, IsLive, StandsFrom}
 use Rattle.crq_rule.specs.Ranks.{head_of, IsOpen}
 use Rattle.crq_rule.specs.Kinds.{nowhere}
 use Rattle.crq_base.specs.Histories.{puts, outs}
+use Rattle.crq_base.specs.Lists.{In}
 use Rattle.std.specs.Prelude.{Contains}
 use Rattle.crq_rule.proofs.Puts.{put_else, put_all, snoc_in}
 use Rattle.crq_rule.proofs.PartLaws.{sort}

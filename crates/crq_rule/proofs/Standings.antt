@@ -3,8 +3,8 @@ use Rattle.std.proofs.Common.{◌≡◌, ◌≢◌, ◌⊎◌, ⊎_elim, inl, in
 use Rattle.std.proofs.lemmas.Bool.{cond_both, eqb-true, eqb-false}
 use Rattle.crq_base.specs.declared.event.Event.{Event}
 use Rattle.crq_base.specs.declared.words.Link.{Link}
+use Rattle.crq_base.specs.Lists.{In}
 use Rattle.crq_rule.specs.declared.view.Stand.{Stand}
-use Rattle.crq_rule.specs.Lists.{In}
 use Rattle.crq_rule.specs.Parts.{Leads, Names, IsPath, Reaches, rows_of}
 use Rattle.crq_rule.specs.Ranks.{Rises, Cell, at_head, at_row}
 use Rattle.crq_rule.specs.ListKinds.{is_final, is_val, next_stand, only_row, ended, kept_stands, stands_after}

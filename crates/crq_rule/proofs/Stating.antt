@@ -3,9 +3,9 @@ use Rattle.std.proofs.Common.{◌≡◌, ◌⊎◌, ⊎_elim, inl, inr, ℕ, zer
 use mathlib.Core.Logic.{dite}
 use native.Mathlib.Decide.{ℕ_discrete}
 use Rattle.crq_base.specs.declared.words.Control.{Control}
+use Rattle.crq_base.specs.Lists.{In}
 use Rattle.crq_rule.specs.declared.view.Guard.{Guard}
 use Rattle.crq_rule.specs.declared.view.Guard.TheVariants.{Off, Entering, On}
-use Rattle.crq_rule.specs.Lists.{In}
 use Rattle.crq_rule.specs.Places.{Place, spare, epoch, announced, control, current, pin, head, link, stamp, twin, time, source, sequence, load, IsPlace, IsRow, IsHead, word_of}
 use Rattle.crq_rule.specs.Core.{Core, Holding, in_hand, listed, cut_by, retired}
 use Rattle.crq_rule.specs.Parts.{GuardIs, OnSince, Leads, Names, IsPath, stamp_of}

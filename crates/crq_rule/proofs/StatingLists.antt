@@ -11,10 +11,10 @@ use Rattle.crq_base.specs.declared.words.Mark.TheVariants.{Val, Del}
 use Rattle.crq_base.specs.Histories.{puts, outs, IsPending}
 use Rattle.crq_base.proofs.HistoryLaws.{began_one}
 use Rattle.crq_base.proofs.Verdicts.{contains_or}
+use Rattle.crq_base.specs.Lists.{In}
 use Rattle.crq_rule.specs.declared.debts.CutDebt.{CutDebt}
 use Rattle.crq_rule.specs.declared.debts.Debts.{Debts}
 use Rattle.crq_rule.specs.declared.view.Walk.{Walk}
-use Rattle.crq_rule.specs.Lists.{In}
 use Rattle.crq_rule.specs.Places.{IsRow, IsHead}
 use Rattle.crq_rule.specs.Core.{Core, Holding, in_hand, listed, cut_by, retired}
 use Rattle.crq_rule.specs.Parts.{IsEvent, Leads}

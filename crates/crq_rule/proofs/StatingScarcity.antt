@@ -1,9 +1,9 @@
 -- The part on scarcity implies what is stated, and the count of a refusal.
 use Rattle.std.proofs.Common.{◌≡◌, ⊎_elim, inl, inr, ℕ, ◌+◌, ◌-◌, ◌*◌, ◌/◌, ◌<◌, ◌≤◌, [], length, Some, cond, sym, ap, ◌∙◌, subst, arith, eq-eqb}
+use Rattle.crq_base.specs.Lists.{In}
+use Rattle.crq_base.specs.Refusals.{AreCounted}
 use Rattle.crq_rule.specs.declared.view.Base.{Base}
-use Rattle.crq_rule.specs.Lists.{In}
 use Rattle.crq_rule.specs.Core.{Core}
-use Rattle.crq_rule.specs.ScarceParts.{AreCounted}
 use Rattle.crq_rule.specs.Invariant.{Inv}
 use Rattle.crq_rule.specs.Kinds.{looked, base_looked, refused_after}
 use Rattle.crq_rule.specs.Stated.{ScarcityHolds}

@@ -13,19 +13,21 @@ use Rattle.crq_base.specs.declared.words.Link.{Link}
 use Rattle.crq_base.specs.declared.words.Mark.TheVariants.{Val, Del}
 use Rattle.crq_base.specs.Words.{IsLink}
 use Rattle.crq_base.specs.Starts.{IsFirst}
+use Rattle.crq_base.specs.Lists.{In, IsOnce}
+use Rattle.crq_base.specs.Sources.{owner_of}
 use Rattle.crq_rule.specs.declared.layout.Layout.{Layout}
 use Rattle.crq_rule.specs.declared.layout.Start.{Start}
 use Rattle.crq_rule.specs.declared.view.Guard.TheVariants.{On}
 use Rattle.crq_rule.specs.declared.view.CutRow.{CutRow}
 use Rattle.crq_rule.specs.declared.view.Position.{Position}
 use Rattle.crq_rule.specs.declared.view.Stand.{Stand}
-use Rattle.crq_rule.specs.Lists.{put, In, IsOnce}
+use Rattle.crq_rule.specs.Lists.{put}
 use Rattle.crq_rule.specs.Places.{IsRow, IsHomeRow, IsHead}
 use Rattle.crq_rule.specs.Core.{Core, Holding, in_hand, listed, cut_by, retired}
 use Rattle.crq_rule.specs.Parts.{Holders, Stamps, Leads, IsPath, standing, stamp_of}
 use Rattle.crq_rule.specs.Ranks.{rank, head_of, IsOpen, Rises}
 use Rattle.crq_rule.specs.ListParts.{Heads, Sorted, Marks, Standing, Lanes, Naming, IsOpenHead, IsShutHead, MarkFits, TwinFits, IsFinal, ranks}
-use Rattle.crq_rule.specs.HistoryParts.{Carriers, Told, EndsInBegin, owner_of}
+use Rattle.crq_rule.specs.HistoryParts.{Carriers, Told, EndsInBegin}
 use Rattle.crq_rule.specs.Invariant.{Inv}
 use Rattle.crq_rule.specs.Kinds.{nowhere}
 use Rattle.crq_rule.specs.Rule.{rows_from}

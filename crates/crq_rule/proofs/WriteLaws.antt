@@ -7,6 +7,7 @@ use Rattle.crq_base.specs.declared.words.Link.{Link}
 use Rattle.crq_base.specs.declared.words.Mark.TheVariants.{Del}
 use Rattle.crq_base.specs.Words.{IsLink}
 use Rattle.crq_base.specs.Histories.{IsPending}
+use Rattle.crq_base.specs.Lists.{In}
 use Rattle.crq_rule.specs.declared.debts.Debts.{Debts}
 use Rattle.crq_rule.specs.declared.view.Guard.{Guard}
 use Rattle.crq_rule.specs.declared.view.Guard.TheVariants.{Off, Entering, On}
@@ -15,7 +16,7 @@ use Rattle.crq_rule.specs.declared.view.Position.{Position}
 use Rattle.crq_rule.specs.declared.view.Stand.{Stand}
 use Rattle.crq_rule.specs.declared.view.Walk.{Walk}
 use Rattle.crq_rule.specs.declared.view.Wrote.{Wrote}
-use Rattle.crq_rule.specs.Lists.{put, In}
+use Rattle.crq_rule.specs.Lists.{put}
 use Rattle.crq_rule.specs.Places.{IsRow, IsHead}
 use Rattle.crq_rule.specs.Core.{Core, Holding, in_hand, listed}
 use Rattle.crq_rule.specs.Parts.{IsEvent, IsOn, Leads, Names, IsPath, Reaches, Covers, Cover, rows_of, standing}

@@ -6,10 +6,10 @@ use Rattle.crq_base.specs.declared.event.Event.{Event}
 use Rattle.crq_base.specs.declared.entry.Entry.{Entry}
 use Rattle.crq_base.specs.Entries.{caller_of as whose}
 use Rattle.crq_base.specs.Histories.{puts, settleds, own as own_of, IsLegal}
+use Rattle.crq_base.specs.Lists.{In}
+use Rattle.crq_base.specs.Refusals.{AreCounted}
 use Rattle.crq_rule.specs.declared.view.Caller.{Caller}
 use Rattle.crq_rule.specs.declared.view.View.{View}
-use Rattle.crq_rule.specs.Lists.{In}
-use Rattle.crq_rule.specs.ScarceParts.{AreCounted}
 
 -- the view carries each of the n callers
 abbrev pub HasAll : ℕ → View → Type 0

@@ -1,5 +1,5 @@
 -- The parts of the invariant on the history: who made which entry, which row carries which pending event, and how far a take that walks has come.
-use Rattle.std.specs.Prelude.{◌≡◌, ◌⊎◌, ℕ, ◌-◌, ◌/◌, ◌<◌, ◌≤◌, min, List, [], ◌∷◌, ◌++◌, length, Option, Some, Contains}
+use Rattle.std.specs.Prelude.{◌≡◌, ◌⊎◌, ℕ, ◌<◌, ◌≤◌, List, [], ◌∷◌, ◌++◌, length, Option, Some, Contains}
 use Rattle.crq_base.specs.declared.event.Event.{Event}
 use Rattle.crq_base.specs.declared.entry.Entry.{Entry}
 use Rattle.crq_base.specs.declared.entry.Entry.TheVariants.{Begin, Put}
@@ -8,11 +8,12 @@ use Rattle.crq_base.specs.Histories.{puts, settleds, outs, own as own_of, IsPend
 use Rattle.crq_base.specs.declared.words.Link.{Link}
 use Rattle.crq_base.specs.declared.words.Mark.TheVariants.{Val}
 use Rattle.crq_base.specs.declared.words.Control.{Control}
+use Rattle.crq_base.specs.Lists.{In}
+use Rattle.crq_base.specs.Sources.{owner_of}
 use Rattle.crq_rule.specs.declared.layout.Layout.{Layout}
 use Rattle.crq_rule.specs.declared.view.Deal.{Deal}
 use Rattle.crq_rule.specs.declared.view.Position.{Position}
 use Rattle.crq_rule.specs.declared.view.Walk.{Walk}
-use Rattle.crq_rule.specs.Lists.{In}
 use Rattle.crq_rule.specs.Places.{IsRow, IsHead}
 use Rattle.crq_rule.specs.Core.{Holding, listed}
 use Rattle.crq_rule.specs.Parts.{Reaches, rows_of}
@@ -30,10 +31,6 @@ pub record Carriers (l : Layout) (history : List Entry) (link : ℕ → Link) (e
   pub one : (r s : ℕ) → IsLive l link holding r → IsLive l link holding s → event r ≡ event s → r ≡ s
 
 -- 15. The history
-
--- whose the source x is, where each of n callers has `span` sources in a row, and the last one those of all greater sources too
-abbrev pub owner_of : ℕ → ℕ → ℕ → ℕ
-owner_of n span x = min (x / span) (n - 1)
 
 -- the last of these entries is a Begin
 abbrev pub EndsInBegin : List Entry → Type 0

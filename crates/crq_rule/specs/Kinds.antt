@@ -1,6 +1,7 @@
 -- What each kind of step does to what its caller knows, and to the core state.
 use Rattle.std.specs.Prelude.{cond, ◌==◌, ◌&&◌, ◌||◌, nat_le, Bool, false, ◌≡◌, ◌≢◌, ℕ, zero, suc, ◌+◌, ◌*◌, ◌<◌, ◌≤◌, List, [], ◌∷◌, ◌++◌, length, Option, Some, None}
 use Rattle.crq_base.specs.declared.event.Event.{Event}
+use Rattle.crq_base.specs.Lists.{In}
 use Rattle.crq_rule.specs.declared.view.Guard.{Guard}
 use Rattle.crq_rule.specs.declared.view.Guard.TheVariants.{Off, Entering, On}
 use Rattle.crq_rule.specs.declared.view.Tick.{Tick}
@@ -10,7 +11,7 @@ use Rattle.crq_rule.specs.declared.view.Base.{Base}
 use Rattle.crq_rule.specs.declared.view.Position.{Position}
 use Rattle.crq_rule.specs.declared.view.Caller.{Caller}
 use Rattle.crq_rule.specs.declared.view.View.{View}
-use Rattle.crq_rule.specs.Lists.{put, In, without}
+use Rattle.crq_rule.specs.Lists.{put, without}
 use Rattle.crq_rule.specs.Core.{Core, in_hand, retired}
 use Rattle.crq_rule.specs.Parts.{LetsRise}
 use Rattle.crq_rule.specs.ScarceParts.{pending}

@@ -8,18 +8,20 @@ use Rattle.crq_base.specs.declared.words.Mark.{Mark}
 use Rattle.crq_base.specs.declared.words.Mark.TheVariants.{Val, Inv, Mov, Del}
 use Rattle.crq_base.specs.declared.words.Control.{Control}
 use Rattle.crq_base.specs.Words.{IsLink, link_word}
+use Rattle.crq_base.specs.Lists.{In}
+use Rattle.crq_base.specs.Sources.{IsFresh}
 use Rattle.crq_rule.specs.declared.debts.CutDebt.{CutDebt}
 use Rattle.crq_rule.specs.declared.view.Stand.{Stand}
 use Rattle.crq_rule.specs.declared.view.Wrote.{Wrote}
 use Rattle.crq_rule.specs.declared.view.Walk.{Walk}
 use Rattle.crq_rule.specs.declared.view.Sweep.{Sweep}
 use Rattle.crq_rule.specs.declared.view.Caller.{Caller}
-use Rattle.crq_rule.specs.Lists.{put, In}
+use Rattle.crq_rule.specs.Lists.{put}
 use Rattle.crq_rule.specs.Places.{Place, IsHead, link, twin, time, source, sequence, load}
 use Rattle.crq_rule.specs.Core.{Core, listed, cut_by}
 use Rattle.crq_rule.specs.Parts.{IsEvent, IsOn}
 use Rattle.crq_rule.specs.ListParts.{row_word}
-use Rattle.crq_rule.specs.HistoryParts.{EndsInBegin, owner_of}
+use Rattle.crq_rule.specs.HistoryParts.{EndsInBegin}
 use Rattle.crq_rule.specs.Ranks.{rank, head_of, Cell, at_head, at_row, link_at, heads_set, links_set, after_cell, without_row}
 
 -- the word of an event at a place of its row
@@ -359,10 +361,6 @@ ComesAfter x ss (at_row p) r e = (f : Event) × StandsOn ss p f × (rank f p < r
 -- and before the row n, if there is one
 abbrev pub ComesBefore : List Stand → ℕ → ℕ → Event → Type 0
 ComesBefore ss n r e = (n ≡ 0) ⊎ ((f : Event) × StandsOn ss n f × (rank e r < rank f n))
-
--- the event is of the caller's sources, and no event of that source and number is in what the caller has seen
-abbrev pub IsFresh : ℕ → List Entry → List Entry → ℕ → ℕ → Event → Type 0
-IsFresh n dealt own span j e = (owner_of n span e.src ≡ j) × ((k : ℕ) (f : Event) → In (Put k f) dealt ⊎ In (Put k f) own → f.src ≡ e.src → f.seq ≡ e.seq → ⊥)
 
 pub record MayLink (n : ℕ) (x : Control) (cell : Cell) (l : Link) (r : ℕ) (e : Event) (p : Caller) : Type 0 where
   pub on : IsOn p.guard

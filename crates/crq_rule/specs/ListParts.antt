@@ -6,6 +6,7 @@ use Rattle.crq_base.specs.declared.words.Mark.{Mark}
 use Rattle.crq_base.specs.declared.words.Mark.TheVariants.{Val, Inv as Invalid, Mov, Del}
 use Rattle.crq_base.specs.declared.words.Control.{Control}
 use Rattle.crq_base.specs.Words.{link_word}
+use Rattle.crq_base.specs.Lists.{In}
 use Rattle.crq_rule.specs.declared.debts.CutDebt.{CutDebt}
 use Rattle.crq_rule.specs.declared.debts.Debts.{Debts}
 use Rattle.crq_rule.specs.declared.layout.Layout.{Layout}
@@ -13,7 +14,6 @@ use Rattle.crq_rule.specs.declared.view.Guard.{Guard}
 use Rattle.crq_rule.specs.declared.view.Position.{Position}
 use Rattle.crq_rule.specs.declared.view.Stand.{Stand}
 use Rattle.crq_rule.specs.declared.view.Wrote.{Wrote}
-use Rattle.crq_rule.specs.Lists.{In}
 use Rattle.crq_rule.specs.Places.{IsRow, IsHead}
 use Rattle.crq_rule.specs.Core.{Holding, in_hand, listed, cut_by, retired}
 use Rattle.crq_rule.specs.Parts.{Covers, IsEvent}

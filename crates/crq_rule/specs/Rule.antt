@@ -11,6 +11,7 @@ use Rattle.crq_base.specs.declared.event.Event.{Event}
 use Rattle.crq_base.specs.declared.words.Control.{Control}
 use Rattle.crq_base.specs.declared.words.Mark.TheVariants.{Val, Del}
 use Rattle.crq_base.specs.Words.{IsLink, IsControl, link_word, control_word}
+use Rattle.crq_base.specs.Lists.{In}
 use Rattle.crq_rule.specs.declared.view.Stand.{Stand}
 use Rattle.crq_rule.specs.declared.debts.CutDebt.{CutDebt}
 use Rattle.crq_rule.specs.declared.view.CutRow.{CutRow}
@@ -18,7 +19,6 @@ use Rattle.crq_rule.specs.declared.view.Base.{Base}
 use Rattle.crq_rule.specs.declared.view.Made.{Made}
 use Rattle.crq_rule.specs.declared.view.Caller.{Caller}
 use Rattle.crq_rule.specs.declared.view.View.{View}
-use Rattle.crq_rule.specs.Lists.{In}
 use Rattle.crq_rule.specs.Places.{IsRow, IsHomeRow, Shows}
 use Rattle.crq_rule.specs.Parts.{IsEvent, IsOn}
 use Rattle.crq_rule.specs.Core.{Core, caller_of}

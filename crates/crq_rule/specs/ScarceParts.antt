@@ -4,11 +4,12 @@ use Rattle.crq_base.specs.declared.event.Event.{Event}
 use Rattle.crq_base.specs.declared.entry.Entry.{Entry}
 use Rattle.crq_base.specs.declared.entry.Entry.TheVariants.{Begin}
 use Rattle.crq_base.specs.Histories.{puts, outs}
+use Rattle.crq_base.specs.Lists.{In}
+use Rattle.crq_base.specs.Refusals.{AreCounted}
 use Rattle.crq_rule.specs.declared.layout.Layout.{Layout}
 use Rattle.crq_rule.specs.declared.view.Guard.{Guard}
 use Rattle.crq_rule.specs.declared.view.Base.{Base}
 use Rattle.crq_rule.specs.declared.view.Sweep.{Sweep}
-use Rattle.crq_rule.specs.Lists.{In, IsOnce}
 use Rattle.crq_rule.specs.Places.{IsHomeRow, IsHead}
 use Rattle.crq_rule.specs.Core.{Holding, in_hand, listed, cut_by, retired}
 use Rattle.crq_rule.specs.Parts.{OnSince}
@@ -46,12 +47,6 @@ pub record IsScarce (l : Layout) (guard : ℕ → Guard) (holding : ℕ → Hold
   pub rows : List ℕ
   pub few : length rows ≤ most
   pub all : (r : ℕ) → IsHomeRow l k r → IsLate guard g (holding r) → In r rows
-
--- the events are different, were put, and none was taken before any Begin of the caller k
-pub record AreCounted (history : List Entry) (k : ℕ) (events : List Event) : Type 0 where
-  pub once : IsOnce events
-  pub put : (e : Event) → In e events → Contains (puts history) e
-  pub kept : (e : Event) (front back : List Entry) → In e events → history ≡ front ++ Begin k ∷ back → Contains (outs front) e → ⊥
 
 -- Each listed row has a slot: it is named by one of the two dead rows that a caller may owe, which are slots of a copy that isn't bound too, or it holds a pending event, or is the second row of one. So in the
 -- state of the load at which the recovery began, where all rows that are late were listed, they were at most two for each caller and two for each event that was pending

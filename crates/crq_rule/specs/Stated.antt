@@ -13,6 +13,9 @@ use Rattle.crq_base.specs.declared.words.Control.{Control}
 use Rattle.crq_base.specs.declared.words.Current.{Current}
 use Rattle.crq_base.specs.declared.words.Pin.{Pin}
 use Rattle.crq_base.specs.Words.{IsLink, IsControl, IsCurrent, IsPin, IsStampWord, link_word, control_word, current_word, pin_word}
+use Rattle.crq_base.specs.Lists.{In, IsOnce}
+use Rattle.crq_base.specs.Sources.{owner_of}
+use Rattle.crq_base.specs.Refusals.{AreCounted}
 use Rattle.crq_rule.specs.declared.debts.CutDebt.{CutDebt}
 use Rattle.crq_rule.specs.declared.debts.Debts.{Debts}
 use Rattle.crq_rule.specs.declared.layout.Layout.{Layout}
@@ -20,14 +23,13 @@ use Rattle.crq_rule.specs.declared.view.Guard.TheVariants.{Off, Entering, On}
 use Rattle.crq_rule.specs.declared.view.CutRow.{CutRow}
 use Rattle.crq_rule.specs.declared.view.Base.{Base}
 use Rattle.crq_rule.specs.declared.view.Walk.{Walk}
-use Rattle.crq_rule.specs.Lists.{In, IsOnce}
 use Rattle.crq_rule.specs.Places.{Place, spare, epoch, announced, control, current, pin, head, link, stamp, twin, time, source, sequence, load, IsPlace, IsRow, IsHomeRow, IsHead, word_of}
 use Rattle.crq_rule.specs.Core.{Core, Holding, in_hand, listed, cut_by, retired}
 use Rattle.crq_rule.specs.Parts.{NotAfter, IsOn, LetsRise, Leads, Names, Reaches, Covers, HasTag}
 use Rattle.crq_rule.specs.Ranks.{head_of, IsOpen}
 use Rattle.crq_rule.specs.ListParts.{IsOpenHead, IsShutHead}
-use Rattle.crq_rule.specs.HistoryParts.{IsLive, EndsInBegin, owner_of}
-use Rattle.crq_rule.specs.ScarceParts.{IsLate, AreCounted, pending}
+use Rattle.crq_rule.specs.HistoryParts.{IsLive, EndsInBegin}
+use Rattle.crq_rule.specs.ScarceParts.{IsLate, pending}
 
 -- 1. Words
 

@@ -8,7 +8,7 @@ use Rattle.crq_base.specs.declared.entry.Entry.{Entry}
 use Rattle.crq_base.specs.declared.entry.Entry.TheVariants.{Begin as BeginEntry, Take as TakeEntry, Miss as MissEntry}
 use Rattle.crq_rule.specs.declared.view.Guard.TheVariants.{Off}
 use Rattle.crq_base.specs.declared.words.Mark.TheVariants.{Val}
-use Rattle.crq_rule.specs.Lists.{In}
+use Rattle.crq_base.specs.Lists.{In}
 use Rattle.crq_rule.specs.Places.{IsHomeRow, Place, spare, epoch, announced, control, stamp, link as link_place}
 use Rattle.crq_rule.specs.Parts.{IsOn}
 use Rattle.crq_rule.specs.Ranks.{Cell, cell_place, link_at}

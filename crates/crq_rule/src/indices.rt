@@ -1,11 +1,12 @@
 //! The number of each word.
 
 ghost use Rattle.std.specs.Prelude.{◌≡◌, ◌+◌, ◌*◌, ◌<◌, ◌≤◌};
+ghost use Rattle.crq_base.specs.Sizes.{IsTeam, AreRows};
 ghost use Rattle.crq_rule.specs.Places.{index, IsRow, epoch, announced, control, current, head, stamp};
 ghost use Rattle.crq_rule.specs.ListKinds.{row_place};
 ghost use Rattle.crq_rule.specs.Widths.{width};
 
-use crate::layout::{Layout, MOST_ROWS};
+use crate::layout::Layout;
 
 /// The number of the first word of row 0, which there isn't, in a table of no callers.
 const ROWS: usize = 65534;
@@ -16,8 +17,8 @@ const LEAST: usize = 65541;
 impl Layout {
     /// The layout for this many callers, and so many rows for each.
     pub fn of(workers: u32, rows: u32) -> Layout
-        requires workers { (1 ≤ workers) × (workers ≤ 16) }
-        requires rows { (4 ≤ rows) × (rows ≤ MOST_ROWS) }
+        requires workers { IsTeam workers }
+        requires rows { AreRows rows }
         ensures { (result.workers ≡ workers) × (result.rows ≡ rows) }
     {
         let home = rows + 2 * workers;

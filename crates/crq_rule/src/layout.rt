@@ -1,15 +1,12 @@
 //! The place of each word of the table.
 
 ghost use Rattle.std.specs.Prelude.{◌≡◌, ◌+◌, ◌*◌, ◌<◌, ◌≤◌};
-ghost use Rattle.crq_rule.specs.declared.layout.TheConstants.{MOST_ROWS};
+ghost use Rattle.crq_base.specs.Sizes.{IsTeam, AreRows};
 
 use crq_base::First;
 
 /// How many heads a bank has.
 pub const BANK: u32 = 32768;
-
-/// How many rows each caller may use at most.
-pub const MOST_ROWS: u32 = 131072;
 
 /// How many callers and rows a table has.
 ///
@@ -17,16 +14,16 @@ pub const MOST_ROWS: u32 = 131072;
 /// of 32,768 heads, and the rows, of seven words each: link, stamp, twin, and the four words of an event.
 #[derive(Clone, Copy, Debug, PartialEq, Eq)]
 pub struct Layout {
-    /// The number of callers, 1 to 16.
+    /// The number of callers, 1 to `MOST_WORKERS` of `crq_base`.
     pub workers: u32,
-    /// How many rows each caller may use, 4 to `MOST_ROWS`.
+    /// How many rows each caller may use, 4 to `MOST_ROWS` of `crq_base`.
     pub rows: u32,
     /// How many rows have their home with each caller. Those beyond `rows` make up for rows that others have yet to cut.
     pub home: u32,
     /// How many rows there are.
     pub all: u32,
-    ghost few: { (1 ≤ workers) × (workers ≤ 16) },
-    ghost some_rows: { (4 ≤ rows) × (rows ≤ MOST_ROWS) },
+    ghost few: { IsTeam workers },
+    ghost some_rows: { AreRows rows },
     ghost home_is: { home ≡ rows + 2 * workers },
     ghost all_is: { all ≡ workers * home },
     ghost all_fit: { all ≤ 2097664 },

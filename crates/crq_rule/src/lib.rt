@@ -20,7 +20,7 @@ pub use laws::{
     claim_law, gather_law, guard_law, opening_law, parts_law, scarcity_law, seat_law, step_law,
     witness_law,
 };
-pub use layout::{BANK, Layout, MOST_ROWS, Start};
+pub use layout::{BANK, Layout, Start};
 pub use opening::{Opened, open_table};
 pub use pass::{Owes, Pass, Rest, Seating, Table};
 pub use rule::{FirstPart, JoinedParts, TableLaw};
