@@ -18,7 +18,7 @@ use Rattle.crq_rule.specs.Parts.{IsEvent, IsOn}
 use Rattle.crq_rule.specs.Kinds.{makes, loads_epoch, tagged, retires}
 use Rattle.crq_rule.specs.Ranks.{rank, head_of, IsOpen, Cell, at_head, at_row, cell_place}
 use Rattle.crq_rule.specs.ListKinds.{StandsOn, MayWalk, MayCut, is_beyond, walks, cuts, event_word, row_place}
-use Rattle.crq_rule.specs.Rule.{Lawful, WalksOn, IsWalkable}
+use Rattle.crq_rule.specs.Moves.{Lawful, WalksOn, IsWalkable}
 use Rattle.crq_rows.specs.Passes.{caller, IsPassOf, Stepped, load_made, store_made, step_made}
 use Rattle.crq_rows.specs.Reading.{stays}
 use Rattle.crq_list.specs.declared.parts.Spot.{Spot}

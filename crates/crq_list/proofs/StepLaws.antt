@@ -22,7 +22,7 @@ use Rattle.crq_rule.specs.Places.{index, Place, control, IsPlace, IsRow}
 use Rattle.crq_rule.specs.Kinds.{makes}
 use Rattle.crq_rule.specs.Ranks.{rank, head_of, Cell, at_head, at_row, cell_place}
 use Rattle.crq_rule.specs.ListKinds.{MayWalk, ComesAfter, links, marks, cuts, unhanded, cut_debt, relieved, unnamed, is_beyond, is_val}
-use Rattle.crq_rule.specs.Rule.{Lawful, Walked, FoundControl, wins}
+use Rattle.crq_rule.specs.Moves.{Lawful, Walked, FoundControl, wins}
 use Rattle.crq_rule.proofs.Placing.{within}
 use Rattle.crq_rows.specs.Passes.{caller, IsSeated, IsOwed, IsPassOf, StaysAside, Turned, Exchanges, load_made, step_made, counted}
 use Rattle.crq_rows.proofs.Reached.{stand_row}

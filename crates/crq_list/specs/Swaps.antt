@@ -15,7 +15,7 @@ use Rattle.crq_rule.specs.Parts.{IsEvent}
 use Rattle.crq_rule.specs.Kinds.{makes}
 use Rattle.crq_rule.specs.Ranks.{Cell, cell_place}
 use Rattle.crq_rule.specs.ListKinds.{walks, links, marks, cuts, unhanded, cut_debt}
-use Rattle.crq_rule.specs.Rule.{WalksOn, IsWalkable}
+use Rattle.crq_rule.specs.Moves.{WalksOn, IsWalkable}
 use Rattle.crq_rows.specs.Passes.{caller, IsPassOf, load_made, step_made, counted}
 
 -- the link l of the cell was found

@@ -15,7 +15,7 @@ use Rattle.crq_rule.specs.declared.pass.Seating.TheVariants.{Here, Resting}
 use Rattle.crq_rule.specs.declared.view.Caller.{Caller}
 use Rattle.crq_rule.specs.declared.view.View.{View}
 use Rattle.crq_rule.specs.Deals.{spanned_part, spans}
-use Rattle.crq_rule.specs.Rule.{Lawful}
+use Rattle.crq_rule.specs.Moves.{Lawful}
 use Rattle.crq_rows.specs.Passes.{first_part, IsOwed}
 use Rattle.crq_rows.specs.Waking.{AllRest, pass_of, AllWoken}
 use Rattle.crq_rows.proofs.Deals.{same_pass}

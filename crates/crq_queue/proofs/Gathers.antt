@@ -20,7 +20,8 @@ use Rattle.crq_rule.specs.declared.pass.Seating.TheVariants.{Here, Resting}
 use Rattle.crq_rule.specs.declared.view.Caller.{Caller}
 use Rattle.crq_rule.specs.declared.view.View.{View}
 use Rattle.crq_rule.specs.Deals.{HasAll, Gathered, settled_part}
-use Rattle.crq_rule.specs.Rule.{Lawful, joined}
+use Rattle.crq_rule.specs.Rule.{joined}
+use Rattle.crq_rule.specs.Moves.{Lawful}
 use Rattle.crq_rows.specs.Passes.{caller}
 use Rattle.crq_rows.proofs.Deals.{same_pass}
 use Rattle.crq_rows.proofs.Slots.{get_here, get_else}

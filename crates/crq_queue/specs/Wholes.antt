@@ -16,7 +16,7 @@ use Rattle.crq_rule.specs.declared.pass.Seating.{Seating}
 use Rattle.crq_rule.specs.declared.pass.Seating.TheVariants.{Here, Resting}
 use Rattle.crq_rule.specs.declared.view.Caller.{Caller}
 use Rattle.crq_rule.specs.declared.view.Guard.TheVariants.{Off}
-use Rattle.crq_rule.specs.Rule.{Lawful}
+use Rattle.crq_rule.specs.Moves.{Lawful}
 use Rattle.crq_rows.specs.Passes.{caller, IsOwed, IsPassOf}
 use Rattle.crq_queue.specs.declared.calendar.Whole.{Whole}
 use Rattle.crq_queue.specs.declared.calendar.Closed.{Closed}

@@ -15,7 +15,8 @@ use Rattle.crq_rule.specs.declared.pass.Rest.{Rest}
 use Rattle.crq_rule.specs.declared.pass.Table.{Table}
 use Rattle.crq_rule.specs.declared.pass.Seating.{Seating}
 use Rattle.crq_rule.specs.declared.pass.Seating.TheVariants.{Here, Resting}
-use Rattle.crq_rule.specs.Rule.{Lawful, fresh, fresh_from, head_view, tail_view, first_of, rest_of, IsFirstApart}
+use Rattle.crq_rule.specs.Rule.{fresh, fresh_from, head_view, tail_view, first_of, rest_of, IsFirstApart}
+use Rattle.crq_rule.specs.Moves.{Lawful}
 use Rattle.crq_rule.specs.Opening.{IsFresh, IsOpening, no_debts}
 use Rattle.crq_rule.proofs.ScarceLaws.{none_base}
 use Rattle.crq_rule.proofs.Counting.{rows_in}

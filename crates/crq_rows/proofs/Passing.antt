@@ -11,7 +11,8 @@ use Rattle.crq_rule.specs.declared.view.View.{View}
 use Rattle.crq_rule.specs.declared.pass.Pass.{Pass}
 use Rattle.crq_rule.specs.declared.pass.Table.{Table}
 use Rattle.crq_rule.specs.Kinds.{makes}
-use Rattle.crq_rule.specs.Rule.{Stands, Moves, MovesBy, By, Lawful, FirstTurns}
+use Rattle.crq_rule.specs.Rule.{Stands}
+use Rattle.crq_rule.specs.Moves.{Moves, MovesBy, By, Lawful, FirstTurns}
 use Rattle.crq_rule.proofs.Glue.{allows, moves_by}
 use Rattle.crq_rows.specs.Passes.{caller, first_part, IsOwed, IsSeated, IsPassOf, StaysAside, Steps, Stepped, Turned, Exchanged, Exchanges, counted}
 

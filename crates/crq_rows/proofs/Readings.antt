@@ -6,7 +6,7 @@ use Rattle.crq_rule.specs.declared.layout.Start.{Start}
 use Rattle.crq_rule.specs.declared.view.Caller.{Caller}
 use Rattle.crq_rule.specs.Places.{index, IsRow}
 use Rattle.crq_rule.specs.ListKinds.{row_place, StandsOn, event_word}
-use Rattle.crq_rule.specs.Rule.{Moves}
+use Rattle.crq_rule.specs.Moves.{Moves}
 use Rattle.crq_rule.specs.Steps.{read}
 use Rattle.crq_rule.proofs.GuardSteps.{same_words}
 use Rattle.crq_rule.proofs.ListSteps.{row_place_is, row_word_is, event_word_is}

@@ -16,7 +16,7 @@ use Rattle.crq_rule.specs.Places.{index, epoch, announced}
 use Rattle.crq_rule.specs.declared.view.Base.{Base}
 use Rattle.crq_base.specs.declared.event.Event.{Event}
 use Rattle.crq_rule.specs.Kinds.{makes, loads_based, new_base, scans, ticks, HasScanned, tagged}
-use Rattle.crq_rule.specs.Rule.{TellsEpoch}
+use Rattle.crq_rule.specs.Moves.{TellsEpoch}
 use Rattle.crq_rule.specs.Parts.{LetsRise}
 use Rattle.crq_rows.specs.declared.tick.TickOp.{TickOp}
 use Rattle.crq_rows.specs.declared.tick.TickOp.TheVariants.{Load, Scanning, Passed}

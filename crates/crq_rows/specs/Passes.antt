@@ -11,7 +11,8 @@ use Rattle.crq_rule.specs.declared.pass.Seating.{Seating}
 use Rattle.crq_rule.specs.declared.pass.Seating.TheVariants.{Here}
 use Rattle.crq_rule.specs.declared.layout.Start.{Start}
 use Rattle.crq_rule.specs.Kinds.{makes}
-use Rattle.crq_rule.specs.Rule.{fresh, Lawful}
+use Rattle.crq_rule.specs.Rule.{fresh}
+use Rattle.crq_rule.specs.Moves.{Lawful}
 
 -- the first part of a view
 abbrev pub first_part : Start → List Caller → Caller

@@ -15,7 +15,7 @@ use Rattle.crq_rule.specs.declared.pass.Table.{Table}
 use Rattle.crq_rule.specs.Places.{index, epoch, announced}
 use Rattle.crq_rule.specs.Parts.{LetsRise}
 use Rattle.crq_rule.specs.Kinds.{new_base, loads_based}
-use Rattle.crq_rule.specs.Rule.{TellsEpoch}
+use Rattle.crq_rule.specs.Moves.{TellsEpoch}
 use Rattle.crq_rows.specs.declared.tick.TickOp.{TickOp}
 use Rattle.crq_rows.specs.declared.tick.TickOp.TheVariants.{Load, Scanning, Passed}
 use Rattle.crq_rows.specs.declared.tick.Tick.{Tick as Reply}

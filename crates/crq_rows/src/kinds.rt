@@ -8,7 +8,7 @@ ghost use Rattle.crq_base.specs.declared.kinds.StepKind.{StepKind};
 ghost use Rattle.crq_base.specs.declared.kinds.StepKind.TheVariants.{EpochLoad};
 ghost use Rattle.crq_rule.specs.declared.layout.Start.{Start};
 ghost use Rattle.crq_rule.specs.declared.view.Caller.{Caller};
-ghost use Rattle.crq_rule.specs.Rule.{Moves, MovesBy, By, FirstTurns, quiet};
+ghost use Rattle.crq_rule.specs.Moves.{Moves, MovesBy, By, FirstTurns, quiet};
 ghost use Rattle.crq_rows.specs.Passes.{caller, StaysAside, IsAside, IsPassOf, IsSeated, Steps, Stepped, Turned, Exchanged, Exchanges, load_made, store_made, step_made};
 
 use atomic_table::Play;

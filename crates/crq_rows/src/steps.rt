@@ -8,7 +8,7 @@ ghost use Rattle.crq_rule.specs.Kinds.{loads_epoch, enters, confirms, leaves, sc
 ghost use Rattle.crq_base.specs.declared.event.Event.{Event};
 ghost use Rattle.crq_base.specs.Lists.{In};
 ghost use Rattle.crq_rule.specs.ListKinds.{Content, IsContent, content_number, content_word, row_place, writes, StandsOn, event_word};
-ghost use Rattle.crq_rule.specs.Rule.{TellsEpoch, BeginsRecovery};
+ghost use Rattle.crq_rule.specs.Moves.{TellsEpoch, BeginsRecovery};
 ghost use Rattle.crq_rows.specs.Reading.{stays};
 ghost use Rattle.crq_rows.specs.Passes.{caller, IsPassOf, Stepped, Turned, Exchanged, Claimed, load_made, store_made, step_made, announcement_word, found_by};
 

@@ -13,7 +13,8 @@ use Rattle.crq_rule.specs.declared.view.Caller.{Caller}
 use Rattle.crq_rule.specs.declared.view.View.{View}
 use Rattle.crq_rule.specs.Core.{Core, caller_of}
 use Rattle.crq_rule.specs.Kinds.{makes, after_made}
-use Rattle.crq_rule.specs.Rule.{IsWords, Carries, Stands, Moves, MovesBy, By, FirstTurns, joined, spent, first_of, rest_of, head_view, tail_view, IsFirstApart}
+use Rattle.crq_rule.specs.Rule.{IsWords, Carries, Stands, joined, spent, first_of, rest_of, head_view, tail_view, IsFirstApart}
+use Rattle.crq_rule.specs.Moves.{Moves, MovesBy, By, FirstTurns}
 use Rattle.crq_rule.proofs.Puts.{put_here, put_else}
 use Rattle.crq_rule.specs.Steps.{After}
 use Rattle.crq_rule.proofs.Frames.{frame_made}

@@ -16,7 +16,8 @@ use Rattle.crq_rule.specs.Invariant.{Inv}
 use Rattle.crq_rule.specs.declared.view.Base.{Base}
 use Rattle.crq_rule.specs.ScarceParts.{pending}
 use Rattle.crq_rule.specs.Kinds.{loads_epoch, loads_based, new_base, enters, confirms, leaves, scans, ticks, tagged, new_tick, nowhere, HasScanned}
-use Rattle.crq_rule.specs.Rule.{IsWords, Moves, MovesBy, quiet, TellsEpoch, BeginsRecovery, TellsLow, word_after}
+use Rattle.crq_rule.specs.Rule.{IsWords}
+use Rattle.crq_rule.specs.Moves.{Moves, MovesBy, quiet, TellsEpoch, BeginsRecovery, TellsLow, word_after}
 use Rattle.crq_rule.proofs.Puts.{put_here}
 use Rattle.crq_rule.proofs.Placing.{epoch_set, announced_set}
 use Rattle.crq_rule.specs.Steps.{After, epoch_load, recovery_load, enter, confirm, leave, scan, tick, tick_fails}

@@ -10,7 +10,7 @@ use Rattle.crq_rule.specs.Places.{IsRow}
 use Rattle.crq_rule.specs.Core.{Core, caller_of}
 use Rattle.crq_rule.specs.Parts.{Covers, IsEvent, IsOn, standing, rows_of_old, rows_of_copy}
 use Rattle.crq_rule.specs.Invariant.{Inv}
-use Rattle.crq_rule.specs.Rule.{Lawful}
+use Rattle.crq_rule.specs.Moves.{Lawful}
 use Rattle.crq_rule.proofs.Puts.{stand_in}
 use Rattle.crq_rule.proofs.ScarceLaws.{rows_counted}
 
@@ -58,7 +58,7 @@ lawful c j b inv = record {
   agree = λ s t i k e. sym (inv.standing.holds j s b i) ∙ (ap c.words.event e ∙ inv.standing.holds j t b k);
   owed_at = λ d x owed is. subst (λ z. d.head ≡ head_of z d.event) (sym (inv.reading.read_control j x b is)) (inv.naming.place j d b owed).0;
   owed_fits = λ d owed. let n = inv.naming.place j d b owed in (n.1, n.2);
-  scarce = λ x is none all. rows_counted c j x b is none all inv;
+  scarce = λ x vain. rows_counted c j x b vain inv;
   controlled = λ x is. subst (λ z. IsControl z × (z.moving ≡ false) × (z.log ≡ 0)) (sym (inv.reading.read_control j x b is)) (inv.spelled.is_control, inv.heads.steady, inv.heads.one);
 }
   where

@@ -23,7 +23,8 @@ use Rattle.crq_rule.specs.Invariant.{Inv}
 use Rattle.crq_rule.specs.Ranks.{rank, head_of, IsOpen, Cell, at_head, at_row, cell_place, link_at, heads_set, links_set}
 use Rattle.crq_rule.specs.ListKinds.{stands_after, walk_after, taken_on, sweep_on, clean_on, relieved, Content, new_link, no_twin, new_time, new_source, new_sequence, new_load, IsContent, content_number, content_word, row_place, wrote, writes, links, event_word, loads_control, begins, marks, cuts, misses, MayWalk, MaySeek, MayLink, MayMark, MayCut, MayMiss, ComesAfter, put_entries, unhanded, forgotten, cut_debt, without_stand, unnamed}
 use Rattle.crq_rule.specs.Steps.{Kind, write, walk, link as link_kind, link_fails, control_load, begin, mark, mark_fails, cut, cut_fails, miss, May, After, kind_of, place_of}
-use Rattle.crq_rule.specs.Rule.{IsWords, MovesBy, By, Walked, WalksOn, IsWalkable, FoundControl, wins, quiet}
+use Rattle.crq_rule.specs.Rule.{IsWords}
+use Rattle.crq_rule.specs.Moves.{MovesBy, By, Walked, WalksOn, IsWalkable, FoundControl, wins, quiet}
 use Rattle.crq_base.proofs.WordLaws.{link_one}
 use Rattle.crq_base.specs.Lists.{In}
 use Rattle.crq_rule.proofs.Puts.{put_here, stand_in}

@@ -10,7 +10,7 @@ use Rattle.crq_rule.specs.Places.{index, stamp, IsRow, IsHomeRow, Shows}
 use Rattle.crq_rule.specs.Core.{Core, caller_of}
 use Rattle.crq_rule.specs.Invariant.{Inv}
 use Rattle.crq_rule.specs.Kinds.{retires, looks, claims, claimed, seen_stamp, base_looked, refused_after, MayRetire, IsRipe}
-use Rattle.crq_rule.specs.Rule.{Moves, quiet, TellsRoom, TellsLow, word_after}
+use Rattle.crq_rule.specs.Moves.{Moves, quiet, TellsRoom, TellsLow, word_after}
 use Rattle.crq_rule.proofs.Puts.{put_here}
 use Rattle.crq_rule.proofs.Placing.{stamp_set}
 use Rattle.crq_rule.specs.Steps.{After, May, retire, look, claim}

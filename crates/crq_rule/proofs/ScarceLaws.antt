@@ -1,5 +1,5 @@
 -- How the parts on the shortage of rows stay, what a recovery knows at its first load, and the count of a refusal.
-use Rattle.std.proofs.Common.{◌≡◌, ◌≢◌, ◌⊎◌, ⊎_elim, inl, inr, Bool, true, false, cond, eqb, leb, ◌&&◌, ◌||◌, ℕ, zero, suc, ◌+◌, ◌*◌, ◌<◌, ◌≤◌, List, [], ◌∷◌, ◌++◌, length, take, Option, Some, None, sym, refl, ap, ◌∙◌, subst, arith, le_refl}
+use Rattle.std.proofs.Common.{◌≡◌, ◌≢◌, ◌⊎◌, ⊎_elim, inl, inr, Bool, true, false, cond, eqb, leb, ◌&&◌, ℕ, zero, suc, ◌+◌, ◌*◌, ◌<◌, ◌≤◌, List, [], ◌∷◌, ◌++◌, length, Option, Some, None, sym, refl, ap, ◌∙◌, subst, arith, le_refl}
 use mathlib.Core.Logic.{dite}
 use native.Mathlib.Decide.{ℕ_discrete}
 use Rattle.std.proofs.lemmas.Bool.{false≢true, leb-true, eqb-true}
@@ -7,10 +7,8 @@ use Rattle.std.proofs.lemmas.List.{length-append, take-append-le, take_all}
 use Rattle.crq_base.specs.declared.event.Event.{Event}
 use Rattle.crq_base.specs.declared.entry.Entry.{Entry}
 use Rattle.crq_base.specs.declared.entry.Entry.TheVariants.{Begin}
-use Rattle.crq_base.specs.declared.words.Mark.{Mark}
-use Rattle.crq_base.specs.declared.words.Mark.TheVariants.{Val, Del}
-use Rattle.crq_base.specs.Histories.{IsPending}
-use Rattle.crq_base.specs.Lists.{In, IsOnce}
+use Rattle.crq_base.specs.declared.words.Mark.TheVariants.{Val}
+use Rattle.crq_base.specs.Lists.{In}
 use Rattle.crq_base.specs.Refusals.{AreCounted}
 use Rattle.crq_rule.specs.declared.debts.CutDebt.{CutDebt}
 use Rattle.crq_rule.specs.declared.debts.Debts.{Debts}
@@ -20,18 +18,18 @@ use Rattle.crq_rule.specs.declared.view.Guard.TheVariants.{Off, Entering, On}
 use Rattle.crq_rule.specs.declared.view.Base.{Base}
 use Rattle.crq_rule.specs.Lists.{put}
 use Rattle.crq_rule.specs.Places.{IsRow, IsHomeRow}
-use Rattle.crq_rule.specs.Core.{Core, Holding, in_hand, listed, cut_by, retired}
+use Rattle.crq_rule.specs.Core.{Core, caller_of, Holding, in_hand, listed, cut_by, retired}
 use Rattle.crq_rule.specs.Parts.{GuardIs, OnSince, IsOn, stamp_of}
 use Rattle.crq_rule.specs.ListParts.{MarkFits, IsNamed}
 use Rattle.crq_rule.specs.HistoryParts.{IsLive}
 use Rattle.crq_rule.specs.ScarceParts.{pending, IsLate, IsScarce, slots, IsBase, Scarce, Refusals}
 use Rattle.crq_rule.specs.Invariant.{Inv}
-use Rattle.crq_rule.specs.Kinds.{new_base, has_risen, is_late_word, looked_base, refused_after, base_looked}
+use Rattle.crq_rule.specs.Kinds.{new_base, has_risen, is_late_word, looked_base, refused_after, base_looked, FoundNoRow}
 use Rattle.crq_rule.specs.Rule.{rows_from}
-use Rattle.crq_rule.proofs.Puts.{put_here, put_else, put_all}
+use Rattle.crq_rule.proofs.Puts.{put_all}
 use Rattle.crq_rule.proofs.PartLaws.{home_is_row, one_home}
 use Rattle.crq_rule.proofs.Counting.{within_list, rows_in, rows_once, rows_long}
-use Rattle.crq_rule.proofs.Pendings.{both, either_of, pending_in, in_pending, counted_grown, pending_counted, none_counted}
+use Rattle.crq_rule.proofs.Pendings.{both, either_of, pending_in, in_pending, counted_grown, pending_counted}
 
 pub none_base : (b : Base) → None ≡ Some b → ⊥
 none_base b e = cc
@@ -292,8 +290,8 @@ module _ (c : Core) (j : ℕ) (b : j < c.start.layout.workers) (inv : Inv c) whe
 -- The count of a refusal
 
 -- a caller that has no row in hand, and that found none of its home rows ripe since its recovery began, counts events for half its rows
-pub rows_counted : (c : Core) (k : ℕ) (x : Base) → k < c.start.layout.workers → c.base k ≡ Some x → c.hand k ≡ [] → x.looked ≡ c.start.layout.home → Inv c → c.start.layout.rows ≤ 2 * length x.events
-rows_counted c k x b is none all inv = let l = c.start.layout in let old = inv.scarce.each k x b is in
+pub rows_counted : (c : Core) (k : ℕ) (x : Base) → k < c.start.layout.workers → FoundNoRow (caller_of c k) x → Inv c → c.start.layout.rows ≤ 2 * length x.events
+rows_counted c k x b vain inv = let l = c.start.layout in let old = inv.scarce.each k x b vain.base in let all = vain.all in
     let count = within_list (rows_from (k * l.home) l.home) old.late.rows (rows_once (k * l.home) l.home) (λ r i. let home = rows_in (k * l.home) l.home r i in
-    old.late.all r home (⊎_elim (λ (held : c.holding r ≡ in_hand k). absurd (subst (In r) none (inv.holders.of_hand k r (home_is_row l k r b home) held).1)) (λ late. late) (old.looked r home (let hi = home.1 in omega arith)))) in
+    old.late.all r home (⊎_elim (λ (held : c.holding r ≡ in_hand k). absurd (subst (In r) vain.none (inv.holders.of_hand k r (home_is_row l k r b home) held).1)) (λ late. late) (old.looked r home (let hi = home.1 in omega arith)))) in
     let few = old.late.few in let long = rows_long (k * l.home) l.home in let h = l.home_is in omega arith

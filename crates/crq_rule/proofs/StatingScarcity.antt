@@ -1,11 +1,10 @@
 -- The part on scarcity implies what is stated, and the count of a refusal.
-use Rattle.std.proofs.Common.{◌≡◌, ⊎_elim, inl, inr, ℕ, ◌+◌, ◌-◌, ◌*◌, ◌/◌, ◌<◌, ◌≤◌, [], length, Some, cond, sym, ap, ◌∙◌, subst, arith, eq-eqb}
-use Rattle.crq_base.specs.Lists.{In}
+use Rattle.std.proofs.Common.{◌≡◌, ⊎_elim, inl, inr, ℕ, ◌-◌, ◌/◌, ◌<◌, length, Some, cond, sym, ap, ◌∙◌, arith, eq-eqb}
 use Rattle.crq_base.specs.Refusals.{AreCounted}
 use Rattle.crq_rule.specs.declared.view.Base.{Base}
-use Rattle.crq_rule.specs.Core.{Core}
+use Rattle.crq_rule.specs.Core.{Core, caller_of}
 use Rattle.crq_rule.specs.Invariant.{Inv}
-use Rattle.crq_rule.specs.Kinds.{looked, base_looked, refused_after}
+use Rattle.crq_rule.specs.Kinds.{looked, base_looked, refused_after, FoundNoRow}
 use Rattle.crq_rule.specs.Stated.{ScarcityHolds}
 use Rattle.crq_rule.proofs.Puts.{put_here}
 use Rattle.crq_rule.proofs.PartLaws.{home_is_row}
@@ -25,10 +24,11 @@ scarcity_holds c inv = record {
 }
 
 -- more events than half of the rows less two
-pub enough : (c : Core) (k : ℕ) (b : Base) → Inv c → k < c.start.layout.workers → c.base k ≡ Some b → c.hand k ≡ [] → b.looked ≡ c.start.layout.home → ((c.start.layout.rows - 2) / 2 < length b.events) × AreCounted c.history k b.events
-enough c k b inv inside is none all = let count = rows_counted c k b inside is none all inv in let some = c.start.layout.some_rows in (omega arith, (inv.scarce.each k b inside is).counted)
+pub enough : (c : Core) (k : ℕ) (b : Base) → Inv c → k < c.start.layout.workers → FoundNoRow (caller_of c k) b → ((c.start.layout.rows - 2) / 2 < length b.events) × AreCounted c.history k b.events
+enough c k b inv inside vain = let count = rows_counted c k b inside vain inv in let some = c.start.layout.some_rows in (omega arith, (inv.scarce.each k b inside vain.base).counted)
 
 -- the look at the last home row refuses
-pub refuses : (c : Core) (j r : ℕ) (b : Base) → c.hand j ≡ [] → base_looked c j r ≡ Some b → b.looked ≡ c.start.layout.home → (looked c j r).refused j ≡ b.events
-refuses c j r b none is all = put_here c.refused j (refused_after c.start.layout.home (c.hand j) (base_looked c j r) (c.refused j))
-    ∙ ((λ i. refused_after c.start.layout.home (none i) (is i) (c.refused j)) ∙ ap (λ t. cond t b.events (c.refused j)) (eq-eqb b.looked c.start.layout.home all))
+pub refuses : (c : Core) (j r : ℕ) (b : Base) → FoundNoRow (caller_of (looked c j r) j) b → (looked c j r).refused j ≡ b.events
+refuses c j r b vain = let is : base_looked c j r ≡ Some b = sym (put_here c.base j (base_looked c j r)) ∙ vain.base in
+    put_here c.refused j (refused_after c.start.layout.home (c.hand j) (base_looked c j r) (c.refused j))
+    ∙ ((λ i. refused_after c.start.layout.home (vain.none i) (is i) (c.refused j)) ∙ ap (λ t. cond t b.events (c.refused j)) (eq-eqb b.looked c.start.layout.home vain.all))

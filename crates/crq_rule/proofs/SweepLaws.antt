@@ -1,7 +1,5 @@
 -- How the part on sweeps stays.
-use Rattle.std.proofs.Common.{◌≡◌, ◌≢◌, ◌⊎◌, ⊎_elim, inl, inr, Bool, true, false, cond, eqb, leb, ◌&&◌, ℕ, ◌<◌, ◌≤◌, List, [], ◌∷◌, ◌++◌, Option, Some, None, sym, refl, ap, ◌∙◌, subst, arith}
-use mathlib.Core.Logic.{dite}
-use native.Mathlib.Decide.{ℕ_discrete}
+use Rattle.std.proofs.Common.{◌≡◌, ◌≢◌, ⊎_elim, inl, inr, Bool, true, false, cond, eqb, leb, ◌&&◌, ℕ, ◌<◌, ◌≤◌, List, [], ◌∷◌, ◌++◌, Option, Some, None, sym, refl, ap, ◌∙◌, subst, arith}
 use Rattle.std.proofs.lemmas.Bool.{false≢true, leb-true, eqb-true}
 use Rattle.std.specs.List.{Contains}
 use Rattle.std.proofs.lemmas.List.Elements.{Contains-append_left}
@@ -26,9 +24,8 @@ use Rattle.crq_rule.specs.ListParts.{ranks, MarkFits}
 use Rattle.crq_rule.specs.Ranks.{rank, head_of, Cell, at_head, at_row, link_at, Rises, after_cell, without_row}
 use Rattle.crq_rule.specs.ScarceParts.{WasOut, Swept}
 use Rattle.crq_rule.specs.Invariant.{Inv}
-use Rattle.crq_rule.specs.ListKinds.{put_entries, is_val, MayWalk, is_passing, swept_head, taken_on, sweep_on, clean_on}
+use Rattle.crq_rule.specs.ListKinds.{put_entries, is_val, is_passing, swept_head, taken_on, sweep_on, clean_on}
 use Rattle.crq_rule.proofs.Puts.{put_all}
-use Rattle.crq_rule.proofs.PartLaws.{one_home}
 use Rattle.crq_rule.proofs.HistoryLaws.{not_out}
 use Rattle.crq_rule.proofs.ChainLaws.{in_cell}
 use Rattle.crq_rule.proofs.Pendings.{split_entry, both}

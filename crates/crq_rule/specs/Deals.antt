@@ -2,18 +2,25 @@
 use Rattle.std.specs.Prelude.{◌≡◌, ℕ, ◌<◌, List, [], ◌++◌, map, Contains}
 use mathlib.Core.Option.{some}
 use lib.ListN.{get_elem?}
+use Rattle.atomic_table.specs.Table.{Me, Allows}
 use Rattle.crq_base.specs.declared.event.Event.{Event}
 use Rattle.crq_base.specs.declared.entry.Entry.{Entry}
 use Rattle.crq_base.specs.Entries.{caller_of as whose}
 use Rattle.crq_base.specs.Histories.{puts, settleds, own as own_of, IsLegal}
 use Rattle.crq_base.specs.Lists.{In}
 use Rattle.crq_base.specs.Refusals.{AreCounted}
+use Rattle.crq_rule.specs.declared.layout.Start.{Start}
 use Rattle.crq_rule.specs.declared.view.Caller.{Caller}
 use Rattle.crq_rule.specs.declared.view.View.{View}
+use Rattle.crq_rule.specs.Rule.{Stands}
 
 -- the view carries each of the n callers
 abbrev pub HasAll : ℕ → View → Type 0
 HasAll n v = (j : ℕ) → j < n → ((k : ℕ) × (p : Caller) × (get_elem? v.parts k ≡ some p) × (p.number ≡ j))
+
+-- in a seat that stands for `me`, a load of the spare word keeps the rule, and leaves something of which R holds
+abbrev pub LoadsSpare : Start → ℕ → ℕ → Me (Unit {0}) View → (Me (Unit {0}) View → Type 0) → Type 0
+LoadsSpare key slots id me R = Allows (Stands key) slots id me 0 (λ n. n) (λ _ m. R m)
 
 -- the history h is dealt to a caller, which has made no entry since
 abbrev pub settled_part : List Entry → Caller → Caller

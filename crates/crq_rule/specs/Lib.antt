@@ -1,18 +1,25 @@
+-- What public contracts cite, directly or through other definitions. Whoever believes them has to read these first: where each word lies, what the core state is, what each kind of step does to it and when it may come, a new table, and a
+-- deal. Of Kinds and ListKinds, what changes what a Caller knows is cited by the crates above alone (`scans`, `walks` and the like): the laws speak of the whole state after a step (`After`).
 pub mod Widths
-pub mod Lists
 pub mod Places
-pub mod Core
-pub mod Parts
+pub mod Lists
 pub mod Ranks
-pub mod ListParts
-pub mod HistoryParts
-pub mod ScarceParts
-pub mod Invariant
+pub mod Core
 pub mod Kinds
 pub mod ListKinds
 pub mod Steps
 pub mod Rule
-pub mod Deals
 pub mod Opening
-pub mod Stated
+pub mod Deals
 pub mod Owing
+-- Then what holds of every state that is reached, part by part.
+pub mod Stated
+-- The invariant, and the parts that it is made of. A reader needs of these files only the few words that those above cite by name: the laws say that a new table meets the invariant, that each step keeps it, and that it implies what is
+-- stated, so that its own records need no belief.
+pub mod Parts
+pub mod ListParts
+pub mod HistoryParts
+pub mod ScarceParts
+pub mod Invariant
+-- What only proofs and the crates above cite.
+pub mod Moves

@@ -1,7 +1,7 @@
 //! Laws of the rule: facts about every state that meets the invariant, and about every step. They hold by proof, and
 //! running them does nothing.
 ghost use Rattle.std.specs.Prelude.{◌≡◌, ◌≢◌, ℕ, ◌+◌, ◌-◌, ◌*◌, ◌/◌, ◌<◌, ◌≤◌, List, [], ◌++◌, length, take};
-ghost use Rattle.atomic_table.specs.Table.{opening, Allows, Joins, Me, Splits};
+ghost use Rattle.atomic_table.specs.Table.{opening, Joins, Me, Splits};
 ghost use Rattle.crq_base.specs.Starts.{IsFirst};
 ghost use Rattle.crq_base.specs.Lists.{In};
 ghost use Rattle.crq_base.specs.Refusals.{AreCounted};
@@ -14,10 +14,10 @@ ghost use Rattle.crq_rule.specs.Places.{Place, word_of, Shows};
 ghost use Rattle.crq_rule.specs.Core.{Core, caller_of};
 ghost use Rattle.crq_rule.specs.Invariant.{Inv};
 ghost use Rattle.crq_rule.specs.ScarceParts.{pending};
-ghost use Rattle.crq_rule.specs.Kinds.{after_made, new_base, base_looked, IsRipe};
+ghost use Rattle.crq_rule.specs.Kinds.{after_made, new_base, FoundNoRow, IsRipe};
 ghost use Rattle.crq_rule.specs.Steps.{Kind, recovery_load, look, After, IsStep, place_of, entries_of};
 ghost use Rattle.crq_rule.specs.Rule.{Stands, first_view, joined, spent, head_view, tail_view, IsFirstApart};
-ghost use Rattle.crq_rule.specs.Deals.{HasAll, Gathered, IsSilent, spans};
+ghost use Rattle.crq_rule.specs.Deals.{HasAll, LoadsSpare, Gathered, IsSilent, spans};
 ghost use Rattle.crq_rule.specs.Opening.{opening_core, opening_words};
 ghost use Rattle.crq_rule.specs.Stated.{WordsHold, HoldersHold, GuardsHold, CoverHolds, ListsHold, CarriersHold, HistoryHolds, WalkersHold, ScarcityHolds, IsCovered, Witness};
 
@@ -40,8 +40,8 @@ pub fn seat_law()
 /// A load of the spare word through a seat that carries all callers keeps the rule. It may deal the history so far to all
 /// callers, and where no caller has made an entry since the last deal, any span.
 pub fn gather_law()
-    ensures gathers { (key : Start) (slots id : ℕ) (me : Me (Unit {0}) View) → HasAll key.layout.workers me.0 → Allows (Stands key) slots id me 0 (λ n. n) (λ r m. Gathered me.0 m.0 × (m.1 ≡ me.1)) }
-    ensures respans { (key : Start) (slots id span : ℕ) (me : Me (Unit {0}) View) → 0 < span → HasAll key.layout.workers me.0 → IsSilent me.0 → Allows (Stands key) slots id me 0 (λ n. n) (λ r m. m ≡ (spans span me.0, me.1)) }
+    ensures gathers { (key : Start) (slots id : ℕ) (me : Me (Unit {0}) View) → HasAll key.layout.workers me.0 → LoadsSpare key slots id me (λ m. Gathered me.0 m.0 × (m.1 ≡ me.1)) }
+    ensures respans { (key : Start) (slots id span : ℕ) (me : Me (Unit {0}) View) → 0 < span → HasAll key.layout.workers me.0 → IsSilent me.0 → LoadsSpare key slots id me (λ m. m ≡ (spans span me.0, me.1)) }
 {}
 
 /// A row that a caller may claim is covered by no guard, in every state that meets the invariant.
@@ -82,10 +82,10 @@ pub fn parts_law()
 /// was taken before the caller's last Begin, nor before any other.
 pub fn scarcity_law()
     ensures begins { (c : Core) (j : ℕ) → (After recovery_load c j).base j ≡ Some (new_base (length c.history) (pending c.history) c.words.epoch) }
-    ensures refuses { (c : Core) (j r : ℕ) (b : Base) → c.hand j ≡ [] → base_looked c j r ≡ Some b → b.looked ≡ c.start.layout.home → (After (look r) c j).refused j ≡ b.events }
-    ensures count { (c : Core) (k : ℕ) (b : Base) → Inv c → k < c.start.layout.workers → c.base k ≡ Some b → c.hand k ≡ [] → b.looked ≡ c.start.layout.home → c.start.layout.rows ≤ 2 * length b.events }
+    ensures refuses { (c : Core) (j r : ℕ) (b : Base) → FoundNoRow (caller_of (After (look r) c j) j) b → (After (look r) c j).refused j ≡ b.events }
+    ensures count { (c : Core) (k : ℕ) (b : Base) → Inv c → k < c.start.layout.workers → FoundNoRow (caller_of c k) b → c.start.layout.rows ≤ 2 * length b.events }
     ensures pending { (c : Core) (k : ℕ) (b : Base) → Inv c → k < c.start.layout.workers → c.base k ≡ Some b → b.events ≡ pending (take b.place c.history) }
-    ensures enough { (c : Core) (k : ℕ) (b : Base) → Inv c → k < c.start.layout.workers → c.base k ≡ Some b → c.hand k ≡ [] → b.looked ≡ c.start.layout.home → ((c.start.layout.rows - 2) / 2 < length b.events) × AreCounted c.history k b.events }
+    ensures enough { (c : Core) (k : ℕ) (b : Base) → Inv c → k < c.start.layout.workers → FoundNoRow (caller_of c k) b → ((c.start.layout.rows - 2) / 2 < length b.events) × AreCounted c.history k b.events }
 {}
 
 /// Some state with a listed row that a guard covers, a cut row that has a tag, and a retired row meets the invariant.

@@ -3,7 +3,7 @@ use Rattle.crq_base.specs.declared.kinds.StepKind.TheVariants.{ControlLoad}
 use Rattle.crq_base.specs.Words.{IsControlWord}
 use Rattle.crq_base.proofs.WordLaws.{control_below}
 use Rattle.crq_rule.specs.ListKinds.{loads_control}
-use Rattle.crq_rule.specs.Rule.{MovesBy, FoundControl}
+use Rattle.crq_rule.specs.Moves.{MovesBy, FoundControl}
 use Rattle.crq_rule.proofs.ListSteps.{control_moves}
 use Rattle.crq_rows.specs.Passes.{caller, StaysAside}
 use Rattle.crq_list.proofs.StepLaws.{controlled}

@@ -5,7 +5,7 @@ use Rattle.crq_base.specs.Words.{link_word}
 use Rattle.crq_rule.specs.declared.pass.Pass.{Pass}
 use Rattle.crq_rule.specs.Ranks.{cell_place}
 use Rattle.crq_rule.specs.ListKinds.{cuts}
-use Rattle.crq_rule.specs.Rule.{Moves, wins, quiet}
+use Rattle.crq_rule.specs.Moves.{Moves, wins, quiet}
 use Rattle.crq_rule.proofs.Glue.{moves_flat}
 use Rattle.crq_rule.proofs.ListSteps.{cut_moves}
 use Rattle.crq_rows.specs.Passes.{caller}

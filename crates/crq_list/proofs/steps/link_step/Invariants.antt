@@ -1,7 +1,7 @@
 use Rattle.crq_base.specs.declared.kinds.StepKind.TheVariants.{Link}
 use Rattle.crq_base.specs.Words.{link_word}
 use Rattle.crq_rule.specs.ListKinds.{links}
-use Rattle.crq_rule.specs.Rule.{wins, quiet}
+use Rattle.crq_rule.specs.Moves.{wins, quiet}
 use Rattle.crq_list.proofs.steps.link_step.Given as goal
 
 abbrev pub ghosts-exchange_seated : goal.ghosts-exchange_seated

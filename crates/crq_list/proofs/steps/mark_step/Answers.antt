@@ -5,7 +5,7 @@ use Rattle.crq_base.specs.declared.words.Mark.TheVariants.{Del}
 use Rattle.crq_base.specs.Words.{link_word}
 use Rattle.crq_rule.specs.Ranks.{at_row, cell_place}
 use Rattle.crq_rule.specs.ListKinds.{marks, cut_debt}
-use Rattle.crq_rule.specs.Rule.{Moves, wins, quiet}
+use Rattle.crq_rule.specs.Moves.{Moves, wins, quiet}
 use Rattle.crq_rule.proofs.Glue.{moves_flat}
 use Rattle.crq_rule.proofs.ListSteps.{mark_moves}
 use Rattle.crq_rows.specs.Passes.{caller}

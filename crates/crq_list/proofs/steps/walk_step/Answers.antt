@@ -1,6 +1,6 @@
 use Rattle.std.proofs.Common.{sym, subst}
 use Rattle.crq_base.specs.declared.kinds.StepKind.TheVariants.{Walk}
-use Rattle.crq_rule.specs.Rule.{MovesBy, Walked}
+use Rattle.crq_rule.specs.Moves.{MovesBy, Walked}
 use Rattle.crq_rule.specs.Ranks.{cell_place}
 use Rattle.crq_rule.proofs.ListSteps.{walk_moves}
 use Rattle.crq_base.specs.Words.{IsLinkWord}

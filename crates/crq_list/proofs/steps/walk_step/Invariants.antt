@@ -1,5 +1,5 @@
 use Rattle.crq_base.specs.declared.kinds.StepKind.TheVariants.{Walk}
-use Rattle.crq_rule.specs.Rule.{Walked}
+use Rattle.crq_rule.specs.Moves.{Walked}
 use Rattle.crq_list.specs.Spots.{cell}
 use Rattle.crq_list.proofs.steps.walk_step.Given as goal
 

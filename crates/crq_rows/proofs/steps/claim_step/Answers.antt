@@ -1,7 +1,7 @@
 use Rattle.std.proofs.Common.{sym, subst}
 use Rattle.crq_base.specs.declared.kinds.StepKind.TheVariants.{Claim}
 use Rattle.crq_rule.specs.Kinds.{claims}
-use Rattle.crq_rule.specs.Rule.{Moves, TellsRoom}
+use Rattle.crq_rule.specs.Moves.{Moves, TellsRoom}
 use Rattle.crq_rule.proofs.RowSteps.{claim_moves}
 use Rattle.crq_rows.specs.Passes.{caller}
 use Rattle.crq_rows.proofs.Reached.{ripe_row, stamp_below}

@@ -1,6 +1,6 @@
 use Rattle.crq_base.specs.declared.kinds.StepKind.TheVariants.{Claim}
 use Rattle.crq_rule.specs.Kinds.{claims}
-use Rattle.crq_rule.specs.Rule.{TellsRoom}
+use Rattle.crq_rule.specs.Moves.{TellsRoom}
 use Rattle.crq_rows.proofs.steps.claim_step.Given as goal
 
 abbrev pub ghosts-store_seated : goal.ghosts-store_seated

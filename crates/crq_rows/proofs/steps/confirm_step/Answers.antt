@@ -1,7 +1,7 @@
 use Rattle.std.proofs.Common.{sym, subst}
 use Rattle.crq_base.specs.declared.kinds.StepKind.TheVariants.{Confirm}
 use Rattle.crq_rule.specs.Kinds.{confirms}
-use Rattle.crq_rule.specs.Rule.{Moves, TellsEpoch}
+use Rattle.crq_rule.specs.Moves.{Moves, TellsEpoch}
 use Rattle.crq_rule.proofs.GuardSteps.{confirm_moves}
 use Rattle.crq_rows.specs.Passes.{caller}
 use Rattle.crq_rows.proofs.steps.confirm_step.Goals as goal

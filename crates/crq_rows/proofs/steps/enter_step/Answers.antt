@@ -1,7 +1,7 @@
 use Rattle.std.proofs.Common.{ℕ, sym, ap, ◌∙◌, subst}
 use Rattle.crq_base.specs.declared.kinds.StepKind.TheVariants.{Enter}
 use Rattle.crq_rule.specs.Kinds.{enters}
-use Rattle.crq_rule.specs.Rule.{Moves, TellsLow}
+use Rattle.crq_rule.specs.Moves.{Moves, TellsLow}
 use Rattle.crq_rule.specs.Places.{index, announced}
 use Rattle.crq_rule.proofs.GuardSteps.{enter_moves}
 use Rattle.crq_rows.specs.Passes.{caller}

@@ -1,7 +1,7 @@
 use Rattle.std.proofs.Common.{sym, subst}
 use Rattle.crq_base.specs.declared.kinds.StepKind.TheVariants.{EpochLoad}
 use Rattle.crq_rule.specs.Kinds.{loads_epoch}
-use Rattle.crq_rule.specs.Rule.{Moves, TellsEpoch}
+use Rattle.crq_rule.specs.Moves.{Moves, TellsEpoch}
 use Rattle.crq_rule.proofs.GuardSteps.{load_moves}
 use Rattle.crq_rows.specs.Passes.{caller}
 use Rattle.crq_rows.proofs.steps.epoch_step.Goals as goal

@@ -1,7 +1,7 @@
 use Rattle.std.proofs.Common.{sym, ap, ◌∙◌, subst}
 use Rattle.crq_base.specs.declared.kinds.StepKind.TheVariants.{Leave}
 use Rattle.crq_rule.specs.Kinds.{leaves}
-use Rattle.crq_rule.specs.Rule.{Moves, quiet}
+use Rattle.crq_rule.specs.Moves.{Moves, quiet}
 use Rattle.crq_rule.specs.Places.{index, announced}
 use Rattle.crq_rule.proofs.GuardSteps.{leave_moves}
 use Rattle.crq_rows.specs.Passes.{caller}

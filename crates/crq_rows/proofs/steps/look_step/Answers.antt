@@ -3,7 +3,7 @@ use Rattle.crq_base.specs.declared.kinds.StepKind.TheVariants.{Look}
 use Rattle.crq_rows.proofs.StampWords.{kept_word, retired_word}
 use Rattle.crq_rule.specs.Places.{IsHomeRow}
 use Rattle.crq_rule.specs.Kinds.{looks}
-use Rattle.crq_rule.specs.Rule.{Moves, quiet}
+use Rattle.crq_rule.specs.Moves.{Moves, quiet}
 use Rattle.crq_rule.proofs.RowSteps.{look_moves}
 use Rattle.crq_rows.specs.Passes.{caller, Stepped, load_made}
 use Rattle.crq_rows.proofs.Reached.{home_row, stamp_below}

@@ -2,7 +2,7 @@ use Rattle.std.proofs.Common.{◌≡◌, sym, subst}
 use Rattle.crq_base.specs.declared.kinds.StepKind.TheVariants.{Read}
 use Rattle.crq_base.specs.declared.event.Event.{Event}
 use Rattle.crq_rule.specs.ListKinds.{StandsOn, event_word}
-use Rattle.crq_rule.specs.Rule.{Moves}
+use Rattle.crq_rule.specs.Moves.{Moves}
 use Rattle.crq_rows.proofs.Readings.{read_words}
 use Rattle.crq_rows.specs.Passes.{caller}
 use Rattle.crq_rows.specs.Reading.{stays}

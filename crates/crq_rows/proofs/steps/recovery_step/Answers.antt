@@ -1,6 +1,6 @@
 use Rattle.std.proofs.Common.{inl, refl, sym, subst}
 use Rattle.crq_base.specs.declared.kinds.StepKind.TheVariants.{EpochLoad}
-use Rattle.crq_rule.specs.Rule.{MovesBy, BeginsRecovery}
+use Rattle.crq_rule.specs.Moves.{MovesBy, BeginsRecovery}
 use Rattle.crq_rule.proofs.GuardSteps.{recovery_moves}
 use Rattle.crq_rows.specs.Passes.{caller, StaysAside}
 use Rattle.crq_rows.proofs.steps.recovery_step.Goals as goal

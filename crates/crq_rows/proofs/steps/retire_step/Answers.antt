@@ -1,7 +1,7 @@
 use Rattle.std.proofs.Common.{ℕ, sym, subst}
 use Rattle.crq_base.specs.declared.kinds.StepKind.TheVariants.{Retire}
 use Rattle.crq_rule.specs.Kinds.{retires}
-use Rattle.crq_rule.specs.Rule.{Moves, TellsLow}
+use Rattle.crq_rule.specs.Moves.{Moves, TellsLow}
 use Rattle.crq_rule.proofs.RowSteps.{retire_moves}
 use Rattle.crq_rows.specs.Passes.{caller}
 use Rattle.crq_rows.proofs.Reached.{cut_row, stamp_below}

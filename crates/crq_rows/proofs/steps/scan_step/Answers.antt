@@ -1,7 +1,7 @@
 use Rattle.std.proofs.Common.{sym, subst}
 use Rattle.crq_base.specs.declared.kinds.StepKind.TheVariants.{Scan}
 use Rattle.crq_rule.specs.Kinds.{scans}
-use Rattle.crq_rule.specs.Rule.{Moves, quiet}
+use Rattle.crq_rule.specs.Moves.{Moves, quiet}
 use Rattle.crq_rule.proofs.GuardSteps.{scan_moves}
 use Rattle.crq_rows.specs.Passes.{caller}
 use Rattle.crq_rows.proofs.steps.scan_step.Goals as goal

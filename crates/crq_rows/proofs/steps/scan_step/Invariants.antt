@@ -1,6 +1,6 @@
 use Rattle.crq_base.specs.declared.kinds.StepKind.TheVariants.{Scan}
 use Rattle.crq_rule.specs.Kinds.{scans}
-use Rattle.crq_rule.specs.Rule.{quiet}
+use Rattle.crq_rule.specs.Moves.{quiet}
 use Rattle.crq_rows.proofs.steps.scan_step.Given as goal
 
 abbrev pub ghosts-load_as : goal.ghosts-load_as

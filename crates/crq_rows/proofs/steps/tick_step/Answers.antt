@@ -2,7 +2,7 @@ use Rattle.std.proofs.Common.{◌+◌, eqb, sym, subst}
 use prog.Atomic.{either}
 use Rattle.crq_base.specs.declared.kinds.StepKind.TheVariants.{Tick}
 use Rattle.crq_rule.specs.Kinds.{ticks, HasScanned}
-use Rattle.crq_rule.specs.Rule.{Moves, TellsEpoch}
+use Rattle.crq_rule.specs.Moves.{Moves, TellsEpoch}
 use Rattle.crq_rule.proofs.GuardSteps.{tick_moves}
 use Rattle.crq_rows.specs.Passes.{caller}
 use Rattle.crq_rows.proofs.steps.tick_step.Goals as goal

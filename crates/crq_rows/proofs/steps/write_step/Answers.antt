@@ -2,7 +2,7 @@ use Rattle.std.proofs.Common.{ℕ, sym, subst, ap, ◌∙◌, arith}
 use Rattle.crq_base.specs.declared.kinds.StepKind.TheVariants.{Write}
 use Rattle.crq_rule.specs.Places.{index}
 use Rattle.crq_rule.specs.ListKinds.{row_place, writes, content_number, content_word}
-use Rattle.crq_rule.specs.Rule.{Moves, quiet}
+use Rattle.crq_rule.specs.Moves.{Moves, quiet}
 use Rattle.crq_rule.proofs.Glue.{moves_flat}
 use Rattle.crq_rule.proofs.ListSteps.{write_moves}
 use Rattle.crq_rows.specs.Passes.{caller}

@@ -10,7 +10,7 @@ pub returns : goal.returns
 returns c = record {
   begins = λ c j. put_here c.base j (Some (new_base (length c.history) (pending c.history) c.words.epoch));
   refuses = refuses;
-  count = λ c k b inv inside is none all. rows_counted c k b inside is none all inv;
+  count = λ c k b inv inside vain. rows_counted c k b inside vain inv;
   pending = λ c k b inv inside is. (inv.scarce.each k b inside is).events;
   enough = enough;
 }
