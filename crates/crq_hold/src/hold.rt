@@ -1,11 +1,12 @@
 //! The hold model: each worker takes the least event and puts it back later.
-ghost use Rattle.std.specs.Prelude.{◌≡◌, ◌≤◌, ◌<◌, ◌-◌, ◌%◌, ◌^◌, IfOk};
+ghost use Rattle.std.specs.Prelude.{◌≡◌, ◌<◌, ◌-◌, ◌%◌, ◌^◌, IfOk};
+ghost use Rattle.crq_base.specs.Sizes.{IsTeam};
 ghost use Rattle.crq_hold.specs.Workers.{IsWorker, WorksOn, PutAndTook};
 ghost use Rattle.crq_hold.specs.Teams.{AreWorkers, AllHeld, total_holds};
 
 use crate::team::team;
 use crate::worker::Worker;
-use crq_base::{Event, First, TakeEnd};
+use crq_base::{Event, First, MOST_WORKERS, TakeEnd};
 use crq_queue::{Calendar, Memory};
 use crq_sim::draw;
 use std::alloc::Global;
@@ -24,7 +25,7 @@ const SPREAD: u64 = 64;
 /// What the program is to do.
 #[derive(Clone, Copy, Debug, PartialEq, Eq)]
 pub struct Job {
-    /// The number of threads, 1 to 16.
+    /// The number of threads, 1 to `MOST_WORKERS` of `crq_base`.
     pub threads: u32,
     /// The number of events that are pending, 1 to 256.
     pub pending: u32,
@@ -119,7 +120,7 @@ fn hold_all<R: Threads + Wait + Sync>(
     thread::for_each_mut(
         rt,
         workers,
-        16,
+        MOST_WORKERS as usize,
         &|_, worker: &mut Worker|
             requires { IsWorker queue.now.table worker.now }
             ensures { PutAndTook queue.entry.now.table worker.entry.now worker.exit.now holds holds × (worker.exit.now.holds ≡ holds) }
@@ -172,7 +173,7 @@ fn total(workers: &[Worker]) -> u64
 
 /// Makes the holds of a job. The number that it answers is that of the events that its workers put back.
 pub fn run<R: Threads + Wait + Sync>(rt: &R, alloc: Global, job: &Job) -> Result<Held, Memory>
-    requires { (1 ≤ job.now.threads) × (job.now.threads ≤ 16) }
+    requires { IsTeam job.now.threads }
     ensures { IfOk result (λ held. held.holds ≡ job.now.holds - job.now.holds % job.now.threads) }
 {
     let first = First::of_program();

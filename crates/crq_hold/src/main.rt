@@ -12,6 +12,7 @@ mod tests;
 mod words;
 mod worker;
 
+use crq_base::MOST_WORKERS;
 use std::process::ExitCode;
 use std::{env, io};
 
@@ -36,7 +37,7 @@ fn main(rt: HostRuntime) -> ExitCode {
     };
     let Some(job) = words::job_of(words.as_slice()) else {
         let _ = eprintln!(rt;
-            "usage: crq_hold THREADS PENDING HOLDS SEED, with 1 to 16 threads and 1 to 256 events"
+            "usage: crq_hold THREADS PENDING HOLDS SEED, with 1 to {MOST_WORKERS} threads and 1 to 256 events"
         );
         return ExitCode::from(2);
     };

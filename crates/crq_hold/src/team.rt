@@ -1,5 +1,6 @@
 //! The workers of all callers of a calendar.
-ghost use Rattle.std.specs.Prelude.{◌≡◌, ◌≤◌, length, IfOk};
+ghost use Rattle.std.specs.Prelude.{◌≡◌, length, IfOk};
+ghost use Rattle.crq_base.specs.Sizes.{IsTeam, AreRows};
 ghost use Rattle.crq_base.specs.Starts.{IsFirst};
 ghost use Rattle.crq_hold.specs.Teams.{AreAtHome, AreFree, AreInOrder, AreLifted, AreLowered, AreWorkers};
 
@@ -43,8 +44,8 @@ pub fn team(
     rows: u32,
     first: First,
 ) -> Result<(Calendar, Passes, Vec<Worker>), Memory>
-    requires callers { (1 ≤ callers) × (callers ≤ 16) }
-    requires rows { (4 ≤ rows) × (rows ≤ 131072) }
+    requires callers { IsTeam callers }
+    requires rows { AreRows rows }
     requires first { IsFirst first }
     ensures workers { IfOk result (λ made. AreWorkers made.0.table made.2.items) }
     ensures count { IfOk result (λ made. length made.2.items ≡ callers) }

@@ -1,5 +1,6 @@
 //! Worked examples of a calendar over one list, by one caller.
 ghost use Rattle.std.specs.Prelude.{◌≡◌, ◌≤◌, ◌^◌, length, IfOk};
+ghost use Rattle.crq_base.specs.Sizes.{AreRows};
 ghost use Rattle.crq_hold.specs.Workers.{IsWorker};
 ghost use Rattle.crq_hold.specs.Teams.{AreFree};
 
@@ -22,7 +23,7 @@ pub(crate) const LIMIT: u64 = 1 << 32;
 
 /// A calendar of one caller, the free place of its pass, and its worker.
 fn alone(alloc: Global, rows: u32, guard: u64) -> Result<(Calendar, Passes, Worker), Memory>
-    requires rows { (4 ≤ rows) × (rows ≤ 131072) }
+    requires rows { AreRows rows }
     requires guard { guard ≤ 2 ^ 62 }
     ensures worker { IfOk result (λ made. IsWorker made.0.table made.2) }
     ensures one { IfOk result (λ made. (made.0.table.start.layout.workers ≡ 1) × (made.2.pass.number ≡ 0)) }

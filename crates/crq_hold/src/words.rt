@@ -1,7 +1,9 @@
 //! The words of the command line.
 ghost use Rattle.std.specs.Prelude.{◌≤◌, IfSome};
+ghost use Rattle.crq_base.specs.Sizes.{IsTeam};
 
 use crate::hold::Job;
+use crq_base::MOST_WORKERS;
 
 /// A number within these bounds, written in decimal digits alone, with no zero before them.
 fn number(word: &str, least: u64, most: u64) -> Option<u64>
@@ -19,13 +21,13 @@ fn number(word: &str, least: u64, most: u64) -> Option<u64>
 
 /// The job for which the words THREADS PENDING HOLDS SEED ask.
 pub fn job_of(words: &[String]) -> Option<Job>
-    ensures { IfSome result (λ job. (1 ≤ job.threads) × (job.threads ≤ 16)) }
+    ensures { IfSome result (λ job. IsTeam job.threads) }
 {
     let [threads, pending, holds, seed] = words else {
         return None;
     };
     Some(Job {
-        threads: number(threads.as_str(), 1, 16)? as u32,
+        threads: number(threads.as_str(), 1, u64::from(MOST_WORKERS))? as u32,
         pending: number(pending.as_str(), 1, 256)? as u32,
         holds: number(holds.as_str(), 0, u64::MAX)?,
         seed: number(seed.as_str(), 0, u64::MAX)?,

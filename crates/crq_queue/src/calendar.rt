@@ -1,5 +1,6 @@
 //! A calendar, how it begins and how it ends.
-ghost use Rattle.std.specs.Prelude.{◌≡◌, ◌≤◌, [], IfOk};
+ghost use Rattle.std.specs.Prelude.{◌≡◌, [], IfOk};
+ghost use Rattle.crq_base.specs.Sizes.{IsTeam, AreRows};
 ghost use Rattle.crq_base.specs.Starts.{IsFirst};
 ghost use Rattle.crq_rule.specs.Opening.{AreFresh};
 ghost use Rattle.crq_queue.specs.Wholes.{IsWhole, history_of, last_history};
@@ -41,8 +42,8 @@ impl Calendar {
         rows: u32,
         first: First,
     ) -> Result<(Calendar, Whole), Memory>
-        requires workers { (1 ≤ workers) × (workers ≤ 16) }
-        requires rows { (4 ≤ rows) × (rows ≤ 131072) }
+        requires workers { IsTeam workers }
+        requires rows { AreRows rows }
         requires first { IsFirst first }
         ensures whole { IfOk result (λ made. IsWhole made.0.table made.1) }
         ensures empty { IfOk result (λ made. history_of made.1 ≡ []) }

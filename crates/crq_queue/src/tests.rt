@@ -1,6 +1,6 @@
 //! Worked examples of a calendar that nobody uses.
 
-ghost use Rattle.std.specs.Prelude.{◌≤◌};
+ghost use Rattle.crq_base.specs.Sizes.{IsTeam};
 
 use crate::{Calendar, First, Memory};
 use std::alloc::Global;
@@ -8,7 +8,7 @@ use std::test::Fail;
 
 /// Makes a calendar, deals its passes twice, and closes it.
 fn idle(alloc: Global, workers: u32) -> Result<(), Memory>
-    requires { (1 ≤ workers) × (workers ≤ 16) }
+    requires { IsTeam workers }
 {
     let first = First {
         epoch: 0,

@@ -291,7 +291,7 @@ module _ (c : Core) (j : ℕ) (b : j < c.start.layout.workers) (inv : Inv c) whe
 
 -- a caller that has no row in hand, and that found none of its home rows ripe since its recovery began, counts events for half its rows
 pub rows_counted : (c : Core) (k : ℕ) (x : Base) → k < c.start.layout.workers → FoundNoRow (caller_of c k) x → Inv c → c.start.layout.rows ≤ 2 * length x.events
-rows_counted c k x b vain inv = let l = c.start.layout in let old = inv.scarce.each k x b vain.base in let all = vain.all in
+rows_counted c k x b vain inv = let l = c.start.layout in let old = inv.scarce.each k x b vain.0 in let all = vain.2 in
     let count = within_list (rows_from (k * l.home) l.home) old.late.rows (rows_once (k * l.home) l.home) (λ r i. let home = rows_in (k * l.home) l.home r i in
-    old.late.all r home (⊎_elim (λ (held : c.holding r ≡ in_hand k). absurd (subst (In r) vain.none (inv.holders.of_hand k r (home_is_row l k r b home) held).1)) (λ late. late) (old.looked r home (let hi = home.1 in omega arith)))) in
+    old.late.all r home (⊎_elim (λ (held : c.holding r ≡ in_hand k). absurd (subst (In r) vain.1 (inv.holders.of_hand k r (home_is_row l k r b home) held).1)) (λ late. late) (old.looked r home (let hi = home.1 in omega arith)))) in
     let few = old.late.few in let long = rows_long (k * l.home) l.home in let h = l.home_is in omega arith

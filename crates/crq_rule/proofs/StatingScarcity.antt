@@ -25,10 +25,10 @@ scarcity_holds c inv = record {
 
 -- more events than half of the rows less two
 pub enough : (c : Core) (k : ℕ) (b : Base) → Inv c → k < c.start.layout.workers → FoundNoRow (caller_of c k) b → ((c.start.layout.rows - 2) / 2 < length b.events) × AreCounted c.history k b.events
-enough c k b inv inside vain = let count = rows_counted c k b inside vain inv in let some = c.start.layout.some_rows in (omega arith, (inv.scarce.each k b inside vain.base).counted)
+enough c k b inv inside vain = let count = rows_counted c k b inside vain inv in let some = c.start.layout.some_rows in (omega arith, (inv.scarce.each k b inside vain.0).counted)
 
 -- the look at the last home row refuses
 pub refuses : (c : Core) (j r : ℕ) (b : Base) → FoundNoRow (caller_of (looked c j r) j) b → (looked c j r).refused j ≡ b.events
-refuses c j r b vain = let is : base_looked c j r ≡ Some b = sym (put_here c.base j (base_looked c j r)) ∙ vain.base in
+refuses c j r b vain = let is : base_looked c j r ≡ Some b = sym (put_here c.base j (base_looked c j r)) ∙ vain.0 in
     put_here c.refused j (refused_after c.start.layout.home (c.hand j) (base_looked c j r) (c.refused j))
-    ∙ ((λ i. refused_after c.start.layout.home (vain.none i) (is i) (c.refused j)) ∙ ap (λ t. cond t b.events (c.refused j)) (eq-eqb b.looked c.start.layout.home vain.all))
+    ∙ ((λ i. refused_after c.start.layout.home (vain.1 i) (is i) (c.refused j)) ∙ ap (λ t. cond t b.events (c.refused j)) (eq-eqb b.looked c.start.layout.home vain.2))

@@ -137,10 +137,8 @@ refused_after home [] (Some b) old = cond (b.looked == home) b.events old
 refused_after home _ _ old = old
 
 -- the recovery b of a caller found no row: all home rows were counted so, and none is in hand
-pub record FoundNoRow (p : Caller) (b : Base) : Type 0 where
-  pub base : p.base ≡ Some b
-  pub none : p.hand ≡ []
-  pub all : b.looked ≡ p.start.layout.home
+abbrev pub FoundNoRow : Caller → Base → Type 0
+FoundNoRow p b = (p.base ≡ Some b) × (p.hand ≡ []) × (b.looked ≡ p.start.layout.home)
 
 abbrev pub looks : ℕ → ℕ → Caller → Caller
 looks r w p = let base = looked_base (p.number * p.start.layout.home + 1) r w p.epochs p.base in

@@ -1,6 +1,6 @@
 //! The number of each word.
 
-ghost use Rattle.std.specs.Prelude.{◌≡◌, ◌+◌, ◌*◌, ◌<◌, ◌≤◌};
+ghost use Rattle.std.specs.Prelude.{◌≡◌, ◌+◌, ◌*◌, ◌<◌};
 ghost use Rattle.crq_base.specs.Sizes.{IsTeam, AreRows};
 ghost use Rattle.crq_rule.specs.Places.{index, IsRow, epoch, announced, control, current, head, stamp};
 ghost use Rattle.crq_rule.specs.ListKinds.{row_place};

@@ -1,6 +1,6 @@
 //! The place of each word of the table.
 
-ghost use Rattle.std.specs.Prelude.{◌≡◌, ◌+◌, ◌*◌, ◌<◌, ◌≤◌};
+ghost use Rattle.std.specs.Prelude.{◌≡◌, ◌+◌, ◌*◌, ◌≤◌};
 ghost use Rattle.crq_base.specs.Sizes.{IsTeam, AreRows};
 
 use crq_base::First;

@@ -5,6 +5,7 @@ ghost use Rattle.std.specs.Fmt.{decimal};
 ghost use Rattle.crq_top.specs.Commands.{name_of, form_of, range_of, IsBetween, Fits, AllFit, IsProblemOf, problem_of};
 ghost use Rattle.crq_top.specs.Explained.{parameter_name};
 
+use crq_base::MOST_ROWS;
 use crq_sim::{MOST_EVENTS, MOST_OBJECTS, MOST_STARTS};
 use itoa::Buffer;
 
@@ -133,7 +134,7 @@ impl Parameter {
         match self {
             Parameter::Model => None,
             Parameter::Workers => Some((1, 1)),
-            Parameter::Rows => Some((4, 131_072)),
+            Parameter::Rows => Some((4, u64::from(MOST_ROWS))),
             Parameter::Events => Some((1, u64::from(MOST_EVENTS))),
             Parameter::Seed => Some((0, u64::MAX)),
             Parameter::Objects => Some((1, MOST_OBJECTS as u64)),

@@ -1,11 +1,11 @@
 //! Callers that put and take at once: what they put comes out, each event once.
-ghost use Rattle.std.specs.Prelude.{◌≤◌};
+ghost use Rattle.crq_base.specs.Sizes.{IsTeam};
 ghost use Rattle.crq_hold.specs.Workers.{IsWorker, WorksOn};
 
 use crate::team::team;
 use crate::tests::LIMIT;
 use crate::worker::Worker;
-use crq_base::{Event, First, TakeEnd};
+use crq_base::{Event, First, MOST_WORKERS, TakeEnd};
 use crq_queue::{Calendar, Memory};
 use crq_sim::draw;
 use std::alloc::{AllocError, Global};
@@ -141,7 +141,7 @@ fn churn_all<R: Threads + Sync>(
     callers: u32,
     batches: u32,
 ) -> Result<Vec<Record>, Memory>
-    requires { (1 ≤ callers) × (callers ≤ 16) }
+    requires { IsTeam callers }
 {
     let (queue, _places, workers) = team(alloc, callers, 64, First::of_program())?;
     let queue = &queue;
@@ -161,7 +161,7 @@ fn nothing_is_lost<R: Threads + Abort + Sync>(
     alloc: Global,
     callers: u32,
 ) -> Result<(), Fail>
-    requires { (1 ≤ callers) × (callers ≤ 16) }
+    requires { IsTeam callers }
 {
     let batches = 2500u32.div_ceil(callers);
     let each = u64::from(batches) * u64::from(BATCH);
@@ -188,6 +188,6 @@ fn nothing_is_lost<R: Threads + Abort + Sync>(
 fn nothing_is_lost_or_invented(rt: HostRuntime) -> Result<(), Fail> {
     nothing_is_lost(&rt, rt.alloc(), 2)?;
     nothing_is_lost(&rt, rt.alloc(), 4)?;
-    nothing_is_lost(&rt, rt.alloc(), 16)?;
+    nothing_is_lost(&rt, rt.alloc(), MOST_WORKERS)?;
     Ok(())
 }

@@ -1,5 +1,5 @@
 //! All puts before a gather, and all takes after it: what the callers did is one legal history.
-ghost use Rattle.std.specs.Prelude.{◌≤◌};
+ghost use Rattle.crq_base.specs.Sizes.{IsTeam};
 ghost use Rattle.crq_queue.specs.Wholes.{IsResting};
 ghost use Rattle.crq_hold.specs.Workers.{IsWorker, WorksOn};
 ghost use Rattle.crq_hold.specs.Teams.{AreWorkers};
@@ -8,7 +8,7 @@ use crate::team::{lift_all, lower_all, team};
 use crate::tests::LIMIT;
 use crate::tests::churning::{all_planned, put_some};
 use crate::worker::Worker;
-use crq_base::{Entry, Event, First, TakeEnd, judge};
+use crq_base::{Entry, Event, First, MOST_WORKERS, TakeEnd, judge};
 use crq_queue::{Calendar, Memory};
 use std::alloc::{AllocError, Global};
 use std::process::Abort;
@@ -41,7 +41,7 @@ fn put_all<R: Threads + Sync>(rt: &R, queue: &Calendar, workers: &mut [Worker], 
     thread::for_each_mut(
         rt,
         workers,
-        16,
+        MOST_WORKERS as usize,
         &|_, worker: &mut Worker|
             requires { IsWorker queue.now.table worker.now }
             ensures { WorksOn queue.entry.now.table worker.entry.now worker.exit.now }
@@ -85,7 +85,7 @@ fn put_then_take<R: Threads + Sync>(
     callers: u32,
     each: u32,
 ) -> Result<Vec<Record>, Memory>
-    requires { (1 ≤ callers) × (callers ≤ 16) }
+    requires { IsTeam callers }
 {
     let first = First::of_program();
     let (queue, mut places, mut workers) = team(alloc, callers, EVENTS, first)?;
@@ -146,7 +146,7 @@ fn push_misses(history: &mut Vec<Entry>, records: &[Record]) -> Result<(), Alloc
 
 /// Checks what so many callers did.
 fn is_legal<R: Threads + Abort + Sync>(rt: &R, alloc: Global, callers: u32) -> Result<(), Fail>
-    requires { (1 ≤ callers) × (callers ≤ 16) }
+    requires { IsTeam callers }
 {
     let each = EVENTS / callers;
     let records = put_then_take(rt, alloc, callers, each)?;
@@ -168,6 +168,6 @@ fn is_legal<R: Threads + Abort + Sync>(rt: &R, alloc: Global, callers: u32) -> R
 fn makes_a_legal_history(rt: HostRuntime) -> Result<(), Fail> {
     is_legal(&rt, rt.alloc(), 2)?;
     is_legal(&rt, rt.alloc(), 4)?;
-    is_legal(&rt, rt.alloc(), 16)?;
+    is_legal(&rt, rt.alloc(), MOST_WORKERS)?;
     Ok(())
 }

@@ -1,5 +1,6 @@
 //! Callers whose rows run out: who keeps the epoch then, and how many events are pending where no row is left.
-ghost use Rattle.std.specs.Prelude.{◌≡◌, ◌≤◌, Some, None, IfOk};
+ghost use Rattle.std.specs.Prelude.{◌≡◌, Some, None, IfOk};
+ghost use Rattle.crq_base.specs.Sizes.{IsTeam, AreRows};
 ghost use Rattle.crq_rows.specs.Passes.{caller, IsPassOf};
 ghost use Rattle.crq_queue.specs.Wholes.{IsResting};
 ghost use Rattle.crq_hold.specs.declared.worker.Worker.{Worker};
@@ -27,8 +28,8 @@ fn pair(
     callers: u32,
     rows: u32,
 ) -> Result<(Calendar, Worker, Option<Worker>), Memory>
-    requires callers { (1 ≤ callers) × (callers ≤ 16) }
-    requires rows { (4 ≤ rows) × (rows ≤ 131072) }
+    requires callers { IsTeam callers }
+    requires rows { AreRows rows }
     ensures last { IfOk result (λ made. IsWorker made.0.table made.1) }
     ensures other { IfOk result (λ made. (w : Worker) → made.2 ≡ Some w → IsWorker made.0.table w) }
 {
@@ -141,8 +142,8 @@ fn filled(
     rows: u32,
     owing: bool,
 ) -> Result<(bool, u32, Option<Refusal>), Memory>
-    requires callers { (1 ≤ callers) × (callers ≤ 16) }
-    requires rows { (4 ≤ rows) × (rows ≤ 131072) }
+    requires callers { IsTeam callers }
+    requires rows { AreRows rows }
 {
     let (queue, mut worker, other) = pair(alloc, callers, rows)?;
     let owes = owe(&queue, &mut worker, other, owing);
