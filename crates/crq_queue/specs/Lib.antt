@@ -3,5 +3,6 @@ pub mod Wholes
 pub mod Runs
 pub mod Parts
 pub mod Calls
+pub mod Waits
 -- What only contracts inside the crate cite.
 pub mod Stages
