@@ -4,5 +4,6 @@ pub mod Runs
 pub mod Parts
 pub mod Calls
 pub mod Waits
+pub mod Makers
 -- What only contracts inside the crate cite.
 pub mod Stages

@@ -13,11 +13,15 @@ use Rattle.crq_base.specs.declared.answers.Short.{Short}
 use Rattle.crq_base.specs.declared.answers.Short.TheVariants.{Rows as NoRows, Epochs as NoEpochs, Memory}
 use Rattle.crq_rule.specs.declared.pass.Pass.{Pass}
 use Rattle.crq_rule.specs.declared.pass.Table.{Table}
-use Rattle.crq_rule.specs.ListKinds.{put_entries}
+use Rattle.crq_rule.specs.ListKinds.{IsFresh, put_entries}
 use Rattle.crq_rows.specs.Passes.{caller}
 use Rattle.crq_rows.specs.Recovering.{CountsRows}
 use Rattle.crq_queue.specs.Wholes.{IsResting}
 use Rattle.crq_queue.specs.Calls.{call, OwesNothing, PutAnswers, TakeAnswers, SettleAnswers}
+
+-- the pass may put the event: it is of the pass's sources, and no event of that source and number is in what the pass has seen
+abbrev pub MayPut : Table → Pass → Event → Type 0
+MayPut table pass e = IsFresh table.start.layout.workers (caller table pass).deal.history (caller table pass).own (caller table pass).deal.span pass.number e
 
 -- the budget of exchanges of each try
 abbrev pub try_budget : ℕ

@@ -5,6 +5,7 @@ mod calendar;
 mod calls;
 mod dealing;
 mod gathering;
+mod maker;
 mod runs;
 #[cfg(test)]
 mod tests;
@@ -14,3 +15,4 @@ pub use calendar::{Calendar, Closed, Whole};
 pub use crq_base::{Holder, Memory, PutEnd, Refusal, Route, Short, TakeEnd};
 pub use crq_rows::{Pass, Passes};
 pub use crq_rule::First;
+pub use maker::CalendarMaker;

@@ -1,11 +1,10 @@
 //! The calls that wait: tries until one isn't refused for a while, and then settling.
 ghost use Rattle.std.specs.Prelude.{◌≡◌, [], IfErr, IsOk, None};
 ghost use Rattle.crq_base.specs.declared.answers.Short.TheVariants.{Rows};
-ghost use Rattle.crq_rule.specs.ListKinds.{IsFresh};
 ghost use Rattle.crq_rows.specs.Passes.{caller};
 ghost use Rattle.crq_queue.specs.Wholes.{IsResting};
 ghost use Rattle.crq_queue.specs.Calls.{OwesNothing};
-ghost use Rattle.crq_queue.specs.Waits.{PutTried, TakeTried, SettleTried, PutWaited, TakeWaited, PutAdded, TakeAdded, Adds, short_of};
+ghost use Rattle.crq_queue.specs.Waits.{MayPut, PutTried, TakeTried, SettleTried, PutWaited, TakeWaited, PutAdded, TakeAdded, Adds, short_of};
 
 use crate::calendar::Calendar;
 use crq_base::{Event, Refusal, Short, TakeEnd};
@@ -38,7 +37,7 @@ impl Calendar {
     /// Tries to put an event until a try isn't refused for a while.
     fn await_put<R: Wait>(&self, rt: &R, pass: &mut Pass, event: &Event) -> Result<(), Short>
         requires rests { IsResting self.now.table pass.old }
-        requires fresh { IsFresh self.now.table.start.layout.workers (caller self.now.table pass.old).deal.history (caller self.now.table pass.old).own (caller self.now.table pass.old).deal.span pass.old.number event.now }
+        requires fresh { MayPut self.now.table pass.old event.now }
         ensures tried { PutTried self.now.table event.now pass.old pass.new result }
         ensures added { PutAdded self.now.table event.now pass.old pass.new result }
         ensures nothing { OwesNothing pass.new }
@@ -105,7 +104,7 @@ impl Calendar {
     /// Another call may be made at once, but it needs others to take events first. It takes no memory.
     pub fn put<R: Wait>(&self, rt: &R, pass: &mut Pass, event: &Event) -> Result<(), Short>
         requires rests { IsResting self.now.table pass.old }
-        requires fresh { IsFresh self.now.table.start.layout.workers (caller self.now.table pass.old).deal.history (caller self.now.table pass.old).own (caller self.now.table pass.old).deal.span pass.old.number event.now }
+        requires fresh { MayPut self.now.table pass.old event.now }
         ensures waited { PutWaited self.now.table event.now pass.old pass.new result }
         ensures added { PutAdded self.now.table event.now pass.old pass.new result }
         ensures nothing { OwesNothing pass.new }
