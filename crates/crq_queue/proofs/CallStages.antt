@@ -51,7 +51,7 @@ use Rattle.crq_queue.specs.declared.runs.Spent.{Spent}
 use Rattle.crq_queue.specs.Wholes.{IsResting}
 use Rattle.crq_rows.specs.declared.recover.RecoverOp.TheVariants.{Ticking}
 use Rattle.crq_rows.specs.declared.tick.TickOp.TheVariants.{Load}
-use Rattle.crq_queue.specs.Runs.{Ran, RanTicks, MayRun, IsInside, IsSwept, Recovered, ends, goes_on}
+use Rattle.crq_queue.specs.Runs.{Ran, RanTicks, MayRun, IsInside, Recovered, ends, goes_on}
 use Rattle.crq_queue.specs.Calls.{NoRow}
 use Rattle.crq_queue.specs.Parts.{Entered, Left, InsertNeeds, TakeNeeds, CutNeeds, UptoNeeds, IsUsedUp, CutRan, InsertRan, OwnRan, RecoverRan, TakeRan}
 use Rattle.crq_queue.specs.Stages.{CutFinished, DebtSettled, EventInserted, EventTaken, IsFinished, SweepAnswers, SweepEnded, RowAnswers, RowFound}

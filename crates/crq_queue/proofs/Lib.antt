@@ -9,3 +9,4 @@ pub mod CallSteps
 pub mod CallOps
 pub mod CallStages
 pub mod CallEnds
+pub mod Waits

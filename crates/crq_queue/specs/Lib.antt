@@ -3,5 +3,7 @@ pub mod Wholes
 pub mod Runs
 pub mod Parts
 pub mod Calls
+pub mod Waits
+pub mod Makers
 -- What only contracts inside the crate cite.
 pub mod Stages

@@ -5,11 +5,14 @@ mod calendar;
 mod calls;
 mod dealing;
 mod gathering;
+mod maker;
 mod runs;
 #[cfg(test)]
 mod tests;
+mod waiting;
 
 pub use calendar::{Calendar, Closed, Whole};
-pub use crq_base::{Holder, Memory, PutEnd, Refusal, Route, TakeEnd};
+pub use crq_base::{Holder, Memory, PutEnd, Refusal, Route, Short, TakeEnd};
 pub use crq_rows::{Pass, Passes};
 pub use crq_rule::First;
+pub use maker::CalendarMaker;

@@ -1,0 +1,9 @@
+use Rattle.std.proofs.Common.{sym, ◌∙◌}
+use Rattle.crq_queue.proofs.Waits.{settle_ended, settle_again, none_after}
+use Rattle.crq_queue.proofs.calendar.Calendar.await_settling.Goals as goal
+
+pub returns-in-Ok-clause-tried : goal.returns-in-Ok-clause-tried
+returns-in-Ok-clause-tried g c = (settle_ended c.loop.invariant c.in-Ok.ensures.answers c.in-Ok.ensures.idle).0
+
+pub loop-preserved : goal.loop-preserved
+loop-preserved g c = settle_again c.loop.invariant c.in-Err.refusal (none_after c.in-Err.refusal c.short_after.result c.short_after.ensures (sym c.is_some.ensures ∙ c.if-is_some.false)) c.in-Err.ensures.answers
