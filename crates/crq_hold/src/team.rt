@@ -1,7 +1,7 @@
 //! The workers of all callers of a calendar.
 ghost use Rattle.std.specs.Prelude.{◌≡◌, ◌≤◌, length, IfOk};
 ghost use Rattle.crq_base.specs.Starts.{IsFirst};
-ghost use Rattle.crq_hold.specs.Teams.{AreAtHome, AreFree, AreInOrder, AreLifted, AreLowered, AreWorkers};
+ghost use Rattle.crq_hold.specs.Teams.{AreAtHome, AreFree, AreInOrder, AreLifted, AreLowered, AreNew, AreWorkers};
 
 use crate::worker::Worker;
 use crq_base::First;
@@ -47,6 +47,7 @@ pub fn team(
     requires rows { (4 ≤ rows) × (rows ≤ 131072) }
     requires first { IsFirst first }
     ensures workers { IfOk result (λ made. AreWorkers made.0.table made.2.items) }
+    ensures new { IfOk result (λ made. AreNew made.0.table made.2.items) }
     ensures count { IfOk result (λ made. length made.2.items ≡ callers) }
     ensures free { IfOk result (λ made. (length made.1.places.items ≡ callers) × AreFree callers made.1.places.items) }
 {
