@@ -1,3 +1,4 @@
 pub mod Working
 pub mod Lifting
 pub mod Teaming
+pub mod Totals

@@ -20,7 +20,7 @@ use Rattle.crq_queue.proofs.Wholes.{place_within}
 use Rattle.crq_queue.proofs.Gathers.{pass_at}
 use Rattle.crq_hold.specs.declared.worker.Worker.{Worker}
 use Rattle.crq_hold.specs.Workers.{IsWorker, WorksOn, PutAndTook}
-use Rattle.crq_hold.specs.Teams.{AreAtHome, AreLifted, AreLowered, AreWorkers, AllHeld, total_holds}
+use Rattle.crq_hold.specs.Teams.{AreAtHome, AreLifted, AreLowered, AreNew, AreWorkers, AllHeld, total_holds}
 
 pub resting_home : (table : Table) (places : List Seating) (callers : ℕ) → AreResting table places → table.start.layout.workers ≡ callers → AreAtHome callers places
 resting_home table places callers all is k b = let a = all.each k (omega arith) in (a.0, a.1)
@@ -42,6 +42,9 @@ module _ (table : Table) (whole : Whole) (start now : List Seating) (workers : L
     numbered = λ j f i same. ⊎_elim (none_in _ _ (ap (λ d. d.history) d.deal ∙ empty)) (none_in _ _ d.own) i;
     counted = ap (λ es. length (puts es)) d.own ∙ sym (l.each k w at).1;
   }
+
+  pub first_new : AreNew table workers
+  first_new k w at = let d = dealt.each k w.pass (l.each k w at).0 in (ap (λ d. d.history) d.deal ∙ empty, d.own)
 
   pub first_workers : table.start.layout.workers ≡ callers → AreWorkers table workers
   first_workers is = record {
@@ -76,11 +79,11 @@ module _ (table : Table) (workers : List Worker) (all : AreWorkers table workers
   one_on i d w b on = all_on (slice_set workers i w) (length-set workers i w) (λ k e c. dite (ℕ_discrete k i)
       (λ is. subst (λ k. WorksOn table (slice_index_or workers k e) (slice_index_or (slice_set workers i w) k e)) (sym is)
       (subst (λ (z : Worker × Worker). WorksOn table z.0 z.1) (λ j. (get_or_default workers i d e b j, sym (get_or-set_same workers i w e b) j)) on))
-      (λ ne. subst (WorksOn table (slice_index_or workers k e)) (sym (get_or-set_other workers i k w e ne)) (record { worker = worker_at k e c; number = refl })))
+      (λ ne. subst (WorksOn table (slice_index_or workers k e)) (sym (get_or-set_other workers i k w e ne)) (record { worker = worker_at k e c; number = refl; deal = refl })))
 
 -- Holds of all workers
 
-some_at : {A : Type 0} (xs : List A) (k : ℕ) → k < length xs → ((x : A) × (slice_get xs k ≡ Some x))
+pub some_at : {A : Type 0} (xs : List A) (k : ℕ) → k < length xs → ((x : A) × (slice_get xs k ≡ Some x))
 some_at [] k b = absurd (omega arith)
 some_at (x ∷ xs) zero b = (x, refl)
 some_at (x ∷ xs) (suc k) b = some_at xs k (omega arith)

@@ -47,6 +47,7 @@ module _ (table : Table) (budget : ℕ) (worker : Worker) (new : Pass) (next : �
     on = record {
       worker = record { rests = c.rests; span = ap (λ d. d.span) c.deal ∙ w.span; numbered = numbered_on (omega arith) here; counted = let counted = w.counted in omega arith };
       number = c.number;
+      deal = c.deal;
     };
     puts_more = put;
     takes_more = ap (λ es. length (outs es)) c.own ∙ outs_append (caller table worker.pass).own entries;
@@ -54,12 +55,12 @@ module _ (table : Table) (budget : ℕ) (worker : Worker) (new : Pass) (next : �
 
 -- nothing done, and one thing after another
 pub went_none : (table : Table) (worker : Worker) → IsWorker table worker → PutAndTook table worker worker 0 0
-went_none table worker w = record { on = record { worker = w; number = refl }; puts_more = omega arith; takes_more = omega arith }
+went_none table worker w = record { on = record { worker = w; number = refl; deal = refl }; puts_more = omega arith; takes_more = omega arith }
 
 module _ {table : Table} {a b : Worker} {p t : ℕ} (x : PutAndTook table a b p t) where
   pub went_both : {c : Worker} {q u : ℕ} → PutAndTook table b c q u → PutAndTook table a c (p + q) (t + u)
   went_both y = record {
-    on = record { worker = y.on.worker; number = y.on.number ∙ x.on.number };
+    on = record { worker = y.on.worker; number = y.on.number ∙ x.on.number; deal = y.on.deal ∙ x.on.deal };
     puts_more = let m = x.puts_more in let n = y.puts_more in omega arith;
     takes_more = let m = x.takes_more in let n = y.takes_more in omega arith;
   }
@@ -71,7 +72,7 @@ module _ {table : Table} {a b : Worker} {p t : ℕ} (x : PutAndTook table a b p 
 -- a worker that counts its holds
 pub went_counted : {table : Table} {a b : Worker} {n m holds : ℕ} → PutAndTook table a b n n → m ≤ n → n ≤ m → PutAndTook table a (record b { holds = holds }) m m
 went_counted {table} {a} {b} x low high = record {
-  on = record { worker = record { rests = x.on.worker.rests; span = x.on.worker.span; numbered = x.on.worker.numbered; counted = x.on.worker.counted }; number = x.on.number };
+  on = record { worker = record { rests = x.on.worker.rests; span = x.on.worker.span; numbered = x.on.worker.numbered; counted = x.on.worker.counted }; number = x.on.number; deal = x.on.deal };
   puts_more = let more = x.puts_more in omega arith;
   takes_more = let more = x.takes_more in omega arith;
 }
@@ -152,4 +153,5 @@ epoch_on table worker w new m r s = record {
     counted = ap (λ (p : Caller). length (puts p.own)) s.part ∙ w.counted;
   };
   number = ap (λ (p : Pass). p.number) s.same;
+  deal = ap (λ (p : Caller). p.deal) s.part;
 }

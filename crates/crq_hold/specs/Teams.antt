@@ -1,9 +1,14 @@
 -- All workers of a calendar, and the places that their passes came from.
-use Rattle.std.specs.Prelude.{◌≡◌, ℕ, ◌+◌, ◌<◌, ◌≤◌, List, [], ◌∷◌, length, Some, slice_get}
+use Rattle.std.specs.Prelude.{◌≡◌, ℕ, ◌+◌, ◌<◌, ◌≤◌, Option, List, [], ◌∷◌, length, Some, slice_get}
+use Rattle.std.specs.List.{filter_map}
+use Rattle.crq_base.specs.declared.event.Event.{Event}
+use Rattle.crq_base.specs.declared.entry.Entry.{Entry}
+use Rattle.crq_base.specs.Histories.{puts, outs, put_of, taken_of, IsLegal}
 use Rattle.crq_rule.specs.declared.pass.Pass.{Pass}
 use Rattle.crq_rule.specs.declared.pass.Table.{Table}
 use Rattle.crq_rule.specs.declared.pass.Seating.{Seating}
 use Rattle.crq_rule.specs.declared.pass.Seating.TheVariants.{Here, Lifted}
+use Rattle.crq_rows.specs.Passes.{caller}
 use Rattle.crq_hold.specs.declared.worker.Worker.{Worker}
 use Rattle.crq_hold.specs.Workers.{IsWorker, PutAndTook}
 
@@ -48,3 +53,26 @@ pub record AllHeld (table : Table) (old new : List Worker) (holds : ℕ) : Type 
 abbrev pub total_holds : List Worker → ℕ
 total_holds [] = 0
 total_holds (w ∷ ws) = w.holds + total_holds ws
+
+-- each worker's pass was dealt after no entry, and none has made one since
+abbrev pub AreNew : Table → List Worker → Type 0
+AreNew table workers = (k : ℕ) (w : Worker) → slice_get workers k ≡ Some w → ((caller table w.pass).deal.history ≡ []) × ((caller table w.pass).own ≡ [])
+
+-- how many events of one kind, as those that were put, stand in the entries that all of them made since their passes were dealt
+abbrev pub total_of : (Entry → Option Event) → Table → List Worker → ℕ
+total_of event_of table [] = 0
+total_of event_of table (w ∷ ws) = length (filter_map event_of (caller table w.pass).own) + total_of event_of table ws
+
+-- all went on with their passes, and by their entries put and took so many events more, all together
+pub record AllWent (table : Table) (old new : List Worker) (put taken : ℕ) : Type 0 where
+  pub workers : AreWorkers table new
+  pub count : length new ≡ length old
+  pub deals : (k : ℕ) (v w : Worker) → slice_get old k ≡ Some v → slice_get new k ≡ Some w → (caller table w.pass).deal ≡ (caller table v.pass).deal
+  pub puts_more : total_of put_of table new ≡ total_of put_of table old + put
+  pub takes_more : total_of taken_of table new ≡ total_of taken_of table old + taken
+
+-- a legal history of so many pending events and holds: each was put, each hold took one and put one, and in the end as many were taken as were put
+pub record HasHeld (history : List Entry) (pending holds : ℕ) : Type 0 where
+  pub legal : IsLegal history
+  pub put : length (puts history) ≡ pending + holds
+  pub taken : length (outs history) ≡ pending + holds

@@ -31,10 +31,11 @@ pub record IsWorker (table : Table) (worker : Worker) : Type 0 where
   pub numbered : IsNumbered table worker.pass worker.next
   pub counted : put_count table worker ≡ worker.next
 
--- the worker went on with its pass
+-- the worker went on with its pass, which wasn't dealt anew
 pub record WorksOn (table : Table) (old new : Worker) : Type 0 where
   pub worker : IsWorker table new
   pub number : new.pass.number ≡ old.pass.number
+  pub deal : (caller table new.pass).deal ≡ (caller table old.pass).deal
 
 -- and by its entries it put and took so many events more
 pub record PutAndTook (table : Table) (old new : Worker) (put taken : ℕ) : Type 0 where

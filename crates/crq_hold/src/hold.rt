@@ -1,13 +1,14 @@
 //! The hold model: each worker takes the least event and puts it back later.
-ghost use Rattle.std.specs.Prelude.{◌≡◌, ◌<◌, ◌-◌, ◌%◌, ◌^◌, IfOk};
+ghost use Rattle.std.specs.Prelude.{◌≡◌, ◌≤◌, ◌<◌, ◌+◌, ◌-◌, ◌*◌, ◌/◌, ◌%◌, ◌^◌, length, IfOk};
 ghost use Rattle.crq_base.specs.Sizes.{IsTeam};
-ghost use Rattle.crq_hold.specs.Workers.{IsWorker, WorksOn, PutAndTook};
-ghost use Rattle.crq_hold.specs.Teams.{AreWorkers, AllHeld, total_holds};
+ghost use Rattle.crq_queue.specs.Wholes.{last_history};
+ghost use Rattle.crq_hold.specs.Workers.{IsWorker, PutAndTook};
+ghost use Rattle.crq_hold.specs.Teams.{AreWorkers, AllHeld, AllWent, HasHeld, total_holds};
 
-use crate::team::team;
+use crate::team::{lower_all, team};
 use crate::worker::Worker;
 use crq_base::{Event, First, MOST_WORKERS, TakeEnd};
-use crq_queue::{Calendar, Memory};
+use crq_queue::{Calendar, Closed, Memory};
 use crq_sim::draw;
 use std::alloc::Global;
 use std::sync::Wait;
@@ -36,12 +37,14 @@ pub struct Job {
 }
 
 /// What came of it.
-#[derive(Clone, Copy, Debug, PartialEq, Eq)]
+#[derive(Drop)]
 pub struct Held {
     /// The number of holds made.
     pub holds: u64,
     /// The loads of all events that are pending in the end, added up modulo 2^64.
     pub sum: u64,
+    /// The history of all calls, for proofs.
+    pub closed: Closed,
 }
 
 /// Puts an event. It waits while it is refused.
@@ -131,7 +134,7 @@ fn hold_all<R: Threads + Wait + Sync>(
 /// Puts the first events, by one worker after the other in turn.
 fn fill<R: Wait>(rt: &R, queue: &Calendar, workers: &mut [Worker], pending: u32, seed: u64)
     requires { AreWorkers queue.now.table workers.old }
-    ensures { AreWorkers queue.now.table workers.new }
+    ensures { AllWent queue.now.table workers.old workers.new pending 0 }
 {
     let mut state = seed;
     for i in 0..pending as usize {
@@ -143,20 +146,17 @@ fn fill<R: Wait>(rt: &R, queue: &Calendar, workers: &mut [Worker], pending: u32,
     }
 }
 
-/// Takes all events. It answers the sum of their loads modulo 2^64.
-fn drain<R: Wait>(rt: &R, queue: &Calendar, worker: &mut Worker) -> u64
+/// Takes so many events. It answers the sum of their loads modulo 2^64.
+fn drain<R: Wait>(rt: &R, queue: &Calendar, worker: &mut Worker, pending: u32) -> u64
     requires { IsWorker queue.now.table worker.old }
-    ensures { WorksOn queue.now.table worker.old worker.new }
+    ensures { PutAndTook queue.now.table worker.old worker.new 0 pending }
 {
     let mut sum = 0u64;
-    for _ in rt.forever() {
-        match worker.take(queue, LIMIT, BUDGET) {
-            Ok(TakeEnd::Taken(event, _)) => sum = sum.wrapping_add(event.load),
-            Ok(TakeEnd::Missed) => return sum,
-            Err(_) => thread::yield_now(),
-        }
+    for _ in 0..pending {
+        let event = take_surely(rt, queue, worker);
+        sum = sum.wrapping_add(event.load);
     }
-    unreachable!()
+    sum
 }
 
 /// The number of holds that all workers made.
@@ -171,18 +171,44 @@ fn total(workers: &[Worker]) -> u64
     holds
 }
 
-/// Makes the holds of a job. The number that it answers is that of the events that its workers put back.
+/// Puts the events of a job, makes its holds, and takes all events again. It answers the number of holds and the sum of the
+/// loads of the events that were pending in the end.
+fn work<R: Threads + Wait + Sync>(
+    rt: &R,
+    queue: &Calendar,
+    workers: &mut [Worker],
+    job: &Job,
+) -> (u64, u64)
+    requires workers { AreWorkers queue.now.table workers.old }
+    requires threads { (1 ≤ job.now.threads) × (job.now.threads ≡ length workers.old) }
+    ensures went { AllWent queue.now.table workers.old workers.new (job.now.pending + result.0) (job.now.pending + result.0) }
+    ensures due { result.0 ≡ job.now.holds - job.now.holds % job.now.threads }
+{
+    fill(rt, queue, workers, job.pending, job.seed);
+    hold_all(
+        rt,
+        queue,
+        workers,
+        job.holds / u64::from(job.threads),
+        job.seed,
+    );
+    let holds = total(workers);
+    let sum = drain(rt, queue, &mut workers[0], job.pending);
+    (holds, sum)
+}
+
+/// Makes the holds of a job. The number that it answers is that of the events that its workers put back. The one history of
+/// all calls, which is legal, has as many puts and takes as there are events and holds.
 pub fn run<R: Threads + Wait + Sync>(rt: &R, alloc: Global, job: &Job) -> Result<Held, Memory>
     requires { IsTeam job.now.threads }
-    ensures { IfOk result (λ held. held.holds ≡ job.now.holds - job.now.holds % job.now.threads) }
+    ensures due { IfOk result (λ held. held.holds ≡ job.now.holds - job.now.holds % job.now.threads) }
+    ensures history { IfOk result (λ held. HasHeld (last_history held.closed) job.now.pending held.holds) }
 {
     let first = First::of_program();
-    let (queue, _places, mut workers) = team(alloc, job.threads, ROWS, first)?;
-    let workers = workers.as_mut_slice();
-    let threads = u64::from(job.threads);
-    fill(rt, &queue, workers, job.pending, job.seed);
-    hold_all(rt, &queue, workers, job.holds / threads, job.seed);
-    let holds = total(workers);
-    let sum = drain(rt, &queue, &mut workers[0]);
-    Ok(Held { holds, sum })
+    let (queue, mut places, mut workers) = team(alloc, job.threads, ROWS, first)?;
+    let (holds, sum) = work(rt, &queue, workers.as_mut_slice(), job);
+    lower_all(&mut places, workers);
+    let whole = queue.gather(places);
+    let closed = queue.close(whole);
+    Ok(Held { holds, sum, closed })
 }

@@ -2,7 +2,7 @@
 ghost use Rattle.std.specs.Prelude.{◌≡◌, length, IfOk};
 ghost use Rattle.crq_base.specs.Sizes.{IsTeam, AreRows};
 ghost use Rattle.crq_base.specs.Starts.{IsFirst};
-ghost use Rattle.crq_hold.specs.Teams.{AreAtHome, AreFree, AreInOrder, AreLifted, AreLowered, AreWorkers};
+ghost use Rattle.crq_hold.specs.Teams.{AreAtHome, AreFree, AreInOrder, AreLifted, AreLowered, AreNew, AreWorkers};
 
 use crate::worker::Worker;
 use crq_base::First;
@@ -48,6 +48,7 @@ pub fn team(
     requires rows { AreRows rows }
     requires first { IsFirst first }
     ensures workers { IfOk result (λ made. AreWorkers made.0.table made.2.items) }
+    ensures new { IfOk result (λ made. AreNew made.0.table made.2.items) }
     ensures count { IfOk result (λ made. length made.2.items ≡ callers) }
     ensures free { IfOk result (λ made. (length made.1.places.items ≡ callers) × AreFree callers made.1.places.items) }
 {

@@ -1,12 +1,18 @@
-use Rattle.std.proofs.Common.{sym, ◌∙◌, arith}
-use Rattle.crq_hold.proofs.Teaming.{worker_at, some_worker, total_shares}
+use Rattle.std.proofs.Common.{◌∙◌, sym, refl, subst}
+use Rattle.std.proofs.lemmas.Option.{slice_get_within}
+use Rattle.crq_hold.specs.Teams.{AreNew, HasHeld}
+use Rattle.crq_hold.proofs.Teaming.{lowered_resting}
+use Rattle.crq_hold.proofs.Totals.{written_went, history_held}
 use Rattle.crq_hold.proofs.hold.run.Goals as goal
 
-pub total-holds-requires : goal.total-holds-requires
-total-holds-requires g c = let h = c.hold_all.ensures in let q = c.in_ok-queue.ensures in let is = total_shares _ _ _ c.args.job.now.holds _ c.args.job.now.threads h.held (h.workers.count ∙ (sym q.workers.count ∙ q.count)) c.from-threads.ensures c.requires.0 in omega arith
+pub lower_all-requires-clause-order : goal.lower_all-requires-clause-order
+lower_all-requires-clause-order g c = (written_went _ _ _ c.in_ok-queue.workers.items (sym c.as_mut_slice.ensures.len ∙ sym c.work-holds.auto.workers) c.work-holds.ensures.went).workers.order
 
-pub drain-sum-requires : goal.drain-sum-requires
-drain-sum-requires g c = let all = c.hold_all.ensures.workers in worker_at _ _ all 0 _ (some_worker _ _ all)
+pub gather-whole-requires : goal.gather-whole-requires
+gather-whole-requires g c = let e = c.in_ok-queue.ensures in let all = (written_went _ _ _ c.in_ok-queue.workers.items (sym c.as_mut_slice.ensures.len ∙ sym c.work-holds.auto.workers) c.work-holds.ensures.went).workers in
+    lowered_resting _ _ _ _ all (e.free.0 ∙ (sym e.count ∙ (e.workers.count ∙ sym all.count))) c.lower_all.ensures
 
-pub returns : goal.returns
-returns g c = let h = c.hold_all.ensures in let q = c.in_ok-queue.ensures in c.total-holds.ensures ∙ total_shares _ _ _ c.args.job.now.holds _ c.args.job.now.threads h.held (h.workers.count ∙ (sym q.workers.count ∙ q.count)) c.from-threads.ensures c.requires.0
+pub returns-clause-history : goal.returns-clause-history
+returns-clause-history g c = let went = written_went _ _ _ c.in_ok-queue.workers.items (sym c.as_mut_slice.ensures.len ∙ sym c.work-holds.auto.workers) c.work-holds.ensures.went in
+    subst (λ h. HasHeld h c.args.job.now.pending c.work-holds.result.0) (sym c.close-closed.ensures)
+    (history_held _ _ _ _ _ _ _ (subst (AreNew c.in_ok-queue.queue.table) (sym c.as_mut_slice.ensures.value) c.in_ok-queue.ensures.new) went (λ k w e. c.lower_all.ensures.each k w (slice_get_within _ k w e) e) c.gather-whole.ensures.history _ _ refl refl)
