@@ -1,18 +1,14 @@
 //! The program `crq`: runs a simulation model and prints what its objects did.
 #![tactic(auto)]
 
-use crq_io::{HostFiles, HostSink};
-use crq_top::program;
+ghost use Rattle.std.specs.Process.{exit_status};
+ghost use Rattle.crq_top.specs.Performed.{IsExitOfProgram};
+
+use crq_top::on_host;
 use std::process::ExitCode;
 
-fn main(rt: HostRuntime) -> ExitCode {
-    let errors = rt.stderr();
-    program(
-        &rt,
-        &rt,
-        rt.alloc(),
-        &mut HostFiles::new(&rt),
-        &mut HostSink::new(&rt),
-        &mut HostSink::new(&errors),
-    )
+fn main(rt: HostRuntime) -> ExitCode
+    ensures { IsExitOfProgram (exit_status result) }
+{
+    on_host(&rt, rt.alloc(), &rt.stderr())
 }
