@@ -7,14 +7,25 @@ const RELAYS: &str =
     r#"{"format":1,"lookahead":5,"until":12,"objects":[{"name":"a","kind":"relay","delay":5,"next":"b"},{"name":"b","kind":"relay","delay":7,"next":"a"}],"starts":[{"time":0,"object":"a"}]}"#;
 
 const RELAYS_TEXT: &str =
-    "{\"format\":1,\"lookahead\":5,\"objects\":[{\"delay\":5,\"kind\":\"relay\",\"name\":\"a\",\"next\":\"b\"},{\"delay\":7,\"kind\":\"relay\",\"name\":\"b\",\"next\":\"a\"}],\"starts\":[{\"data\":0,\"object\":\"a\",\"time\":0}],\"until\":12}\n";
+    "{\"format\":1,\"lookahead\":5,\"objects\":[{\"delay\":5,\"kind\":\"relay\",\"name\":\"a\",\"next\":\"b\"},\
+     {\"delay\":7,\"kind\":\"relay\",\"name\":\"b\",\"next\":\"a\"}],\
+     \"starts\":[{\"data\":0,\"object\":\"a\",\"time\":0}],\"until\":12}\n";
 
 /// All behaviours, with names that come later, members in another order, one that is passed over and one given twice.
-const KINDS: &str =
-    r#"{"starts":[{"object":"p.1","time":4294967295,"data":18446744073709551615}],"objects":[{"name":"p.1","kind":"phold","seed":18446744073709551615,"spread":0},{"next":"f","service":9,"kind":"station","name":"s"},{"name":"f","kind":"fan","delay":3,"targets":["f","z_Z-","f","s"]},{"name":"q","name":"z_Z-","kind":"sink","colour":null}],"until":0,"lookahead":3,"format":1}"#;
+const KINDS: &str = concat!(
+    r#"{"starts":[{"object":"p.1","time":4294967295,"data":18446744073709551615}],"#,
+    r#""objects":[{"name":"p.1","kind":"phold","seed":18446744073709551615,"spread":0},"#,
+    r#"{"next":"f","service":9,"kind":"station","name":"s"},"#,
+    r#"{"name":"f","kind":"fan","delay":3,"targets":["f","z_Z-","f","s"]},"#,
+    r#"{"name":"q","name":"z_Z-","kind":"sink","colour":null}],"until":0,"lookahead":3,"format":1}"#,
+);
 
 const KINDS_TEXT: &str =
-    "{\"format\":1,\"lookahead\":3,\"objects\":[{\"kind\":\"phold\",\"name\":\"p.1\",\"seed\":18446744073709551615,\"spread\":0},{\"kind\":\"station\",\"name\":\"s\",\"next\":\"f\",\"service\":9},{\"delay\":3,\"kind\":\"fan\",\"name\":\"f\",\"targets\":[\"f\",\"z_Z-\",\"f\",\"s\"]},{\"kind\":\"sink\",\"name\":\"z_Z-\"}],\"starts\":[{\"data\":18446744073709551615,\"object\":\"p.1\",\"time\":4294967295}],\"until\":0}\n";
+    "{\"format\":1,\"lookahead\":3,\"objects\":[{\"kind\":\"phold\",\"name\":\"p.1\",\"seed\":18446744073709551615,\"spread\":0},\
+     {\"kind\":\"station\",\"name\":\"s\",\"next\":\"f\",\"service\":9},\
+     {\"delay\":3,\"kind\":\"fan\",\"name\":\"f\",\"targets\":[\"f\",\"z_Z-\",\"f\",\"s\"]},\
+     {\"kind\":\"sink\",\"name\":\"z_Z-\"}],\
+     \"starts\":[{\"data\":18446744073709551615,\"object\":\"p.1\",\"time\":4294967295}],\"until\":0}\n";
 
 const NO_OBJECTS: &str =
     r#"{"format":1,"lookahead":5,"until":12,"objects":[],"starts":[{"time":0,"object":"a"}]}"#;

@@ -11,7 +11,7 @@ use Rattle.crq_top.specs.declared.forms.Misfit.{Misfit}
 use Rattle.crq_top.specs.Endings.{code_of, status_of}
 use Rattle.crq_top.specs.Explained.{ending_words, model_name}
 use Rattle.crq_top.specs.Meanings.{IsCutOff}
-use Rattle.crq_top.specs.Sessions.{Session, SinkState}
+use Rattle.crq_top.specs.Sessions.{Session, SinkSession}
 use Rattle.crq_top.specs.Statuses.{EndsAs}
 use Rattle.crq_io.specs.Told.{Appends}
 
@@ -20,9 +20,21 @@ abbrev pub call_for : List (List ℕ) → Call
 call_for [] = calls.Inspect
 call_for (w ∷ ws) = if bytes_eq w (codes "run") then calls.Run else calls.Inspect
 
--- nothing was written; or the line and a newline, or a part of them where a fault was counted
-abbrev pub SaysAtMost : SinkState → SinkState → List ℕ → Type 0
-SaysAtMost before after line = (after.written ≡ before.written) ⊎ (Appends before.written after.written (line ++ 10 ∷ []) ⊎ IsCutOff before after (line ++ 10 ∷ []))
+-- the bytes were appended, or a part of them where a fault was counted
+abbrev pub Says : SinkSession → List ℕ → Type 0
+Says e bytes = Appends e.before.written e.after.written bytes ⊎ IsCutOff e.before e.after bytes
+
+-- the line that stands for an explanation where memory for it was refused, or for words of the command line where memory for them was
+abbrev pub memory_line : List ℕ
+memory_line = codes "crq: memory was refused\n"
+
+-- the line where one of the words isn't UTF-8
+abbrev pub encoding_line : List ℕ
+encoding_line = codes "crq: a word of the command line isn't UTF-8\n"
+
+-- the line and a newline are said, or that memory for them was refused: never nothing, but where a fault was counted
+abbrev pub SaysLine : SinkSession → List ℕ → Type 0
+SaysLine e line = Says e (line ++ 10 ∷ []) ⊎ Says e memory_line
 
 -- what is wrong with the words, where something is
 pub record IsMisfitOf (words : List (List ℕ)) (misfit : Option Misfit) : Type 0 where
@@ -30,28 +42,39 @@ pub record IsMisfitOf (words : List (List ℕ)) (misfit : Option Misfit) : Type 
   pub fits : misfit ≡ None → (a : Asked) × Spells words a
 
 -- an ending other than Ok is explained on the stream of errors, by the first thing that is wrong with the words where that is what it is about
-abbrev pub IsExplained : List (List ℕ) → Ending → SinkState → SinkState → Type 0
-IsExplained words ending before after = (misfit : Option Misfit) × IsMisfitOf words misfit × SaysAtMost before after (codes "crq: " ++ ending_words (model_name words) misfit ending)
+abbrev pub IsExplained : List (List ℕ) → Ending → SinkSession → Type 0
+IsExplained words ending e = (misfit : Option Misfit) × IsMisfitOf words misfit × SaysLine e (codes "crq: " ++ ending_words (model_name words) misfit ending)
 
 -- and after Ok nothing is said there
-pub record Explains (words : List (List ℕ)) (ending : Ending) (before after : SinkState) : Type 0 where
-  pub silent : ending ≡ endings.Ok → after ≡ before
-  pub says : (ending ≡ endings.Ok → ⊥) → IsExplained words ending before after
+pub record Explains (words : List (List ℕ)) (ending : Ending) (e : SinkSession) : Type 0 where
+  pub silent : ending ≡ endings.Ok → e.after ≡ e.before
+  pub says : (ending ≡ endings.Ok → ⊥) → IsExplained words ending e
 
 -- the call to which the words belong was made, its ending explained, and this is its status
-pub record Performs (words : List (List ℕ)) (s : Session) (errors_before errors_after : SinkState) (result : Status) : Type 0 where
+pub record Performs (words : List (List ℕ)) (s : Session) (e : SinkSession) (result : Status) : Type 0 where
   pub ending : Ending
   pub ends : EndsAs (call_for words) words s ending
-  pub explains : Explains words ending errors_before errors_after
+  pub explains : Explains words ending e
   pub status : result ≡ status_of ending
 
 -- the words of the command line were read, and the call to which they belong was performed
-pub record RanOn (s : Session) (errors_before errors_after : SinkState) (exit : ℕ) : Type 0 where
+pub record RanOn (s : Session) (e : SinkSession) (exit : ℕ) : Type 0 where
   pub words : List (List ℕ)
   pub status : Status
-  pub performs : Performs words s errors_before errors_after status
+  pub performs : Performs words s e status
   pub exits : exit ≡ code_of status
 
--- they couldn't be read, since memory was short or a word isn't UTF-8
-abbrev pub IsUnread : ℕ → Type 0
-IsUnread exit = (exit ≡ code_of statuses.Memory) ⊎ (exit ≡ code_of statuses.Usage)
+-- they couldn't be read, since memory was short or a word isn't UTF-8, and that was said
+abbrev pub GivesUp : SinkSession → Status → Type 0
+GivesUp e status = ((status ≡ statuses.Memory) × Says e memory_line) ⊎ ((status ≡ statuses.Usage) × Says e encoding_line)
+
+-- the same, with the exit status
+pub record IsUnread (e : SinkSession) (exit : ℕ) : Type 0 where
+  pub status : Status
+  pub gives_up : GivesUp e status
+  pub exits : exit ≡ code_of status
+
+-- the program had this exit status over some devices, of which the host tells nothing
+pub record IsExitOfProgram (exit : ℕ) : Type 0 where
+  pub errors : SinkSession
+  pub ends : ((s : Session) × RanOn s errors exit) ⊎ IsUnread errors exit

@@ -15,6 +15,11 @@ pub record SinkState : Type 0 where
   pub written : Option (List ℕ)
   pub faults : ℕ
 
+-- a sink before a call and after it
+pub record SinkSession : Type 0 where
+  pub before : SinkState
+  pub after : SinkState
+
 pub record Session : Type 0 where
   pub files_before : FilesState
   pub files_after : FilesState
@@ -28,4 +33,11 @@ session found file_faults written sink_faults files_old files_new out_old out_ne
   files_after = record { found = found files_new; faults = file_faults files_new };
   out_before = record { written = written out_old; faults = sink_faults out_old };
   out_after = record { written = written out_new; faults = sink_faults out_new };
+}
+
+-- the same of the sink of errors alone
+abbrev pub sink_session : {E : Type 0} → (E → Option (List ℕ)) → (E → ℕ) → E → E → SinkSession
+sink_session written faults errors_old errors_new = record {
+  before = record { written = written errors_old; faults = faults errors_old };
+  after = record { written = written errors_new; faults = faults errors_new };
 }

@@ -6,6 +6,7 @@ mod command;
 mod ending;
 mod explanation;
 mod forms;
+mod host;
 mod line;
 mod output;
 mod performing;
@@ -16,6 +17,7 @@ pub use command::Call;
 pub use ending::{Ending, Status};
 pub use explanation::{Explanation, explanation_of};
 pub use forms::{Misfit, Parameter};
+pub use host::on_host;
 pub use performing::{perform, program};
 
 #[cfg(test)]

@@ -4,8 +4,8 @@ ghost use Rattle.std.specs.Prelude.{◌≡◌, ◌≢◌, ◌⊎◌, ℕ, List, 
 ghost use Rattle.std.specs.Process.{exit_status};
 ghost use Rattle.crq_top.specs.Endings.{code_of};
 ghost use Rattle.crq_top.specs.Explained.{explained};
-ghost use Rattle.crq_top.specs.Performed.{Explains, Performs, RanOn, IsUnread, SaysAtMost, call_for};
-ghost use Rattle.crq_top.specs.Sessions.{session};
+ghost use Rattle.crq_top.specs.Performed.{Explains, Performs, RanOn, IsUnread, GivesUp, Says, SaysLine, call_for};
+ghost use Rattle.crq_top.specs.Sessions.{session, sink_session};
 
 use crate::calls::call_to_ending;
 use crate::command::Call;
@@ -28,18 +28,29 @@ fn call_for(words: &[String]) -> Call
     }
 }
 
-/// Writes the line of an explanation. Where memory is refused it writes nothing.
-fn tell<E: Sink>(alloc: Global, explanation: &Explanation, errors: &mut E)
-    ensures { SaysAtMost (record { written = E.written errors.old; faults = E.faults errors.old }) (record { written = E.written errors.new; faults = E.faults errors.new }) (explained explanation.now) }
+/// Said where memory for what should be said was refused.
+const MEMORY_REFUSED: &str = "crq: memory was refused\n";
+
+/// Writes a line of the program, or what the stream takes of it. What it doesn't take is counted there.
+fn say<E: Sink>(errors: &mut E, line: &str)
+    ensures { Says (sink_session E.written E.faults errors.old errors.new) line.now }
 {
-    if let Ok(line) = format!(in alloc; "{explanation}\n") {
-        let _written = write_whole(errors, line.as_bytes());
+    let _written = write_whole(errors, line.as_bytes());
+}
+
+/// Writes the line of an explanation, or where memory for it is refused that it was.
+fn tell<E: Sink>(alloc: Global, explanation: &Explanation, errors: &mut E)
+    ensures { SaysLine (sink_session E.written E.faults errors.old errors.new) (explained explanation.now) }
+{
+    match format!(in alloc; "{explanation}\n") {
+        Ok(line) => say(errors, line.as_str()),
+        Err(_) => say(errors, MEMORY_REFUSED),
     }
 }
 
 /// Writes the explanation of an ending other than Ok. The status is known by then, and stands where this fails.
 fn explain<E: Sink>(alloc: Global, ending: &Ending, words: &[String], errors: &mut E)
-    ensures { Explains (map string_bytes words.now) ending.now (record { written = E.written errors.old; faults = E.faults errors.old }) (record { written = E.written errors.new; faults = E.faults errors.new }) }
+    ensures { Explains (map string_bytes words.now) ending.now (sink_session E.written E.faults errors.old errors.new) }
 {
     match ending {
         Ending::Ok => {}
@@ -59,7 +70,7 @@ pub fn perform<F: Files, S: Sink, E: Sink, R: Threads + Sync>(
     out: &mut S,
     errors: &mut E,
 ) -> Status
-    ensures { Performs (map string_bytes words.now) (session F.found F.faults S.written S.faults files.old files.new out.old out.new) (record { written = E.written errors.old; faults = E.faults errors.old }) (record { written = E.written errors.new; faults = E.faults errors.new }) result }
+    ensures { Performs (map string_bytes words.now) (session F.found F.faults S.written S.faults files.old files.new out.old out.new) (sink_session E.written E.faults errors.old errors.new) result }
 {
     let ending = call_to_ending(rt, alloc, call_for(words), words, files, out);
     explain(alloc, &ending, words, errors);
@@ -85,16 +96,18 @@ fn words_of<V: Env>(env: &V, alloc: Global) -> Result<Vec<String>, ErrorKind> {
 fn give_up<E: Sink>(kind: ErrorKind, errors: &mut E) -> Status
     ensures memory { kind ≡ ErrorKind.OutOfMemory → result ≡ Status.Memory }
     ensures usage { kind ≢ ErrorKind.OutOfMemory → result ≡ Status.Usage }
+    ensures says { GivesUp (sink_session E.written E.faults errors.old errors.new) result }
 {
-    let (status, line) = match kind {
-        ErrorKind::OutOfMemory => (Status::Memory, "crq: memory was refused\n"),
-        _ => (
-            Status::Usage,
-            "crq: a word of the command line isn't UTF-8\n",
-        ),
-    };
-    let _written = write_whole(errors, line.as_bytes());
-    status
+    match kind {
+        ErrorKind::OutOfMemory => {
+            say(errors, MEMORY_REFUSED);
+            Status::Memory
+        }
+        _ => {
+            say(errors, "crq: a word of the command line isn't UTF-8\n");
+            Status::Usage
+        }
+    }
 }
 
 /// The program: makes the call to which the words of the command line belong, explains an ending other than Ok on `errors`,
@@ -107,8 +120,8 @@ pub fn program<F: Files, S: Sink, E: Sink, R: Threads + Sync, V: Env>(
     out: &mut S,
     errors: &mut E,
 ) -> ExitCode
-    ensures { RanOn (session F.found F.faults S.written S.faults files.old files.new out.old out.new) (record { written = E.written errors.old; faults = E.faults errors.old }) (record { written = E.written errors.new; faults = E.faults errors.new }) (exit_status result)
-        ⊎ (IsUnread (exit_status result) × (files.new ≡ files.old) × (out.new ≡ out.old)) }
+    ensures { RanOn (session F.found F.faults S.written S.faults files.old files.new out.old out.new) (sink_session E.written E.faults errors.old errors.new) (exit_status result)
+        ⊎ (IsUnread (sink_session E.written E.faults errors.old errors.new) (exit_status result) × (files.new ≡ files.old) × (out.new ≡ out.old)) }
 {
     let status = match words_of(env, alloc) {
         Ok(words) => perform(rt, alloc, words.as_slice(), files, out, errors),

@@ -1,4 +1,4 @@
-use crate::{Call, call_to_ending, explanation_of, inspect, program, run};
+use crate::{inspect, perform, program, run};
 use crq_io::{MemFiles, MemSink, Memory};
 use std::alloc::{AllocError, Global};
 use std::env::{Env, FillError};
@@ -6,22 +6,30 @@ use std::test::Fail;
 use std::thread::Threads;
 
 const A: &str =
-    "{\"format\":1,\"lookahead\":5,\"until\":12,\"objects\":[{\"name\":\"a\",\"kind\":\"relay\",\"delay\":5,\"next\":\"b\"},{\"name\":\"b\",\"kind\":\"relay\",\"delay\":7,\"next\":\"a\"}],\"starts\":[{\"time\":0,\"object\":\"a\"}]}";
+    "{\"format\":1,\"lookahead\":5,\"until\":12,\"objects\":[{\"name\":\"a\",\"kind\":\"relay\",\"delay\":5,\"next\":\"b\"},\
+     {\"name\":\"b\",\"kind\":\"relay\",\"delay\":7,\"next\":\"a\"}],\"starts\":[{\"time\":0,\"object\":\"a\"}]}";
 
 const B: &str =
-    "{\"format\":1,\"lookahead\":5,\"until\":12,\"objects\":[{\"name\":\"a\",\"kind\":\"relay\",\"delay\":5,\"next\":\"b\"},{\"name\":\"b\",\"kind\":\"relay\",\"delay\":7,\"next\":\"a\"}],\"starts\":[]}";
+    "{\"format\":1,\"lookahead\":5,\"until\":12,\"objects\":[{\"name\":\"a\",\"kind\":\"relay\",\"delay\":5,\"next\":\"b\"},\
+     {\"name\":\"b\",\"kind\":\"relay\",\"delay\":7,\"next\":\"a\"}],\"starts\":[]}";
 
 const C: &str =
-    "{\"format\":1,\"lookahead\":5,\"until\":100,\"objects\":[{\"name\":\"a\",\"kind\":\"relay\",\"delay\":5,\"next\":\"z\"},{\"name\":\"b\",\"kind\":\"relay\",\"delay\":5,\"next\":\"z\"},{\"name\":\"z\",\"kind\":\"sink\"}],\"starts\":[{\"time\":0,\"object\":\"b\",\"data\":20},{\"time\":0,\"object\":\"a\",\"data\":10}]}";
+    "{\"format\":1,\"lookahead\":5,\"until\":100,\"objects\":[{\"name\":\"a\",\"kind\":\"relay\",\"delay\":5,\"next\":\"z\"},\
+     {\"name\":\"b\",\"kind\":\"relay\",\"delay\":5,\"next\":\"z\"},{\"name\":\"z\",\"kind\":\"sink\"}],\
+     \"starts\":[{\"time\":0,\"object\":\"b\",\"data\":20},{\"time\":0,\"object\":\"a\",\"data\":10}]}";
 
 const E: &str =
-    "{\"format\":1,\"lookahead\":4,\"until\":100,\"objects\":[{\"name\":\"s\",\"kind\":\"station\",\"service\":4,\"next\":\"z\"},{\"name\":\"z\",\"kind\":\"sink\"}],\"starts\":[{\"time\":0,\"object\":\"s\",\"data\":10},{\"time\":1,\"object\":\"s\",\"data\":20},{\"time\":2,\"object\":\"s\",\"data\":30}]}";
+    "{\"format\":1,\"lookahead\":4,\"until\":100,\"objects\":[{\"name\":\"s\",\"kind\":\"station\",\"service\":4,\"next\":\"z\"},\
+     {\"name\":\"z\",\"kind\":\"sink\"}],\"starts\":[{\"time\":0,\"object\":\"s\",\"data\":10},\
+     {\"time\":1,\"object\":\"s\",\"data\":20},{\"time\":2,\"object\":\"s\",\"data\":30}]}";
 
 const F: &str =
-    "{\"format\":1,\"lookahead\":5,\"until\":1000,\"objects\":[{\"name\":\"f\",\"kind\":\"fan\",\"delay\":5,\"targets\":[\"f\",\"f\"]}],\"starts\":[{\"time\":0,\"object\":\"f\"}]}";
+    "{\"format\":1,\"lookahead\":5,\"until\":1000,\"objects\":[{\"name\":\"f\",\"kind\":\"fan\",\"delay\":5,\"targets\":[\"f\",\"f\"]}],\
+     \"starts\":[{\"time\":0,\"object\":\"f\"}]}";
 
 const G: &str =
-    "{\"format\":1,\"lookahead\":16,\"until\":100,\"objects\":[{\"name\":\"p\",\"kind\":\"phold\",\"seed\":0,\"spread\":240}],\"starts\":[{\"time\":0,\"object\":\"p\",\"data\":7}]}";
+    "{\"format\":1,\"lookahead\":16,\"until\":100,\"objects\":[{\"name\":\"p\",\"kind\":\"phold\",\"seed\":0,\"spread\":240}],\
+     \"starts\":[{\"time\":0,\"object\":\"p\",\"data\":7}]}";
 
 const A_TEXT: &str =
     "trace 1\nobject 1 a relay 2\n0 0 0 0 1 0\n12 2 0 2 2 2\nobject 2 b relay 1\n5 1 0 1 1 1\nend 3\n";
@@ -38,10 +46,13 @@ const G_TEXT: &str =
     "trace 1\nobject 1 p phold 2\n0 0 0 7 1 4354685564936845354\n49 1 0 7 2 8709371129873690708\nend 2\n";
 
 const GEN_TEXT: &str =
-    "{\"format\":1,\"lookahead\":16,\"objects\":[{\"kind\":\"phold\",\"name\":\"p1\",\"seed\":16294208416658607535,\"spread\":240},{\"kind\":\"phold\",\"name\":\"p2\",\"seed\":7960286522194355700,\"spread\":240}],\"starts\":[{\"data\":0,\"object\":\"p2\",\"time\":236}],\"until\":2000}\n";
+    "{\"format\":1,\"lookahead\":16,\"objects\":[{\"kind\":\"phold\",\"name\":\"p1\",\"seed\":16294208416658607535,\"spread\":240},\
+     {\"kind\":\"phold\",\"name\":\"p2\",\"seed\":7960286522194355700,\"spread\":240}],\
+     \"starts\":[{\"data\":0,\"object\":\"p2\",\"time\":236}],\"until\":2000}\n";
 
 const GEN_EMPTY: &str =
-    "{\"format\":1,\"lookahead\":16,\"objects\":[{\"kind\":\"phold\",\"name\":\"p1\",\"seed\":16294208416658607535,\"spread\":240}],\"starts\":[],\"until\":2000}\n";
+    "{\"format\":1,\"lookahead\":16,\"objects\":[{\"kind\":\"phold\",\"name\":\"p1\",\"seed\":16294208416658607535,\"spread\":240}],\
+     \"starts\":[],\"until\":2000}\n";
 
 /// The models under names of one letter, and a text that is no model.
 fn models(alloc: Global) -> Result<MemFiles, Memory> {
@@ -344,16 +355,18 @@ fn endings_in_words(rt: HostRuntime) -> Result<(), Fail> {
     ];
     for (line, wanted) in rows {
         let words = words_of(alloc, line)?;
-        let words = words.as_slice();
         let mut out = MemSink::new(alloc, 1000, 1000, &[])?;
-        let call = if line.starts_with("run") {
-            Call::Run
-        } else {
-            Call::Inspect
-        };
-        let ending = call_to_ending(&rt, alloc, call, words, &mut files, &mut out);
-        let told = format!(in alloc; "{}", explanation_of(&ending, words))?;
-        assert_eq!(rt; told.as_str().strip_prefix("crq: "), Some(wanted), "{line}");
+        let mut errors = MemSink::new(alloc, 1000, 1000, &[])?;
+        perform(
+            &rt,
+            alloc,
+            words.as_slice(),
+            &mut files,
+            &mut out,
+            &mut errors,
+        );
+        let said = format!(in alloc; "crq: {wanted}\n")?;
+        assert_eq!(rt; errors.bytes(), said.as_bytes(), "{line}");
     }
     Ok(())
 }

@@ -1,6 +1,6 @@
 use Rattle.std.proofs.Common.{subst, sym}
 use Rattle.crq_top.specs.Statuses.{Comes}
-use Rattle.crq_top.proofs.Meaning.{comes, means}
+use Rattle.crq_top.proofs.Meaning.{comes}
 use Rattle.crq_top.proofs.calls.inspect.Goals as goal
 
 pub returns-clause-comes : goal.returns-clause-comes

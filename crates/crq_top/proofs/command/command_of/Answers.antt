@@ -1,4 +1,4 @@
-use Rattle.std.proofs.Common.{◌≡◌, ◌∷◌, [], ◌∙◌, ap, sym, subst, map, string_bytes}
+use Rattle.std.proofs.Common.{◌∷◌, [], ◌∙◌, sym, subst, map, string_bytes}
 use Rattle.std.specs.Fmt.{decimal}
 use Rattle.crq_top.specs.declared.forms.Parameter.TheVariants.{Events}
 use Rattle.crq_top.specs.Commands.{AllFit, Fits, form_of}
