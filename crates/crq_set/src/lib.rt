@@ -1,0 +1,9 @@
+//! Sets of pending events that several callers share, what makes them, and a plain set for one caller.
+#![tactic(auto)]
+
+mod event_set;
+mod set_maker;
+
+pub use crq_base::{Entry, Event, First, Memory, Route, Short, TakeEnd};
+pub use event_set::EventSet;
+pub use set_maker::SetMaker;
