@@ -48,14 +48,18 @@ LacksRows setup v = setup.rows ≤ 2 * length v.refused
 abbrev pub LacksEpochs : Setup → PassView → Type 0
 LacksEpochs setup v = 2 ^ 32 - 64 ≤ setup.first.epoch + v.told.settled
 
+-- The pass gave up for rows. It had begun; a call that gives up before its Begin does so only where it was told of a Table entry
+abbrev pub GaveUpForRows : Setup → PassView → PassView → Type 0
+GaveUpForRows setup old new = (begins : List Entry) × AreBegins old.number begins × Adds old new begins × (begins ≡ [] → 0 < new.told.tables) × LacksRows setup new
+
 -- why a put gave up, and what it added
 abbrev pub PutGaveUp : Setup → PassView → PassView → Short → Type 0
-PutGaveUp setup old new Rows = AddsBegins old new × LacksRows setup new
+PutGaveUp setup old new Rows = GaveUpForRows setup old new
 PutGaveUp setup old new Epochs = AddsBegins old new × LacksEpochs setup new
 PutGaveUp setup old new Memory = new ≡ old
 
 -- why a take gave up, and what it added
 abbrev pub TakeGaveUp : Setup → PassView → PassView → Short → Type 0
-TakeGaveUp setup old new Rows = AddsBegins old new × LacksRows setup new
+TakeGaveUp setup old new Rows = GaveUpForRows setup old new
 TakeGaveUp setup old new Epochs = ⊥
 TakeGaveUp setup old new Memory = new ≡ old

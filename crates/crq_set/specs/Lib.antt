@@ -3,3 +3,5 @@ pub mod Views
 pub mod Answers
 -- Then what gathering and dealing do.
 pub mod Gathered
+-- Then what a plain set keeps, for its own proofs.
+pub mod Plain
