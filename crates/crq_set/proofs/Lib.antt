@@ -1,0 +1,5 @@
+pub mod EventSets
+pub mod Balances
+pub mod PlainLaws
+pub mod MakerLaws
+pub mod TestLaws

@@ -1,0 +1,32 @@
+-- What tests show before they put an event.
+use Rattle.std.proofs.Common.{◌≡◌, ◌⊎◌, ⊎_elim, inl, inr, ℕ, ◌/◌, min, List, [], ◌∷◌, ◌++◌, arith, refl}
+use Rattle.std.specs.List.{All}
+use Rattle.crq_base.specs.declared.event.Event.{Event}
+use Rattle.crq_base.specs.declared.entry.Entry.{Entry}
+use Rattle.crq_base.specs.declared.entry.Entry.TheVariants.{Put}
+use Rattle.crq_base.specs.Lists.{In}
+use Rattle.crq_set.specs.Views.{MayPut}
+use Rattle.crq_set.specs.Plain.{plain_view, plain_setup}
+use Rattle.crq_set.proofs.EventSets.{in_all}
+
+in_left : (x : Entry) (xs ys : List Entry) → In x xs → In x (xs ++ ys)
+in_left x [] ys h = absurd h
+in_left x (y ∷ xs) ys (inl same) = inl same
+in_left x (y ∷ xs) ys (inr later) = inr (in_left x xs ys later)
+
+in_right : (x : Entry) (xs ys : List Entry) → In x ys → In x (xs ++ ys)
+in_right x [] ys h = h
+in_right x (y ∷ xs) ys h = inr (in_right x xs ys h)
+
+whose : (source : ℕ) → min source 0 ≡ 0
+whose source = omega arith
+
+-- the entry puts no event of this source and number
+abbrev pub IsOther : Event → Entry → Type 0
+IsOther e x = (k : ℕ) (f : Event) → x ≡ Put k f → f.src ≡ e.src → f.seq ≡ e.seq → ⊥
+
+-- the one pass may put an event of a new source or number
+pub may_put : (h : List Entry) (dealt span rows : ℕ) (e : Event) → let v = plain_view h dealt span in All (IsOther e) (v.dealt ++ v.own) → MayPut (plain_setup rows) v e
+may_put h dealt span rows e all =
+    let v = plain_view h dealt span in
+    (whose (e.src / span), λ k f seen. in_all (IsOther e) (v.dealt ++ v.own) (Put k f) all (⊎_elim (in_left (Put k f) v.dealt v.own) (in_right (Put k f) v.dealt v.own) seen) k f refl)
