@@ -1,0 +1,4 @@
+pub mod ArrangedLemmas
+pub mod SegmentLemmas
+pub mod GroupLemmas
+pub mod LawLemmas
