@@ -13,7 +13,7 @@ use Rattle.crq_base.specs.Histories.{put_of, taken_of, own as own_of}
 use Rattle.crq_rule.specs.declared.pass.Table.{Table}
 use Rattle.crq_rule.specs.declared.pass.Seating.{Seating}
 use Rattle.crq_rule.specs.declared.pass.Seating.TheVariants.{Here}
-use Rattle.crq_rule.specs.Lists.{In}
+use Rattle.crq_base.specs.Lists.{In}
 use Rattle.crq_rows.specs.Passes.{caller}
 use Rattle.crq_rows.proofs.Slots.{get_here, get_else}
 use Rattle.crq_queue.specs.declared.calendar.Whole.{Whole}

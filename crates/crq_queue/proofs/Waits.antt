@@ -16,8 +16,9 @@ use Rattle.crq_base.specs.declared.answers.Short.TheVariants.{Rows as NoRows, Ep
 use Rattle.crq_rule.specs.declared.pass.Pass.{Pass}
 use Rattle.crq_rule.specs.declared.pass.Table.{Table}
 use Rattle.crq_rule.specs.declared.view.Caller.{Caller}
-use Rattle.crq_rule.specs.Lists.{In}
-use Rattle.crq_rule.specs.ListKinds.{IsFresh, put_entries}
+use Rattle.crq_base.specs.Lists.{In}
+use Rattle.crq_base.specs.Sources.{IsFresh}
+use Rattle.crq_rule.specs.ListKinds.{put_entries}
 use Rattle.crq_rows.specs.Passes.{caller}
 use Rattle.crq_queue.specs.Wholes.{IsResting}
 use Rattle.crq_queue.specs.Calls.{call, Called, OwesNothing}

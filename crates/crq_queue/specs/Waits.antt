@@ -13,7 +13,8 @@ use Rattle.crq_base.specs.declared.answers.Short.{Short}
 use Rattle.crq_base.specs.declared.answers.Short.TheVariants.{Rows as NoRows, Epochs as NoEpochs, Memory}
 use Rattle.crq_rule.specs.declared.pass.Pass.{Pass}
 use Rattle.crq_rule.specs.declared.pass.Table.{Table}
-use Rattle.crq_rule.specs.ListKinds.{IsFresh, put_entries}
+use Rattle.crq_base.specs.Sources.{IsFresh}
+use Rattle.crq_rule.specs.ListKinds.{put_entries}
 use Rattle.crq_rows.specs.Passes.{caller}
 use Rattle.crq_rows.specs.Recovering.{CountsRows}
 use Rattle.crq_queue.specs.Wholes.{IsResting}
