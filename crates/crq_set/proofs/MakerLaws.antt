@@ -1,5 +1,5 @@
 -- The histories of a maker.
-use Rattle.std.proofs.Common.{◌≡◌, ℕ, suc, ◌-◌, Option, Some, List, [], ◌∷◌, ◌++◌, map, length, refl, ap, subst, arith, slice_get}
+use Rattle.std.proofs.Common.{◌≡◌, suc, ◌-◌, Some, List, [], ◌∷◌, ◌++◌, map, length, ap, subst, arith, slice_get}
 
 module _ {A B : Type 0} (f : A → B) where
   only : (x v : A) → slice_get (x ∷ []) 0 ≡ Some v → x ≡ v

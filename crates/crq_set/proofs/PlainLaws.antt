@@ -1,21 +1,20 @@
 -- A plain set's history and pending events, call by call.
-use Rattle.std.proofs.Common.{◌≡◌, ◌≢◌, ◌⊎◌, ⊎_elim, inl, inr, ℕ, zero, suc, ◌<◌, ◌≤◌, Option, Some, None, List, [], ◌∷◌, ◌++◌, length, take, drop, refl, sym, ap, ◌∙◌, subst, append_assoc, append-nil, arith, slice_get, false, eqb, ne_eqb, cond}
-use Rattle.std.specs.List.{All, AllByRecursion, Contains, filter_map}
+use Rattle.std.proofs.Common.{◌≡◌, ◌⊎◌, ⊎_elim, inl, inr, ℕ, zero, suc, ◌<◌, ◌≤◌, Some, List, [], ◌∷◌, ◌++◌, length, take, drop, refl, sym, ap, ◌∙◌, subst, append_assoc, append-nil, arith, slice_get}
+use Rattle.std.specs.List.{All, AllByRecursion, Contains}
 use Rattle.std.specs.BTreeMap.Range.{IsLtBy}
 use Rattle.std.specs.BTreeSet.{insert_key}
-use Rattle.std.proofs.lemmas.List.{length-append, take_all, drop_all, take-append-drop, take-append-le, drop-append-le}
-use Rattle.std.proofs.lemmas.List.Elements.{Contains-append_cases, Contains-append_right, Contains-push}
+use Rattle.std.proofs.lemmas.List.{length-append, take_all, drop_all, take-append-drop, drop-append-le}
+use Rattle.std.proofs.lemmas.List.Elements.{Contains-push}
 use Rattle.crq_base.specs.declared.event.Event.{Event}
 use Rattle.crq_base.specs.declared.entry.Entry.{Entry}
 use Rattle.crq_base.specs.declared.entry.Entry.TheVariants.{Begin, Put, Settled, Take, Miss, Table}
 use Rattle.crq_base.specs.Entries.{caller_of}
-use Rattle.crq_base.specs.Histories.{puts, settleds, outs, own, Began, NoneEarlier, NoneBelow, MayFollow, IsLegal}
+use Rattle.crq_base.specs.Histories.{puts, settleds, outs, own, NoneEarlier, NoneBelow}
 use Rattle.crq_base.specs.Keys.{event_cmp}
 use Rattle.crq_base.specs.Lists.{In}
 use Rattle.crq_base.proofs.HistoryLaws.{puts-append, settleds-append, outs-append, began_now, legal_more}
-use Rattle.crq_set.specs.Views.{PassView, Setup, MayPut}
-use Rattle.crq_set.specs.Answers.{Adds, AddsBegun}
-use Rattle.crq_set.specs.Gathered.{StandsIn, Gathers, Deals, IsDealt}
+use Rattle.crq_set.specs.Views.{PassView, MayPut}
+use Rattle.crq_set.specs.Gathered.{StandsIn, Gathers, Deals}
 use Rattle.crq_set.specs.Plain.{IsBalanced, IsKept, IsInOrder, plain_view, plain_setup}
 use Rattle.crq_set.proofs.EventSets.{in_all, first_least}
 use Rattle.crq_set.proofs.Balances.{balanced_none, balanced_put, balanced_take}
