@@ -109,7 +109,7 @@ few_posts m (Fan delay targets) s e is =
 few_posts m Sink s e is = omega arith
 
 -- at most four events
-few_sends : (m : ModelData) (o : ℕ) (s : ObjectState) (e : Event) → IsModel m → IsObject (length m.objects) o → length (sends_of m o s e) ≤ 4
+pub few_sends : (m : ModelData) (o : ℕ) (s : ObjectState) (e : Event) → IsModel m → IsObject (length m.objects) o → length (sends_of m o s e) ≤ 4
 unfolding reaction_of
 few_sends m o s e is there =
     let a = few_posts m (behaviour_at m o) s e (behaviour_known m o is there) in
@@ -152,9 +152,13 @@ pub after_sent : (m : ModelData) (o : ℕ) (s : ObjectState) (e : Event) → (st
 unfolding reaction_of
 after_sent m o s e = refl
 
-after_count : (m : ModelData) (o : ℕ) (s : ObjectState) (e : Event) → (state_after m o s e).count ≡ s.count + 1
+pub after_count : (m : ModelData) (o : ℕ) (s : ObjectState) (e : Event) → (state_after m o s e).count ≡ s.count + 1
 unfolding reaction_of
 after_count m o s e = refl
+
+-- it has a word of its behaviour
+pub word_after : (m : ModelData) (o : ℕ) (s : ObjectState) (e : Event) → IsWordOf (behaviour_at m o) (state_after m o s e).word
+word_after m o s e = subst (λ (w : ℕ). IsWordOf (behaviour_at m o) w) (sym (after_word m o s e)) (word_kept m (behaviour_at m o) s e)
 
 same_word : (m : ModelData) (o p w v : ℕ) → o ≡ p → w ≡ v → IsWordOf (behaviour_at m p) v → IsWordOf (behaviour_at m o) w
 same_word m o p w v e f h = subst (λ (z : ℕ). IsWordOf (behaviour_at m z) w) (sym e) (subst (λ (z : ℕ). IsWordOf (behaviour_at m p) z) (sym f) h)

@@ -4,10 +4,11 @@ ghost use Rattle.std.specs.Prelude.{◌≡◌, ◌⊎◌, ◌↔◌, ℕ, suc, �
 ghost use Rattle.std.specs.List.{AllByRecursion};
 ghost use Rattle.crq_base.specs.declared.event.Event.{Event};
 ghost use Rattle.crq_base.specs.Keys.{IsBefore};
+ghost use Rattle.crq_sim.specs.declared.reaction.ObjectState.{ObjectState};
 ghost use Rattle.crq_sim.specs.EventLists.{with_event, without_event, AreInOrder, IsHead, HaveKeysApart};
 ghost use Rattle.crq_sim.specs.Examples.{relay_pair, three_starts};
-ghost use Rattle.crq_sim.specs.Models.{ModelData, IsModel};
-ghost use Rattle.crq_sim.specs.Reactions.{sends_of};
+ghost use Rattle.crq_sim.specs.Models.{ModelData, IsModel, IsObject};
+ghost use Rattle.crq_sim.specs.Reactions.{behaviour_at, state_after, sends_of, IsWordOf};
 ghost use Rattle.crq_sim.specs.Runs.{Simulation, state_of, after_events, events_sent, scheduled_starts, beginning, simulation_at};
 ghost use Rattle.crq_sim.specs.Simulations.{IsSimulation};
 ghost use Rattle.crq_sim.specs.WindowRuns.{AreBelow, AreFrom, CanRun, RunsWindow};
@@ -32,6 +33,15 @@ pub fn order_law()
     ensures added { (x e : Event) (pending : List Event) → Contains (with_event e pending) x ↔ ((e ≡ x) ⊎ Contains pending x) }
     ensures removed { (x e : Event) (pending : List Event) → Contains (without_event e pending) x ↔ (Contains pending x × (e ≡ x → ⊥)) }
     ensures one { (es fs : List Event) → AreInOrder es → AreInOrder fs → ((e : Event) → Contains es e ↔ Contains fs e) → es ≡ fs }
+{}
+
+/// A reaction keeps what the next one at its object asks for: the word is one of its behaviour, and the counts rise by what
+/// was done, which is one event run and four sent at the most.
+pub fn reaction_law()
+    ensures word { (m : ModelData) (o : ℕ) (s : ObjectState) (e : Event) → IsWordOf (behaviour_at m o) (state_after m o s e).word }
+    ensures count { (m : ModelData) (o : ℕ) (s : ObjectState) (e : Event) → (state_after m o s e).count ≡ s.count + 1 }
+    ensures sent { (m : ModelData) (o : ℕ) (s : ObjectState) (e : Event) → (state_after m o s e).sent ≡ s.sent + length (sends_of m o s e) }
+    ensures few { (m : ModelData) (o : ℕ) (s : ObjectState) (e : Event) → IsModel m → IsObject (length m.objects) o → length (sends_of m o s e) ≤ 4 }
 {}
 
 /// Of a run: an event is sent at an event of the run, at least the lookahead before it, and isn't later than the end; and

@@ -21,8 +21,8 @@ pub use crq_base::Memory;
 pub use draws::draw;
 pub use generated::generate;
 pub use laws::{
-    count_law, end_law, example_law, next_window_law, one_window_law, order_law, peak_law, run_law,
-    serial_stop_law, simulation_law, stop_law, window_data_law, window_law,
+    count_law, end_law, example_law, next_window_law, one_window_law, order_law, peak_law,
+    reaction_law, run_law, serial_stop_law, simulation_law, stop_law, window_data_law, window_law,
 };
 pub use model::{
     Behaviour, BehaviourName, MOST_OBJECTS, MOST_STARTS, Model, Object, Objects, Start, Starts,
