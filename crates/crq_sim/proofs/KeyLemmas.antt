@@ -8,7 +8,7 @@ use Rattle.crq_sim.specs.declared.model.Start.{Start}
 use Rattle.crq_sim.specs.declared.reaction.ObjectState.{ObjectState}
 use Rattle.crq_sim.specs.declared.sends.Post.{Post}
 use Rattle.crq_sim.specs.declared.traces.Step.{Step}
-use Rattle.crq_sim.specs.EventLists.{IsHead, HaveOneKey, HaveKeysApart}
+use Rattle.crq_sim.specs.EventLists.{IsHead, HaveOneKey, HaveKeysApart, HaveOneNumber, HaveNumbersApart}
 use Rattle.crq_sim.specs.Models.{ModelData, IsModel}
 use Rattle.crq_sim.specs.Reactions.{action_of, behaviour_at, scheduled, reaction_of, sends_of, state_after}
 use Rattle.crq_sim.specs.Runs.{Simulation, state_of, run_first, run_next, after_events, first_sends, events_sent, scheduled_starts, beginning}
@@ -49,7 +49,7 @@ some_sender m w (suc n) x at =
     ]
 
 -- an event with a number that its source hadn't given before
-abbrev IsNumbered : ModelData → List ObjectState → Event → Type 0
+abbrev pub IsNumbered : ModelData → List ObjectState → Event → Type 0
 IsNumbered m states f = (0 < f.src) × (next_number m states f.src ≤ f.seq)
 
 All-join : (P : Event → Type 0) (xs ys : List Event) → AllByRecursion P xs → AllByRecursion P ys → AllByRecursion P (xs ++ ys)
@@ -95,7 +95,7 @@ first_passed m states (e ∷ es) log is many all =
     (λ f k. (let below = k.below in let q : next_number m (run_first m states (e ∷ es) log).states f.src ≡ s'.sent = ap (next_number m (run_first m states (e ∷ es) log).states) k.source ∙ number in omega arith))
     (sends_of m e.dst s e) (sends_known m e.dst s e is there)
 
--- what is scheduled has numbers from the first on, so no key twice
+-- what is scheduled has numbers from the first on, so no number twice
 scheduled_from : (until src n : ℕ) (ps : List Post) → AllByRecursion (λ (f : Event). n ≤ f.seq) (scheduled until src n ps)
 scheduled_from until src n [] = rw (scheduled_none until src n) tt
 scheduled_from until src n (p ∷ ps) =
@@ -107,32 +107,32 @@ scheduled_from until src n (p ∷ ps) =
       | inr past ↦ rw (scheduled_past until src n p ps past.1) (scheduled_from until src n ps)
     ]
 
-scheduled_apart : (until src n : ℕ) (ps : List Post) → HaveKeysApart (scheduled until src n ps)
+scheduled_apart : (until src n : ℕ) (ps : List Post) → HaveNumbersApart (scheduled until src n ps)
 scheduled_apart until src n [] = rw (scheduled_none until src n) tt
 scheduled_apart until src n (p ∷ ps) =
     elim (leb_tells p.time until) [
       | inl at ↦ rw (scheduled_due until src n p ps at.1) (
-        All-weaker (λ (f : Event). n + 1 ≤ f.seq) (λ (f : Event). HaveOneKey (event_of p src n) f → ⊥) (λ f k one. (let q : n ≡ f.seq = one.2 in omega arith)) (scheduled until src (n + 1) ps) (scheduled_from until src (n + 1) ps),
+        All-weaker (λ (f : Event). n + 1 ≤ f.seq) (λ (f : Event). HaveOneNumber (event_of p src n) f → ⊥) (λ f k one. (let q : n ≡ f.seq = one.1 in omega arith)) (scheduled until src (n + 1) ps) (scheduled_from until src (n + 1) ps),
         scheduled_apart until src (n + 1) ps,
       )
       | inr past ↦ rw (scheduled_past until src n p ps past.1) (scheduled_apart until src n ps)
     ]
 
-sends_apart : (m : ModelData) (o : ℕ) (s : ObjectState) (e : Event) → HaveKeysApart (sends_of m o s e)
+sends_apart : (m : ModelData) (o : ℕ) (s : ObjectState) (e : Event) → HaveNumbersApart (sends_of m o s e)
 unfolding reaction_of
 sends_apart m o s e = scheduled_apart m.until o s.sent (action_of m (behaviour_at m o) s e).posts
 
-first_apart : (m : ModelData) (states : List ObjectState) (pending : List Event) → HaveKeysApart (first_sends m states pending)
+first_apart : (m : ModelData) (states : List ObjectState) (pending : List Event) → HaveNumbersApart (first_sends m states pending)
 first_apart m states [] = tt
 first_apart m states (e ∷ es) = sends_apart m e.dst (state_of states e.dst) e
 
--- two lists without a key in common
-apart_join : (xs ys : List Event) → HaveKeysApart xs → HaveKeysApart ys → AllByRecursion (λ (e : Event). AllByRecursion (λ (f : Event). HaveOneKey e f → ⊥) ys) xs → HaveKeysApart (xs ++ ys)
+-- two lists without a number in common
+apart_join : (xs ys : List Event) → HaveNumbersApart xs → HaveNumbersApart ys → AllByRecursion (λ (e : Event). AllByRecursion (λ (f : Event). HaveOneNumber e f → ⊥) ys) xs → HaveNumbersApart (xs ++ ys)
 apart_join [] ys h k cross = k
-apart_join (x ∷ xs) ys h k cross = (All-join (λ (f : Event). HaveOneKey x f → ⊥) xs ys h.0 cross.0, apart_join xs ys h.1 k cross.1)
+apart_join (x ∷ xs) ys h k cross = (All-join (λ (f : Event). HaveOneNumber x f → ⊥) xs ys h.0 cross.0, apart_join xs ys h.1 k cross.1)
 
 -- all that is sent from a simulation on
-sent_numbered : (m : ModelData) (w : Simulation) (n : ℕ) → IsModel m → IsSimulation m w → AllByRecursion (IsNumbered m w.states) (events_sent m w n)
+pub sent_numbered : (m : ModelData) (w : Simulation) (n : ℕ) → IsModel m → IsSimulation m w → AllByRecursion (IsNumbered m w.states) (events_sent m w n)
 unfolding events_sent
 sent_numbered m w zero is known = tt
 sent_numbered m w (suc n) is known =
@@ -141,7 +141,7 @@ sent_numbered m w (suc n) is known =
     (All-weaker (IsNumbered m v.states) (IsNumbered m w.states) (λ f k. (k.0, (let a = k.1 in let b = numbers_rise m w.states w.pending w.log f.src known.many known.events in omega arith)))
     (events_sent m v n) (sent_numbered m v n is (simulation_step m w.states w.pending w.log is known)))
 
-sent_apart : (m : ModelData) (w : Simulation) (n : ℕ) → IsModel m → IsSimulation m w → HaveKeysApart (events_sent m w n)
+pub sent_apart : (m : ModelData) (w : Simulation) (n : ℕ) → IsModel m → IsSimulation m w → HaveNumbersApart (events_sent m w n)
 unfolding events_sent
 sent_apart m w zero is known = tt
 sent_apart m w (suc n) is known =
@@ -149,14 +149,14 @@ sent_apart m w (suc n) is known =
     let next : IsSimulation m v = simulation_step m w.states w.pending w.log is known in
     let later = sent_numbered m v n is next in
     apart_join (first_sends m w.states w.pending) (events_sent m v n) (first_apart m w.states w.pending) (sent_apart m v n is next)
-    (All-weaker (λ (f : Event). f.seq < next_number m v.states f.src) (λ (e : Event). AllByRecursion (λ (f : Event). HaveOneKey e f → ⊥) (events_sent m v n))
-    (λ e passed. All-weaker (IsNumbered m v.states) (λ (f : Event). HaveOneKey e f → ⊥)
-    (λ f k one. (let a : next_number m v.states f.src ≤ f.seq = k.1 in let p : e.seq < next_number m v.states e.src = passed in let q : next_number m v.states e.src ≡ next_number m v.states f.src = ap (next_number m v.states) one.1 in let r : e.seq ≡ f.seq = one.2 in omega arith))
+    (All-weaker (λ (f : Event). f.seq < next_number m v.states f.src) (λ (e : Event). AllByRecursion (λ (f : Event). HaveOneNumber e f → ⊥) (events_sent m v n))
+    (λ e passed. All-weaker (IsNumbered m v.states) (λ (f : Event). HaveOneNumber e f → ⊥)
+    (λ f k one. (let a : next_number m v.states f.src ≤ f.seq = k.1 in let p : e.seq < next_number m v.states e.src = passed in let q : next_number m v.states e.src ≡ next_number m v.states f.src = ap (next_number m v.states) one.0 in let r : e.seq ≡ f.seq = one.1 in omega arith))
     (events_sent m v n) later)
     (first_sends m w.states w.pending) (first_passed m w.states w.pending w.log is known.many known.events))
 
 -- the starts
-starts_from : (until n : ℕ) (ss : List Start) → AllByRecursion (λ (f : Event). (f.src ≡ 0) × (n ≤ f.seq)) (scheduled_starts until n ss)
+pub starts_from : (until n : ℕ) (ss : List Start) → AllByRecursion (λ (f : Event). (f.src ≡ 0) × (n ≤ f.seq)) (scheduled_starts until n ss)
 unfolding scheduled_starts
 starts_from until n [] = tt
 starts_from until n (s ∷ ss) =
@@ -165,26 +165,58 @@ starts_from until n (s ∷ ss) =
       | inr past ↦ rw past.0 (starts_from until n ss)
     ]
 
-starts_apart : (until n : ℕ) (ss : List Start) → HaveKeysApart (scheduled_starts until n ss)
+pub starts_apart : (until n : ℕ) (ss : List Start) → HaveNumbersApart (scheduled_starts until n ss)
 unfolding scheduled_starts
 starts_apart until n [] = tt
 starts_apart until n (s ∷ ss) =
     let e : Event = record { time = s.time; src = 0; seq = n; dst = s.object; load = s.load } in
     elim (leb_tells s.time until) [
       | inl at ↦ rw at.0 (
-        All-weaker (λ (f : Event). (f.src ≡ 0) × (n + 1 ≤ f.seq)) (λ (f : Event). HaveOneKey e f → ⊥) (λ f k one. (let a = k.1 in let q : n ≡ f.seq = one.2 in omega arith)) (scheduled_starts until (n + 1) ss) (starts_from until (n + 1) ss),
+        All-weaker (λ (f : Event). (f.src ≡ 0) × (n + 1 ≤ f.seq)) (λ (f : Event). HaveOneNumber e f → ⊥) (λ f k one. (let a = k.1 in let q : n ≡ f.seq = one.1 in omega arith)) (scheduled_starts until (n + 1) ss) (starts_from until (n + 1) ss),
         starts_apart until (n + 1) ss,
       )
       | inr past ↦ rw past.0 (starts_apart until n ss)
     ]
 
--- no two events of a run have one key
-pub run_apart : (m : ModelData) (n : ℕ) → IsModel m → HaveKeysApart (scheduled_starts m.until 0 m.starts ++ events_sent m (beginning m) n)
-run_apart m n is =
+-- no two events of a run have one source and number
+pub run_numbers_apart : (m : ModelData) (n : ℕ) → IsModel m → HaveNumbersApart (scheduled_starts m.until 0 m.starts ++ events_sent m (beginning m) n)
+run_numbers_apart m n is =
     let sent : List Event = events_sent m (beginning m) n in
     let numbered = sent_numbered m (beginning m) n is (begins m is) in
     apart_join (scheduled_starts m.until 0 m.starts) sent (starts_apart m.until 0 m.starts) (sent_apart m (beginning m) n is (begins m is))
-    (All-weaker (λ (f : Event). (f.src ≡ 0) × (0 ≤ f.seq)) (λ (e : Event). AllByRecursion (λ (f : Event). HaveOneKey e f → ⊥) sent)
-    (λ e k. All-weaker (IsNumbered m (beginning m).states) (λ (f : Event). HaveOneKey e f → ⊥)
-    (λ f later one. (let a : 0 < f.src = later.0 in let b : e.src ≡ 0 = k.0 in let q : e.src ≡ f.src = one.1 in omega arith)) sent numbered)
+    (All-weaker (λ (f : Event). (f.src ≡ 0) × (0 ≤ f.seq)) (λ (e : Event). AllByRecursion (λ (f : Event). HaveOneNumber e f → ⊥) sent)
+    (λ e k. All-weaker (IsNumbered m (beginning m).states) (λ (f : Event). HaveOneNumber e f → ⊥)
+    (λ f later one. (let a : 0 < f.src = later.0 in let b : e.src ≡ 0 = k.0 in let q : e.src ≡ f.src = one.0 in omega arith)) sent numbered)
     (scheduled_starts m.until 0 m.starts) (starts_from m.until 0 m.starts))
+
+-- so no two have one key
+keys_apart : (es : List Event) → HaveNumbersApart es → HaveKeysApart es
+keys_apart [] h = tt
+keys_apart (e ∷ es) h = (All-weaker (λ (f : Event). HaveOneNumber e f → ⊥) (λ (f : Event). HaveOneKey e f → ⊥) (λ f apart one. apart (one.1, one.2)) es h.0, keys_apart es h.1)
+
+pub run_apart : (m : ModelData) (n : ℕ) → IsModel m → HaveKeysApart (scheduled_starts m.until 0 m.starts ++ events_sent m (beginning m) n)
+run_apart m n is = keys_apart (scheduled_starts m.until 0 m.starts ++ events_sent m (beginning m) n) (run_numbers_apart m n is)
+
+-- the numbers of a source rise in a run
+pub numbers_kept : (m : ModelData) (w : Simulation) (n src : ℕ) → IsModel m → IsSimulation m w → next_number m w.states src ≤ next_number m (after_events m w n).states src
+unfolding after_events
+numbers_kept m w zero src is known = omega arith
+numbers_kept m w (suc n) src is known =
+    let v : Simulation = run_next m w in
+    let next : IsSimulation m v = simulation_step m w.states w.pending w.log is known in
+    let first = numbers_rise m w.states w.pending w.log src known.many known.events in
+    let later = numbers_kept m v n src is next in
+    omega arith
+
+-- what was sent has numbers that its sources have given
+pub sent_passed : (m : ModelData) (w : Simulation) (n : ℕ) → IsModel m → IsSimulation m w
+    → AllByRecursion (λ (f : Event). f.seq < next_number m (after_events m w n).states f.src) (events_sent m w n)
+unfolding after_events events_sent
+sent_passed m w zero is known = tt
+sent_passed m w (suc n) is known =
+    let v : Simulation = run_next m w in
+    let next : IsSimulation m v = simulation_step m w.states w.pending w.log is known in
+    All-join (λ (f : Event). f.seq < next_number m (after_events m v n).states f.src) (first_sends m w.states w.pending) (events_sent m v n)
+    (All-weaker (λ (f : Event). f.seq < next_number m v.states f.src) (λ (f : Event). f.seq < next_number m (after_events m v n).states f.src)
+    (λ f h. (let kept = numbers_kept m v n f.src is next in omega arith)) (first_sends m w.states w.pending) (first_passed m w.states w.pending w.log is known.many known.events))
+    (sent_passed m v n is next)

@@ -1,4 +1,5 @@
 pub mod AfterLemmas
+pub mod BoundLemmas
 pub mod EventListLemmas
 pub mod ExampleWindows
 pub mod GeneratedLemmas

@@ -51,7 +51,7 @@ with_in x e (f ∷ fs) h =
     ]) h
 
 -- one event less
-itself : (e : Event) → is_eq (event_cmp e e) ≡ true
+pub itself : (e : Event) → is_eq (event_cmp e e) ≡ true
 itself e = (let tie : event_cmp e e ≡ Equal = tied_itself event_total e in rw tie refl)
 
 pub without_in : (x e : Event) (es : List Event) → Contains (without_event e es) x → Contains es x × (e ≡ x → ⊥)

@@ -1,7 +1,7 @@
 -- The starts of a model, one after another.
-use Rattle.std.proofs.Common.{◌≡◌, ℕ, ◌+◌, ◌<◌, ◌≤◌, List, [], ◌∷◌, length, drop, get_or, ap, sym, ◌∙◌, refl, arith, inl, inr}
+use Rattle.std.proofs.Common.{◌≡◌, ℕ, ◌+◌, ◌<◌, ◌≤◌, List, [], ◌∷◌, ◌++◌, length, drop, get_or, ap, sym, ◌∙◌, refl, arith, inl, inr}
 use Rattle.std.proofs.lemmas.Bool.Decides.{leb_tells}
-use Rattle.std.proofs.lemmas.List.{drop_more, drop_all}
+use Rattle.std.proofs.lemmas.List.{drop_more, drop_all, append_assoc, append-nil}
 use Rattle.std.specs.List.{AllByRecursion}
 use Rattle.crq_base.specs.declared.event.Event.{Event}
 use Rattle.crq_sim.specs.declared.model.Start.{Start}
@@ -35,31 +35,27 @@ starts_end : (until seq i : ℕ) (starts : List Start) → length starts ≤ i �
 unfolding scheduled_starts
 starts_end until seq i starts h = rw (drop_all i starts h) refl
 
--- the pending events and the next number after i starts
-pub record Started (until : ℕ) (starts : List Start) (i seq : ℕ) (pending : List Event) : Type 0 where
-  pub rest : with_events (scheduled_starts until seq (drop i starts)) pending ≡ with_events (scheduled_starts until 0 starts) []
-  pub below : AllByRecursion (λ (f : Event). f.seq < seq) pending
+-- the events and the next number after i starts
+pub record Started (until : ℕ) (starts : List Start) (i seq : ℕ) (events : List Event) : Type 0 where
+  pub rest : events ++ scheduled_starts until seq (drop i starts) ≡ scheduled_starts until 0 starts
   pub few : seq ≤ i
 
-pub started_due : (until : ℕ) (starts : List Start) (i seq : ℕ) (pending : List Event) (d : Start) → i < length starts → (get_or starts i d).time ≤ until
-    → Started until starts i seq pending → Started until starts (i + 1) (seq + 1) (with_event (event_of (get_or starts i d) seq) pending)
-started_due until starts i seq pending d h le k = record {
-  rest = sym (ap (λ es. with_events es pending) (start_due until seq i starts d h le)) ∙ k.rest;
-  below = All-with_event (λ (f : Event). f.seq < seq + 1) (event_of (get_or starts i d) seq) pending (omega arith)
-      (All-weaker (λ (f : Event). f.seq < seq) (λ (f : Event). f.seq < seq + 1) (λ f l. omega arith) pending k.below);
+pub started_due : (until : ℕ) (starts : List Start) (i seq : ℕ) (events : List Event) (d : Start) → i < length starts → (get_or starts i d).time ≤ until
+    → Started until starts i seq events → Started until starts (i + 1) (seq + 1) (events ++ event_of (get_or starts i d) seq ∷ [])
+started_due until starts i seq events d h le k = record {
+  rest = append_assoc events (event_of (get_or starts i d) seq ∷ []) (scheduled_starts until (seq + 1) (drop (i + 1) starts)) ∙ (sym (ap (λ es. events ++ es) (start_due until seq i starts d h le)) ∙ k.rest);
   few = (let f = k.few in omega arith);
 }
 
-pub started_past : (until : ℕ) (starts : List Start) (i seq : ℕ) (pending : List Event) (d : Start) → i < length starts → until < (get_or starts i d).time
-    → Started until starts i seq pending → Started until starts (i + 1) seq pending
-started_past until starts i seq pending d h lt k = record {
-  rest = sym (ap (λ es. with_events es pending) (start_past until seq i starts d h lt)) ∙ k.rest;
-  below = k.below;
+pub started_past : (until : ℕ) (starts : List Start) (i seq : ℕ) (events : List Event) (d : Start) → i < length starts → until < (get_or starts i d).time
+    → Started until starts i seq events → Started until starts (i + 1) seq events
+started_past until starts i seq events d h lt k = record {
+  rest = sym (ap (λ es. events ++ es) (start_past until seq i starts d h lt)) ∙ k.rest;
   few = (let f = k.few in omega arith);
 }
 
-pub started_all : (until : ℕ) (starts : List Start) (i seq : ℕ) (pending : List Event) → length starts ≤ i → Started until starts i seq pending → pending ≡ with_events (scheduled_starts until 0 starts) []
-started_all until starts i seq pending h k = sym (ap (λ es. with_events es pending) (starts_end until seq i starts h)) ∙ k.rest
+pub started_all : (until : ℕ) (starts : List Start) (i seq : ℕ) (events : List Event) → length starts ≤ i → Started until starts i seq events → events ≡ scheduled_starts until 0 starts
+started_all until starts i seq events h k = sym (append-nil events) ∙ (sym (ap (λ es. events ++ es) (starts_end until seq i starts h)) ∙ k.rest)
 
 -- the scheduled starts are in order
 pub starts_in_order : (until n : ℕ) (ss : List Start) (pending : List Event) → AllByRecursion (λ (f : Event). f.seq < n) pending → AreInOrder pending → AreInOrder (with_events (scheduled_starts until n ss) pending)

@@ -43,3 +43,12 @@ HaveOneKey e f = (e.time ≡ f.time) × (e.src ≡ f.src) × (e.seq ≡ f.seq)
 abbrev pub HaveKeysApart : List Event → Type 0
 HaveKeysApart [] = Unit {0}
 HaveKeysApart (e ∷ es) = AllByRecursion (λ (f : Event). HaveOneKey e f → ⊥) es × HaveKeysApart es
+
+-- the source of an event, and the source's number for it
+abbrev pub HaveOneNumber : Event → Event → Type 0
+HaveOneNumber e f = (e.src ≡ f.src) × (e.seq ≡ f.seq)
+
+-- no two events of a list, at whatever places, have one source and number
+abbrev pub HaveNumbersApart : List Event → Type 0
+HaveNumbersApart [] = Unit {0}
+HaveNumbersApart (e ∷ es) = AllByRecursion (λ (f : Event). HaveOneNumber e f → ⊥) es × HaveNumbersApart es

@@ -4,13 +4,14 @@ ghost use Rattle.std.specs.Prelude.{◌≡◌, ◌⊎◌, ◌↔◌, ℕ, suc, �
 ghost use Rattle.std.specs.List.{AllByRecursion};
 ghost use Rattle.crq_base.specs.declared.event.Event.{Event};
 ghost use Rattle.crq_base.specs.Keys.{IsBefore};
+ghost use Rattle.crq_sim.specs.declared.model.Start.{Start};
 ghost use Rattle.crq_sim.specs.declared.reaction.ObjectState.{ObjectState};
-ghost use Rattle.crq_sim.specs.EventLists.{with_event, without_event, AreInOrder, IsHead, HaveKeysApart};
+ghost use Rattle.crq_sim.specs.EventLists.{with_event, without_event, AreInOrder, IsHead, HaveKeysApart, HaveNumbersApart};
 ghost use Rattle.crq_sim.specs.Examples.{relay_pair, three_starts};
 ghost use Rattle.crq_sim.specs.Models.{ModelData, IsModel, IsObject};
 ghost use Rattle.crq_sim.specs.Reactions.{behaviour_at, state_after, sends_of, IsWordOf};
 ghost use Rattle.crq_sim.specs.Runs.{Simulation, state_of, after_events, events_sent, scheduled_starts, beginning, simulation_at};
-ghost use Rattle.crq_sim.specs.Simulations.{IsSimulation};
+ghost use Rattle.crq_sim.specs.Simulations.{IsSimulation, next_number};
 ghost use Rattle.crq_sim.specs.WindowRuns.{AreBelow, AreFrom, CanRun, RunsWindow};
 ghost use Rattle.crq_sim.specs.Windows.{EndsWindow, IsWindowEnd, IsInWindow, IsInWindowFrom, IsLastWindow, WindowData, IsWindow, IsPeak, Stop, Events, Rows, HasMoreEvents, HasFewRows, IsStop};
 
@@ -52,6 +53,24 @@ pub fn run_law()
     ensures sent { (m : ModelData) (w : Simulation) (n : ℕ) (x : Event) → Contains (events_sent m w n) x
         → (k : ℕ) × (e : Event) × (k < n) × IsHead e (after_events m w k).pending × Contains (sends_of m e.dst (state_of (after_events m w k).states e.dst) e) x }
     ensures apart { (m : ModelData) (n : ℕ) → IsModel m → HaveKeysApart (scheduled_starts m.until 0 m.starts ++ events_sent m (beginning m) n) }
+{}
+
+/// Each source numbers its events: an event that a run sends has a number that its source hadn't given before, and no two
+/// events of a run, starts and sent ones together, have one source and number.
+pub fn number_law()
+    ensures starts { (m : ModelData) (e : Event) → Contains (scheduled_starts m.until 0 m.starts) e → (e.src ≡ 0) × (e.seq < length m.starts) }
+    ensures sent { (m : ModelData) (w : Simulation) (n : ℕ) (e : Event) → IsModel m → IsSimulation m w → Contains (events_sent m w n) e
+        → (0 < e.src) × (next_number m w.states e.src ≤ e.seq) × (e.seq < next_number m (after_events m w n).states e.src) }
+    ensures rise { (m : ModelData) (w : Simulation) (n src : ℕ) → IsModel m → IsSimulation m w → next_number m w.states src ≤ next_number m (after_events m w n).states src }
+    ensures apart { (m : ModelData) (n : ℕ) → IsModel m → HaveNumbersApart (scheduled_starts m.until 0 m.starts ++ events_sent m (beginning m) n) }
+{}
+
+/// How much a run of so many events comes to at most, and that what it sends is what its parts send.
+pub fn bound_law()
+    ensures states { (m : ModelData) (n o : ℕ) → IsModel m → ((state_of (simulation_at m n).states o).count ≤ n) × ((state_of (simulation_at m n).states o).sent ≤ 4 * n) }
+    ensures starts { (until n : ℕ) (starts : List Start) → length (scheduled_starts until n starts) ≤ length starts }
+    ensures sent { (m : ModelData) (w : Simulation) (n : ℕ) → IsModel m → IsSimulation m w → length (events_sent m w n) ≤ 4 * n }
+    ensures parts { (m : ModelData) (w : Simulation) (n k : ℕ) → events_sent m w (n + k) ≡ events_sent m w n ++ events_sent m (after_events m w n) k }
 {}
 
 /// Each event that is run is in exactly one window, a window has one end, and one window is the last.

@@ -2,7 +2,7 @@
 
 ghost use Rattle.std.specs.Prelude.{◌≡◌, ℕ, ◌+◌, ◌-◌, ◌<◌, ◌≤◌, length, IfOk, OnOk, MatchOption, [], slice_index_or, vec_len, All};
 ghost use Rattle.crq_base.specs.declared.event.Event.{Event};
-ghost use Rattle.crq_sim.specs.EventLists.{with_events, IsHead};
+ghost use Rattle.crq_sim.specs.EventLists.{IsHead};
 ghost use Rattle.crq_sim.specs.Models.{ModelData, IsModel, IsObject};
 ghost use Rattle.crq_sim.specs.Kinds.{kind_of};
 ghost use Rattle.crq_sim.specs.Runs.{simulation_at, first_states, scheduled_starts, traces_of};
@@ -66,27 +66,49 @@ fn traces_without_steps(alloc: Global, objects: &[Object]) -> Result<Vec<ObjectT
     Ok(traces)
 }
 
-/// The starts up to the end as pending events.
-fn pending_of(alloc: Global, until: u32, starts: &[Start]) -> Result<Pending, AllocError>
+/// The starts up to the end as events, numbered in their order.
+fn starts_of(alloc: Global, until: u32, starts: &[Start]) -> Result<Vec<Event>, AllocError>
     requires { length starts.now ≤ MOST_STARTS }
-    ensures { IfOk result (λ p. p ≡ with_events (scheduled_starts until 0 starts.now) []) }
+    ensures { IfOk result (λ events. events.items ≡ scheduled_starts until 0 starts.now) }
 {
-    let mut pending = Pending::new(alloc);
+    let mut events = Vec::new(alloc);
     let mut seq = 0;
     for start in starts {
         if start.time <= until {
-            let event = Event {
+            events.push(Event {
                 time: start.time,
                 src: 0,
                 seq,
                 dst: start.object,
                 load: start.load,
-            };
-            pending.insert(event)?;
+            })?;
             seq += 1;
         }
     }
-    Ok(pending)
+    Ok(events)
+}
+
+/// The states of a model's objects before the first event.
+pub fn states_before(alloc: Global, model: &Model) -> Result<Vec<ObjectState>, AllocError>
+    ensures { IfOk result (λ states. states.items ≡ first_states model.now.objects) }
+{
+    states_of(alloc, model.objects())
+}
+
+/// A model's starts up to its end, as the events of source 0 that are pending before the first event.
+pub fn starts_before(alloc: Global, model: &Model) -> Result<Vec<Event>, AllocError>
+    ensures { IfOk result (λ events. events.items ≡ scheduled_starts model.now.until 0 model.now.starts) }
+{
+    model.is_model();
+    starts_of(alloc, model.until(), model.starts())
+}
+
+/// The traces of a model's objects by the steps that were made, in whatever order those of different objects stand.
+pub fn traces_by(alloc: Global, model: &Model, log: &[Step]) -> Result<Traces, AllocError>
+    requires { All (λ (s : Step). IsObject (length model.now.objects) s.event.dst) log.now }
+    ensures { IfOk result (λ t. t ≡ traces_of model.now.objects log.now) }
+{
+    gathered(alloc, model.objects(), log)
 }
 
 /// Adds a step to the trace of its object.
@@ -116,11 +138,13 @@ impl Run {
         ensures shows { IfOk result (λ r. Shows model.now r) }
         ensures none { IfOk result (λ r. r.made ≡ 0) }
     {
-        model.is_model();
+        let starts = starts_before(alloc, model)?;
+        let mut pending = Pending::new(alloc);
+        pending.insert_each(starts.as_slice())?;
         Ok(Run {
             made: 0,
-            states: states_of(alloc, model.objects())?,
-            pending: pending_of(alloc, model.until(), model.starts())?,
+            states: states_before(alloc, model)?,
+            pending,
             log: Vec::new(alloc),
         })
     }
@@ -152,7 +176,7 @@ impl Run {
         ensures { IfOk result (λ t. t ≡ traces_of model.now.objects (simulation_at model.now self.made).log) }
     {
         model.is_model();
-        gathered(alloc, model.objects(), self.log.as_slice())
+        traces_by(alloc, model, self.log.as_slice())
     }
 
     /// Runs an event that was taken from the pending ones.

@@ -1,5 +1,0 @@
-use Rattle.crq_sim.proofs.StartLemmas.{Started}
-use Rattle.crq_sim.proofs.run.pending_of.Given as goal
-
-abbrev pub invariant-loop-start : goal.invariant-loop-start
-invariant-loop-start l = Started l.until l.starts l.start-index l.seq l.pending
