@@ -118,7 +118,7 @@ scheduled_apart until src n (p ∷ ps) =
       | inr past ↦ rw (scheduled_past until src n p ps past.1) (scheduled_apart until src n ps)
     ]
 
-sends_apart : (m : ModelData) (o : ℕ) (s : ObjectState) (e : Event) → HaveNumbersApart (sends_of m o s e)
+pub sends_apart : (m : ModelData) (o : ℕ) (s : ObjectState) (e : Event) → HaveNumbersApart (sends_of m o s e)
 unfolding reaction_of
 sends_apart m o s e = scheduled_apart m.until o s.sent (action_of m (behaviour_at m o) s e).posts
 
@@ -190,7 +190,7 @@ run_numbers_apart m n is =
     (scheduled_starts m.until 0 m.starts) (starts_from m.until 0 m.starts))
 
 -- so no two have one key
-keys_apart : (es : List Event) → HaveNumbersApart es → HaveKeysApart es
+pub keys_apart : (es : List Event) → HaveNumbersApart es → HaveKeysApart es
 keys_apart [] h = tt
 keys_apart (e ∷ es) h = (All-weaker (λ (f : Event). HaveOneNumber e f → ⊥) (λ (f : Event). HaveOneKey e f → ⊥) (λ f apart one. apart (one.1, one.2)) es h.0, keys_apart es h.1)
 
