@@ -10,3 +10,4 @@ pub mod CallOps
 pub mod CallStages
 pub mod CallEnds
 pub mod Waits
+pub mod Sets

@@ -20,15 +20,16 @@ use Rattle.crq_base.specs.Lists.{In}
 use Rattle.crq_base.specs.Sources.{IsFresh}
 use Rattle.crq_rule.specs.ListKinds.{put_entries}
 use Rattle.crq_rows.specs.Passes.{caller}
+use Rattle.crq_set.specs.Answers.{AreBegins}
 use Rattle.crq_queue.specs.Wholes.{IsResting}
 use Rattle.crq_queue.specs.Calls.{call, Called, OwesNothing}
-use Rattle.crq_queue.specs.Waits.{short_of, Tried, PutTries, TakeTries, SettleTries, PutTried, TakeTried, SettleTried, AreBegins, Adds, AddsBegins, AddsBegun, PutAdded, TakeAdded}
+use Rattle.crq_queue.specs.Waits.{short_of, Tried, PutTries, TakeTries, SettleTries, PutTried, TakeTried, SettleTried, Adds, AddsBegins, AddsBegun, PutAdded, TakeAdded}
 use Rattle.crq_queue.specs.Waits.Tried.{tried_last, tried_again}
 use Rattle.crq_queue.proofs.CallStages.{fresh_on}
 
 -- Entries that were added
 
-begins_snoc : (k : ℕ) (entries : List Entry) → AreBegins k entries → AreBegins k (entries ++ Begin k ∷ [])
+pub begins_snoc : (k : ℕ) (entries : List Entry) → AreBegins k entries → AreBegins k (entries ++ Begin k ∷ [])
 begins_snoc k [] are = (refl, tt)
 begins_snoc k (entry ∷ entries) are = (are.0, begins_snoc k entries are.1)
 

@@ -5,5 +5,6 @@ pub mod Parts
 pub mod Calls
 pub mod Waits
 pub mod Makers
+pub mod Sets
 -- What only contracts inside the crate cite.
 pub mod Stages

@@ -17,6 +17,7 @@ use Rattle.crq_base.specs.Sources.{IsFresh}
 use Rattle.crq_rule.specs.ListKinds.{put_entries}
 use Rattle.crq_rows.specs.Passes.{caller}
 use Rattle.crq_rows.specs.Recovering.{CountsRows}
+use Rattle.crq_set.specs.Answers.{AreBegins}
 use Rattle.crq_queue.specs.Wholes.{IsResting}
 use Rattle.crq_queue.specs.Calls.{call, OwesNothing, PutAnswers, TakeAnswers, SettleAnswers}
 
@@ -84,11 +85,6 @@ pub record TakeWaited (table : Table) (limit : ℕ) (old new : Pass) (result : R
   pub mid : Pass
   pub takes : TakeTried table limit old mid result
   pub settles : SettleTried table mid new
-
--- each of these entries is a Begin of the caller
-abbrev pub AreBegins : ℕ → List Entry → Type 0
-AreBegins caller [] = Unit {0}
-AreBegins caller (entry ∷ entries) = (entry ≡ Begin caller) × AreBegins caller entries
 
 -- the pass rests, and these entries were added. Its number and what was dealt to it stay
 pub record Adds (table : Table) (old new : Pass) (entries : List Entry) : Type 0 where

@@ -4,9 +4,11 @@
 mod calendar;
 mod calls;
 mod dealing;
+mod event_set;
 mod gathering;
 mod maker;
 mod runs;
+mod set_maker;
 #[cfg(test)]
 mod tests;
 mod waiting;
