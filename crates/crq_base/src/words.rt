@@ -10,7 +10,8 @@ ghost use Rattle.crq_base.specs.declared.words.Current.{Current};
 ghost use Rattle.crq_base.specs.declared.words.Control.{Control};
 ghost use Rattle.crq_base.specs.declared.words.Pin.{Pin};
 ghost use Rattle.crq_base.specs.declared.words.Stamp.{Stamp};
-ghost use Rattle.crq_base.specs.Words.{mark_number, link_word, current_word, control_word, pin_word, stamp_word, IsLink, IsCurrent, IsControl, IsPin, IsStamp, IsLinkWord, IsCurrentWord, IsControlWord, IsPinWord, IsStampWord};
+ghost use Rattle.crq_base.specs.Words.{mark_number, link_word, current_word, control_word, pin_word, stamp_word};
+ghost use Rattle.crq_base.specs.Words.{IsLink, IsCurrent, IsControl, IsPin, IsStamp, IsLinkWord, IsCurrentWord, IsControlWord, IsPinWord, IsStampWord};
 
 /// The word of the last tag, 2^62.
 const LAST_STAMP: u64 = (1 << 62) + 1;

@@ -70,7 +70,8 @@ fn total_sum(traces: &[ObjectTrace]) -> u64
 
 /// The lines of the summary.
 fn text_of(alloc: Global, outcome: &Outcome, events: u64) -> Result<String, AllocError>
-    ensures { IfOk result (λ t. string_bytes t ≡ concat (summary_lines (length outcome.now.traces) events outcome.now.windows (length outcome.now.tables) outcome.now.peak (last_time (all_steps outcome.now.traces)) (sum_by step_sum (all_steps outcome.now.traces) % 2 ^ 64))) }
+    ensures { IfOk result (λ t. string_bytes t ≡ concat (summary_lines (length outcome.now.traces) events outcome.now.windows (length outcome.now.tables) outcome.now.peak
+        (last_time (all_steps outcome.now.traces)) (sum_by step_sum (all_steps outcome.now.traces) % 2 ^ 64))) }
 {
     let objects = outcome.traces.len();
     let windows = outcome.windows;

@@ -166,7 +166,8 @@ impl Calendar {
         requires rests { IsResting self.now.table pass.old }
         requires control { (caller self.now.table pass.old).found.control ≡ Some control.now }
         requires held { In row (caller self.now.table pass.old).hand }
-        requires fresh { IsFresh self.now.table.start.layout.workers (caller self.now.table pass.old).deal.history (caller self.now.table pass.old).own (caller self.now.table pass.old).deal.span pass.old.number event.now }
+        requires fresh { IsFresh self.now.table.start.layout.workers (caller self.now.table pass.old).deal.history (caller self.now.table pass.old).own
+            (caller self.now.table pass.old).deal.span pass.old.number event.now }
         requires within { pass.old.turns ≤ budget }
         ensures { (n : ℕ) → MayRun self.now.table n budget pass.old → EventInserted self.now.table n budget event.now pass.old pass.new result }
     {
@@ -190,7 +191,8 @@ impl Calendar {
     pub fn try_put(&self, pass: &mut Pass, event: &Event, budget: u32) -> Result<PutEnd, Refusal>
         requires rests { IsResting self.now.table pass.old }
         requires budget { 1 ≤ budget }
-        requires fresh { IsFresh self.now.table.start.layout.workers (caller self.now.table pass.old).deal.history (caller self.now.table pass.old).own (caller self.now.table pass.old).deal.span pass.old.number event.now }
+        requires fresh { IsFresh self.now.table.start.layout.workers (caller self.now.table pass.old).deal.history (caller self.now.table pass.old).own
+            (caller self.now.table pass.old).deal.span pass.old.number event.now }
         ensures { PutAnswers (call self.now.table budget pass.old) event.now pass.new result }
     {
         let again = Refusal::Again { turns: budget };

@@ -41,7 +41,8 @@ impl Passes {
     /// Takes the seat of a pass, and lets its caller rest.
     pub fn rest(&mut self, number: u32) -> Seat<(), View>
         requires { (pass : Pass) × (slice_get self.old.places.items number ≡ Some (Here pass)) }
-        ensures { (pass : Pass) × (slice_get self.old.places.items number ≡ Some (Here pass)) × (result ≡ pass.seat) × (self.new.places.items ≡ slice_set self.old.places.items number (Resting (record { free = pass.free; debts = pass.debts }))) }
+        ensures { (pass : Pass) × (slice_get self.old.places.items number ≡ Some (Here pass)) × (result ≡ pass.seat)
+            × (self.new.places.items ≡ slice_set self.old.places.items number (Resting (record { free = pass.free; debts = pass.debts }))) }
     {
         let Pass {
             seat,
@@ -57,7 +58,8 @@ impl Passes {
     /// Makes the pass of a caller that rests.
     pub fn wake(&mut self, number: u32, seat: Seat<(), View>)
         requires { (rest : Rest) × (slice_get self.old.places.items number ≡ Some (Resting rest)) }
-        ensures { (rest : Rest) × (slice_get self.old.places.items number ≡ Some (Resting rest)) × (self.new.places.items ≡ slice_set self.old.places.items number (Here (record { seat = seat; number = number; free = rest.free; debts = rest.debts; turns = 0 }))) }
+        ensures { (rest : Rest) × (slice_get self.old.places.items number ≡ Some (Resting rest))
+            × (self.new.places.items ≡ slice_set self.old.places.items number (Here (record { seat = seat; number = number; free = rest.free; debts = rest.debts; turns = 0 }))) }
     {
         let Seating::Resting(rest) = mem::replace(
             &mut self.places[number as usize],

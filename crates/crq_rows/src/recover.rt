@@ -50,7 +50,8 @@ fn after_row(table: &Table, pass: &Pass, epoch: u64, row: u32) -> (RecoverOp, Re
     requires of { IsPassOf table.now pass.now }
     requires read { In epoch (caller table.now pass.now).epochs }
     requires home { IsHomeRow table.now.start.layout pass.now.number row }
-    requires looked { (caller table.now pass.now).hand ≡ [] → LookedSince table.now.start.layout epoch (row + 1) (caller table.now pass.now) × HasCounted table.now.start.layout epoch (row + 1) (caller table.now pass.now) }
+    requires looked { (caller table.now pass.now).hand ≡ [] → LookedSince table.now.start.layout epoch (row + 1) (caller table.now pass.now)
+        × HasCounted table.now.start.layout epoch (row + 1) (caller table.now pass.now) }
     ensures { IsAfterRow table.now.start.layout epoch row (caller table.now pass.now) result.0 result.1 }
 {
     if row < table.start.layout.last_home(pass.number) {

@@ -130,7 +130,8 @@ pub fn stop_law()
 
 /// Where the rows are enough, a run in windows stops by events at the very window that `serial` answers.
 pub fn serial_stop_law()
-    ensures stops { (m : ModelData) (cap rows k : ℕ) → IsModel m → IsInWindow m k cap → ((j : ℕ) (p : ℕ) → j < k → HasFewRows m (beginning m) rows j p → ⊥) → IsStop m (beginning m) cap rows (Events k) }
+    ensures stops { (m : ModelData) (cap rows k : ℕ) → IsModel m → IsInWindow m k cap
+        → ((j : ℕ) (p : ℕ) → j < k → HasFewRows m (beginning m) rows j p → ⊥) → IsStop m (beginning m) cap rows (Events k) }
     ensures in_window { (m : ModelData) (cap rows k : ℕ) → IsStop m (beginning m) cap rows (Events k) → IsInWindow m k cap }
 {}
 
@@ -138,7 +139,8 @@ pub fn serial_stop_law()
 /// 4 and 5 with lookahead 5 the third is at the first window's edge, and so in the second; seven rows are too few for them.
 pub fn example_law()
     ensures pair_ends { IsWindowEnd relay_pair (beginning relay_pair) 3 3 × ((simulation_at relay_pair 3).pending ≡ []) }
-    ensures pair_pending { (length (simulation_at relay_pair 0).pending ≡ 1) × (length (simulation_at relay_pair 1).pending ≡ 1) × (length (simulation_at relay_pair 2).pending ≡ 1) × (length (simulation_at relay_pair 3).pending ≡ 0) }
+    ensures pair_pending { (length (simulation_at relay_pair 0).pending ≡ 1) × (length (simulation_at relay_pair 1).pending ≡ 1)
+        × (length (simulation_at relay_pair 2).pending ≡ 1) × (length (simulation_at relay_pair 3).pending ≡ 0) }
     ensures pair_peak { IsPeak relay_pair (beginning relay_pair) 3 1 }
     ensures three_ends { IsWindowEnd three_starts (beginning three_starts) 1 2 × IsWindowEnd three_starts (beginning three_starts) 2 3 }
     ensures three_peak { IsPeak three_starts (beginning three_starts) 2 3 }
