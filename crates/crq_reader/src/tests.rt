@@ -138,6 +138,20 @@ fn refused_texts_1(rt: HostRuntime) -> Result<(), Fail> {
             0,
             r#""until" is above 4294967295"#,
         ),
+        (
+            r#""until":12"#,
+            r#""until":18446744073709551615"#,
+            5,
+            0,
+            r#""until" is above 4294967295"#,
+        ),
+        (
+            r#""until":12"#,
+            r#""until":18446744073709551616"#,
+            4,
+            0,
+            r#""until" isn't a whole number from 0 to 18446744073709551615 in digits alone"#,
+        ),
     ] {
         assert!(rt;
             is_refused(alloc, (old, new), number, at, words)?,
