@@ -11,3 +11,4 @@ pub mod CallStages
 pub mod CallEnds
 pub mod Waits
 pub mod Sets
+pub mod TestLaws

@@ -1,11 +1,15 @@
-//! Worked examples of a calendar that nobody uses.
+//! Worked examples of a calendar that nobody uses, or one caller alone.
 
+ghost use Rattle.std.specs.Prelude.{◌≡◌, [], OnOk};
 ghost use Rattle.crq_base.specs.Sizes.{IsTeam};
+ghost use Rattle.crq_set.specs.Gathered.{IsDealt};
 
-use crate::{Calendar, First, Memory, Route, TakeEnd};
-use crq_base::Event;
+use crate::{Calendar, CalendarMaker, First, Memory, Route, Short, TakeEnd};
+use crq_base::{Event, judge};
 use crq_rows::Owes;
+use crq_set::{EventSet, PlainMaker, SetMaker};
 use std::alloc::Global;
+use std::sync::Wait;
 use std::test::Fail;
 
 /// Makes a calendar, deals its passes twice, and closes it.
@@ -51,5 +55,81 @@ fn waits_for_nobody(rt: HostRuntime) -> Result<(), Fail> {
     assert_eq!(rt; calendar.take(&rt, &mut pass, 4), Ok(taken));
     assert_eq!(rt; pass.owes(), Owes::Nothing);
     assert_eq!(rt; calendar.take(&rt, &mut pass, 4), Ok(TakeEnd::Missed));
+    Ok(())
+}
+
+/// A limit above the time of each event.
+const LIMIT: u64 = 1 << 32;
+
+/// An event of source 0 by its time and number.
+fn event(time: u32, seq: u64) -> Event
+    ensures { result.seq ≡ seq }
+{
+    Event {
+        time,
+        src: 0,
+        seq,
+        dst: 1,
+        load: 7,
+    }
+}
+
+/// The answer of a take that took the event of this time and number.
+fn taken(time: u32, seq: u64) -> TakeEnd {
+    TakeEnd::Taken(event(time, seq), Route::Bucket(0))
+}
+
+/// Puts two events with the one pass of any set that is empty, and takes three times.
+fn put_and_take<R: Wait, S: EventSet>(
+    rt: &R,
+    set: &S,
+    pass: &mut S::Pass,
+) -> Result<[TakeEnd; 3], Short>
+    requires of { S.is_of set.now pass.old }
+    requires one { (S.setup set.now).workers ≡ 1 }
+    requires dealt { IsDealt [] 1 0 (S.view pass.old) }
+    ensures of { S.is_of set.now pass.new }
+    ensures number { OnOk result ((S.view pass.new).number ≡ 0) }
+{
+    set.put(rt, pass, &event(9, 0))?;
+    set.put(rt, pass, &event(3, 1))?;
+    let first = set.take(rt, pass, LIMIT)?;
+    let second = set.take(rt, pass, LIMIT)?;
+    let third = set.take(rt, pass, LIMIT)?;
+    Ok([first, second, third])
+}
+
+/// By any maker, makes a set for one caller, puts and takes there, and closes it.
+fn used_alone<R: Wait, M: SetMaker>(
+    rt: &R,
+    maker: &mut M,
+    alloc: Global,
+) -> Result<[TakeEnd; 3], Short>
+where
+    M::Set: Drop,
+{
+    let Ok((set, whole)) = maker.make(alloc, 1, 4) else {
+        return Err(Short::Memory);
+    };
+    let mut passes = set.deal(whole, 1);
+    let mut pass = set.lift(&mut passes, 0);
+    let ends = put_and_take(rt, &set, &mut pass)?;
+    set.lower(&mut passes, pass);
+    let whole = set.gather(passes);
+    maker.close(set, whole);
+    Ok(ends)
+}
+
+#[test]
+fn a_calendar_answers_as_a_plain_set(rt: HostRuntime) -> Result<(), Fail> {
+    let alloc = rt.alloc();
+    let ends = [taken(3, 1), taken(9, 0), TakeEnd::Missed];
+    let mut calendars = CalendarMaker::new(alloc);
+    let mut plain = PlainMaker::new(alloc);
+    assert_eq!(rt; used_alone(&rt, &mut calendars, alloc), Ok(ends));
+    assert_eq!(rt; used_alone(&rt, &mut plain, alloc), Ok(ends));
+    let history = plain.last().unwrap_or(&[]);
+    assert_eq!(rt; history.len(), 12);
+    assert_eq!(rt; judge(history), Ok(()));
     Ok(())
 }
