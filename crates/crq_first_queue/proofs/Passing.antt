@@ -9,34 +9,35 @@ use mathlib.Core.Logic.{dite}
 use native.Mathlib.Decide.{ℕ_discrete}
 use Rattle.crq_base.specs.declared.event.Event.{Event}
 use Rattle.crq_base.specs.declared.entry.Entry.{Entry}
-use Rattle.crq_base.specs.declared.entry.Entry.TheVariants.{Put}
-use Rattle.crq_base.specs.declared.answers.PutEnd.{PutEnd}
-use Rattle.crq_base.specs.declared.answers.PutEnd.TheVariants.{Settled, Owed}
+use Rattle.crq_base.specs.declared.entry.Entry.TheVariants.{Begin, Put, Take, Miss}
 use Rattle.crq_base.specs.declared.answers.TakeEnd.{TakeEnd}
 use Rattle.crq_base.specs.declared.answers.TakeEnd.TheVariants.{Taken, Missed}
-use Rattle.crq_base.specs.declared.answers.Refusal.{Refusal}
-use Rattle.crq_base.specs.Histories.{puts, outs, put_of, taken_of}
+use Rattle.crq_base.specs.declared.answers.Short.{Short}
+use Rattle.crq_base.specs.declared.answers.Short.TheVariants.{Rows as NoRows, Epochs as NoEpochs, Memory}
+use Rattle.crq_base.specs.Entries.{caller_of}
+use Rattle.crq_base.specs.Histories.{puts, put_of, own as own_of}
 use Rattle.crq_base.specs.Lists.{In}
 use Rattle.crq_base.specs.Sources.{owner_of}
 use Rattle.crq_rule.specs.declared.pass.Pass.{Pass}
 use Rattle.crq_rule.specs.declared.pass.Table.{Table}
 use Rattle.crq_rule.specs.declared.pass.Seating.{Seating}
 use Rattle.crq_rule.specs.declared.pass.Seating.TheVariants.{Here, Lifted}
+use Rattle.crq_rule.specs.ListKinds.{put_entries}
 use Rattle.crq_rule.proofs.HistoryLaws.{in_append}
 use Rattle.crq_rows.specs.Passes.{caller}
 use Rattle.crq_rows.proofs.Slots.{get_here, get_else}
 use Rattle.crq_queue.specs.declared.calendar.Whole.{Whole}
-use Rattle.crq_queue.specs.Wholes.{IsResting, AreResting, AreDealt, history_of}
-use Rattle.crq_queue.specs.Calls.{call, Called, PutAnswers, TakeAnswers}
+use Rattle.crq_queue.specs.Wholes.{IsResting, AreResting, AreDealt, IsGathered, history_of}
+use Rattle.crq_queue.specs.Waits.{AreBegins, AddsBegun, PutAdded, TakeAdded}
 use Rattle.crq_first_queue.specs.declared.Trouble.{Trouble}
-use Rattle.crq_first_queue.specs.Deeds.{IsNew, Did, if_put, if_taken}
+use Rattle.crq_first_queue.specs.Deeds.{IsNew, Did, EndsEmpty, HasPlayed, named, if_put}
 
 -- nothing done
-pub nothing : {table : Table} {pass : Pass} → IsResting table pass → Did table pass pass [] []
-nothing {table} {pass} rests = record { rests = rests; number = refl; deal = refl; since = []; own = sym (append-nil (caller table pass).own); puts_are = refl; outs_are = refl }
+pub nothing : {table : Table} {pass : Pass} → IsResting table pass → Did table pass pass []
+nothing {table} {pass} rests = record { rests = rests; number = refl; deal = refl; since = []; own = sym (append-nil (caller table pass).own); puts_are = refl }
 
 -- one thing after another
-pub both : {table : Table} {a b c : Pass} {put put' taken taken' : List Event} → Did table a b put taken → Did table b c put' taken' → Did table a c (put ++ put') (taken ++ taken')
+pub both : {table : Table} {a b c : Pass} {put put' : List Event} → Did table a b put → Did table b c put' → Did table a c (put ++ put')
 both {table} {a} x y = record {
   rests = y.rests;
   number = y.number ∙ x.number;
@@ -44,27 +45,37 @@ both {table} {a} x y = record {
   since = x.since ++ y.since;
   own = y.own ∙ (ap (λ es. es ++ y.since) x.own ∙ append_assoc (caller table a).own x.since y.since);
   puts_are = filter_map-append put_of x.since y.since ∙ (λ i. x.puts_are i ++ y.puts_are i);
-  outs_are = filter_map-append taken_of x.since y.since ∙ (λ i. x.outs_are i ++ y.outs_are i);
 }
 
--- a call of the queue, after others that did nothing
-module _ {table : Table} {old mid new : Pass} (x : Did table old mid [] []) (budget : ℕ) where
-  did : {es : List Entry} → Called (call table budget mid) new es → Did table old new (puts es) (outs es)
-  did {es} c = both x (record { rests = c.rests; number = c.number; deal = c.deal; since = es; own = c.own; puts_are = refl; outs_are = refl })
+-- Begins put nothing
+puts_begun : (k : ℕ) (begins entries : List Entry) → AreBegins k begins → puts (begins ++ entries) ≡ puts entries
+puts_begun k [] entries are = refl
+puts_begun k (x ∷ xs) entries are = ap (λ y. cons_option (put_of y) (puts (xs ++ entries))) are.0 ∙ puts_begun k xs entries are.1
 
-  pub put_done : (e : Event) (end : PutEnd) → PutAnswers (call table budget mid) e new (Ok end) → Did table old new (e ∷ []) []
-  put_done e Settled a = did a.0.called
-  put_done e Owed a = absurd a
+-- a call that waits
+module _ {table : Table} {old new : Pass} where
+  did : (entries : List Entry) → AddsBegun table old new entries → Did table old new (puts entries)
+  did entries a = record { rests = a.2.rests; number = a.2.number; deal = a.2.deal; since = a.0 ++ Begin old.number ∷ entries; own = a.2.own; puts_are = puts_begun old.number a.0 (Begin old.number ∷ entries) a.1 }
 
-  pub put_refused : (e : Event) (r : Refusal) → PutAnswers (call table budget mid) e new (Err r) → Did table old new [] []
-  put_refused e r a = ⊎_elim (λ s. did s.called) (λ b. did b.on.called) a
+  pub put_done : (e : Event) → PutAdded table e old new (Ok tt) → Did table old new (e ∷ [])
+  put_done e a = did (put_entries old.number e) a
 
-  pub take_done : (limit : ℕ) (end : TakeEnd) → TakeAnswers (call table budget mid) limit new (Ok end) → Did table old new [] (if_taken (Ok end))
-  take_done limit (Taken e route) a = did a.0.called
-  take_done limit Missed a = did a.0.called
+  pub put_refused : (e : Event) (short : Short) → PutAdded table e old new (Err short) → Did table old new []
+  put_refused e NoRows a = did [] a.0
+  put_refused e NoEpochs a = absurd a
+  put_refused e Memory a = absurd a
 
-  pub take_refused : (limit : ℕ) (r : Refusal) → TakeAnswers (call table budget mid) limit new (Err r) → Did table old new [] []
-  take_refused limit r a = ⊎_elim (λ s. did s.called) (λ b. did b.on.called) a
+  pub take_did : (limit : ℕ) (r : Result TakeEnd Short) → TakeAdded table limit old new r → Did table old new []
+  take_did limit (Ok (Taken e route)) a = did (Take old.number e ∷ []) a.0
+  take_did limit (Ok Missed) a = did (Miss old.number limit ∷ []) a
+  take_did limit (Err short) a = absurd a
+
+  pub take_missed : (limit : ℕ) → TakeAdded table limit old new (Ok Missed) → EndsEmpty old.number limit (caller table new).own
+  take_missed limit a = ((caller table old).own ++ a.0, a.2.own ∙ sym (append_assoc (caller table old).own a.0 (Begin old.number ∷ Miss old.number limit ∷ [])))
+
+-- a take that found nothing, after calls that put nothing
+pub missed_last : {table : Table} {first old : Pass} (new : Pass) → Did table first old [] → (limit : ℕ) (end : TakeEnd) → end ≡ Missed → TakeAdded table limit old new (Ok end) → EndsEmpty first.number limit (caller table new).own
+missed_last {table} {first} {old} new x limit end is a = subst (λ n. EndsEmpty n limit (caller table new).own) x.number (take_missed limit (subst (λ end. TakeAdded table limit old new (Ok end)) is a))
 
 -- an entry that puts an event makes it one of those that were put
 later : (o : Option Event) (f : Event) (fs : List Event) → In f fs → In f (cons_option o fs)
@@ -76,7 +87,7 @@ put_within k f [] i = absurd i
 put_within k f (x ∷ es) i = ⊎_elim (λ z. subst (λ y. In f (cons_option (put_of y) (puts es))) z (inl refl)) (λ t. later (put_of x) f (puts es) (put_within k f es t)) i
 
 -- a new event is still new, where only others were put
-pub still_new : {table : Table} {old new : Pass} {put taken : List Event} (e : Event) → Did table old new put taken → ((f : Event) → In f put → f.src ≡ e.src → f.seq ≡ e.seq → ⊥) → IsNew table old e → IsNew table new e
+pub still_new : {table : Table} {old new : Pass} {put : List Event} (e : Event) → Did table old new put → ((f : Event) → In f put → f.src ≡ e.src → f.seq ≡ e.seq → ⊥) → IsNew table old e → IsNew table new e
 still_new {table} {old} {new} {put} e x others fresh = (
   ap (λ d. owner_of table.start.layout.workers d.span e.src) x.deal ∙ (fresh.0 ∙ sym x.number),
   λ k f seen same_src same_seq. ⊎_elim
@@ -122,14 +133,48 @@ module _ (start mid now : List Seating) (first : mid ≡ set start 0 Lifted) whe
     second_free = let w = mid_wide in ap (λ ps. slice_get ps 1) second ∙ get_here mid 1 Lifted (omega arith)
 
 -- two passes that were put back
-pub both_rest : (table : Table) (start now : List Seating) (first second : Pass) → table.start.layout.workers ≡ 2 → length start ≡ 2 → first.number ≡ 0 → second.number ≡ 1 → IsResting table first → IsResting table second
-    → now ≡ set (set start first.number (Here first)) second.number (Here second) → AreResting table now
-both_rest table start now first second two wide zero_is one_is rests_first rests_second is =
-    let e : now ≡ set (set start 0 (Here first)) 1 (Here second) = is ∙ (λ i. set (set start (zero_is i) (Here first)) (one_is i) (Here second)) in
-    let mid = length-set start 0 (Here first) in record {
-      wide = ap length e ∙ (length-set (set start 0 (Here first)) 1 (Here second) ∙ (mid ∙ (wide ∙ sym two)));
-      each = λ k b. dite (ℕ_discrete k 0)
-          (λ z. (first, ap (λ ps. slice_get ps k) e ∙ (get_else (set start 0 (Here first)) 1 k (Here second) (λ o. absurd (omega arith)) ∙ (ap (slice_get (set start 0 (Here first))) z ∙ get_here start 0 (Here first) (omega arith))), zero_is ∙ sym z, rests_first))
-          (λ n. let one : k ≡ 1 = omega arith in
-          (second, ap (λ ps. slice_get ps k) e ∙ (ap (slice_get (set (set start 0 (Here first)) 1 (Here second))) one ∙ get_here (set start 0 (Here first)) 1 (Here second) (omega arith)), one_is ∙ sym one, rests_second));
-    }
+module _ (table : Table) (start now : List Seating) (first second : Pass) (two : table.start.layout.workers ≡ 2) (wide : length start ≡ 2) (zero_is : first.number ≡ 0) (one_is : second.number ≡ 1)
+    (is : now ≡ set (set start first.number (Here first)) second.number (Here second)) where
+  set_now : now ≡ set (set start 0 (Here first)) 1 (Here second)
+  set_now = is ∙ (λ i. set (set start (zero_is i) (Here first)) (one_is i) (Here second))
+
+  pub first_back : slice_get now 0 ≡ Some (Here first)
+  first_back = ap (λ ps. slice_get ps 0) set_now ∙ (get_else (set start 0 (Here first)) 1 0 (Here second) (λ o. absurd (omega arith)) ∙ get_here start 0 (Here first) (omega arith))
+
+  pub second_back : slice_get now 1 ≡ Some (Here second)
+  second_back = let mid = length-set start 0 (Here first) in ap (λ ps. slice_get ps 1) set_now ∙ get_here (set start 0 (Here first)) 1 (Here second) (omega arith)
+
+  pub both_rest : IsResting table first → IsResting table second → AreResting table now
+  both_rest rests_first rests_second = record {
+    wide = ap length set_now ∙ (length-set (set start 0 (Here first)) 1 (Here second) ∙ (length-set start 0 (Here first) ∙ (wide ∙ sym two)));
+    each = λ k b. dite (ℕ_discrete k 0)
+        (λ z. (first, ap (slice_get now) z ∙ first_back, zero_is ∙ sym z, rests_first))
+        (λ n. let one : k ≡ 1 = omega arith in (second, ap (slice_get now) one ∙ second_back, one_is ∙ sym one, rests_second));
+  }
+
+-- a caller whose pass was dealt after an empty history, and the events that it put since
+pub record HasPut (table : Table) (pass : Pass) (put : List Event) : Type 0 where
+  pub new : (caller table pass).deal.history ≡ []
+  pub puts_are : puts (caller table pass).own ≡ put
+
+pub has_put : (table : Table) (whole : Whole) (places : List Seating) (k : ℕ) (old now : Pass) (put : List Event) → AreDealt table whole 1 places → slice_get places k ≡ Some (Here old) → history_of whole ≡ [] → Did table old now put → HasPut table now put
+has_put table whole places k old now put dealt at empty x = let d = dealt.each k old at in record {
+  new = ap (λ d. d.history) (x.deal ∙ d.deal) ∙ empty;
+  puts_are = ap puts (x.own ∙ ap (λ es. es ++ x.since) d.own) ∙ x.puts_are;
+}
+
+-- what both made is one legal history
+module _ (table : Table) (places : List Seating) (whole : Whole) (gathered : IsGathered table places whole) where
+  part_of : (k : ℕ) (pass : Pass) → slice_get places k ≡ Some (Here pass) → (caller table pass).deal.history ≡ [] → (history_of whole ≡ gathered.since) × (own_of k (history_of whole) ≡ (caller table pass).own)
+  part_of k pass at new = let e = gathered.each k pass at in let all = e.0 ∙ ap (λ h. h ++ gathered.since) new in (all, ap (own_of k) all ∙ e.1)
+
+  pub have_played : (first second : Pass) → table.start.layout.workers ≡ 2 → slice_get places 0 ≡ Some (Here first) → slice_get places 1 ≡ Some (Here second)
+      → HasPut table first (named 0 0 7 ∷ named 0 1 2 ∷ []) → HasPut table second (named 1 0 3 ∷ named 1 1 7 ∷ []) → EndsEmpty 0 100 (caller table first).own → HasPlayed (history_of whole)
+  have_played first second two first_at second_at first_put second_put ends =
+      let one = part_of 0 first first_at first_put.new in let other = part_of 1 second second_at second_put.new in record {
+        legal = gathered.legal;
+        first = ap puts one.1 ∙ first_put.puts_are;
+        second = ap puts other.1 ∙ second_put.puts_are;
+        callers = λ e i. subst (λ n. caller_of e < n) two (gathered.inside e (subst (In e) one.0 i));
+        all = (ends.0, one.1 ∙ ends.1);
+      }

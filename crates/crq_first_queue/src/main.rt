@@ -1,39 +1,36 @@
 //! The program `crq_first_queue`: two callers put events into one queue, and one of them takes them in order.
 #![tactic(auto)]
 
-ghost use Rattle.std.specs.Prelude.{◌≡◌, [], ◌∷◌};
-ghost use Rattle.crq_queue.specs.Wholes.{IsResting};
-ghost use Rattle.crq_first_queue.specs.Deeds.{IsNew, Did, if_put, if_taken};
+ghost use Rattle.std.specs.Prelude.{◌≡◌, [], IfOk};
+ghost use Rattle.crq_rows.specs.Passes.{caller};
+ghost use Rattle.crq_queue.specs.Wholes.{IsResting, last_history};
+ghost use Rattle.crq_first_queue.specs.Deeds.{IsNew, Did, EndsEmpty, HasPlayed, named, if_put};
 
-use crq_base::{Event, First, Refusal, TakeEnd};
-use crq_queue::{Calendar, Pass};
+use crq_base::{Event, First, TakeEnd};
+use crq_queue::{Calendar, Closed, Pass};
+use std::alloc::Global;
 use std::process::ExitCode;
+use std::sync::Wait;
 
 /// The rows of each caller: an event that is pending is in a row.
 const ROWS: u32 = 16;
-/// The exchanges that one call may make before it answers Again.
-const BUDGET: u32 = 16;
-/// How often a call is made before the program gives up.
-const TRIES: u32 = 1000;
 /// Events before this time are taken.
 const LIMIT: u64 = 100;
-/// How many events are taken.
-const EVENTS: u32 = 4;
 
 /// Why the program ends early.
 #[derive(Drop)]
 enum Trouble {
     /// There is no memory for the queue.
     Memory,
-    /// A call was refused.
-    Refused(Refusal),
+    /// No row is free: too many events are pending.
+    Rows,
     /// The output can't be written.
     Output,
 }
 
 /// An event for object 1. Its key, by which events are ordered, is its time, its source and its number.
 fn event(src: u32, seq: u64, time: u32) -> Event
-    ensures { result ≡ record { time = time; src = src; seq = seq; dst = 1; load = 0 } }
+    ensures { result ≡ named src seq time }
 {
     Event {
         time,
@@ -44,80 +41,69 @@ fn event(src: u32, seq: u64, time: u32) -> Event
     }
 }
 
-/// Puts an event. The call is made again where other callers were in the way.
-fn put(calendar: &Calendar, pass: &mut Pass, event: &Event) -> Result<(), Trouble>
+/// Puts an event. It waits while other callers are in the way.
+fn put(rt: &impl Wait, calendar: &Calendar, pass: &mut Pass, event: &Event) -> Result<(), Trouble>
     requires rests { IsResting calendar.now.table pass.old }
     requires new { IsNew calendar.now.table pass.old event.now }
-    ensures { Did calendar.now.table pass.old pass.new (if_put result event.now) [] }
+    ensures { Did calendar.now.table pass.old pass.new (if_put result event.now) }
 {
-    for _ in 0..TRIES {
-        match calendar.try_put(pass, event, BUDGET) {
-            Ok(_) => return Ok(()),
-            Err(Refusal::Again { .. }) => {}
-            // No row is free: too many events are pending (Rows), or a caller keeps rows from use (Held).
-            Err(refusal) => return Err(Trouble::Refused(refusal)),
+    match calendar.put(rt, pass, event) {
+        Ok(()) => Ok(()),
+        Err(_) => Err(Trouble::Rows),
+    }
+}
+
+/// Prints an event.
+fn tell(rt: &impl Print, event: &Event) -> Result<(), Trouble> {
+    match println!(rt; "time {}, source {}", event.time, event.src) {
+        Ok(()) => Ok(()),
+        Err(_) => Err(Trouble::Output),
+    }
+}
+
+/// Takes events until there is none below the limit, and prints each.
+fn print(rt: &(impl Print + Wait), calendar: &Calendar, pass: &mut Pass) -> Result<(), Trouble>
+    requires { IsResting calendar.now.table pass.old }
+    ensures did { Did calendar.now.table pass.old pass.new [] }
+    ensures all { IfOk result (λ u. EndsEmpty pass.old.number 100 (caller calendar.now.table pass.new).own) }
+{
+    for _ in rt.forever() {
+        match calendar.take(rt, pass, LIMIT) {
+            Ok(TakeEnd::Taken(event, _)) => tell(rt, &event)?,
+            Ok(TakeEnd::Missed) => return Ok(()),
+            // A take that waits gives no error.
+            Err(_) => unreachable!(),
         }
     }
-    Err(Trouble::Refused(Refusal::Again { turns: BUDGET }))
+    unreachable!()
 }
 
-/// Takes the least event below the limit, if there is one. The call is made again where other callers were in the way.
-fn take(calendar: &Calendar, pass: &mut Pass) -> Result<TakeEnd, Trouble>
-    requires { IsResting calendar.now.table pass.old }
-    ensures { Did calendar.now.table pass.old pass.new [] (if_taken result) }
+/// Puts two events by each of two callers, and takes them in order. It answers the history of all calls, for proofs.
+fn run(rt: &(impl Print + Wait), alloc: Global) -> Result<Closed, Trouble>
+    ensures { IfOk result (λ closed. HasPlayed (last_history closed)) }
 {
-    for _ in 0..TRIES {
-        match calendar.try_take(pass, LIMIT, BUDGET) {
-            Ok(end) => return Ok(end),
-            Err(Refusal::Again { .. }) => {}
-            Err(refusal) => return Err(Trouble::Refused(refusal)),
-        }
-    }
-    Err(Trouble::Refused(Refusal::Again { turns: BUDGET }))
-}
-
-/// Takes events, and prints each.
-fn print(rt: &HostRuntime, calendar: &Calendar, pass: &mut Pass) -> Result<(), Trouble>
-    requires { IsResting calendar.now.table pass.old }
-    ensures rests { IsResting calendar.now.table pass.new }
-    ensures number { pass.new.number ≡ pass.old.number }
-{
-    for _ in 0..EVENTS {
-        let TakeEnd::Taken(event, _) = take(calendar, pass)? else {
-            return Ok(());
-        };
-        let Ok(()) = println!(rt; "time {}, source {}", event.time, event.src) else {
-            return Err(Trouble::Output);
-        };
-    }
-    Ok(())
-}
-
-/// Puts two events by each of two callers, and takes them in order.
-fn run(rt: &HostRuntime) -> Result<(), Trouble> {
-    let Ok((calendar, whole)) = Calendar::make(rt.alloc(), 2, ROWS, First::of_program()) else {
+    let Ok((calendar, whole)) = Calendar::make(alloc, 2, ROWS, First::of_program()) else {
         return Err(Trouble::Memory);
     };
     // Each caller makes its calls with a pass of its own, which may go to another thread.
     let mut passes = calendar.deal(whole, 1);
     let mut first = passes.lift(0);
     let mut second = passes.lift(1);
-    put(&calendar, &mut first, &event(0, 0, 7))?;
-    put(&calendar, &mut first, &event(0, 1, 2))?;
-    put(&calendar, &mut second, &event(1, 0, 3))?;
-    put(&calendar, &mut second, &event(1, 1, 7))?;
+    put(rt, &calendar, &mut first, &event(0, 0, 7))?;
+    put(rt, &calendar, &mut first, &event(0, 1, 2))?;
+    put(rt, &calendar, &mut second, &event(1, 0, 3))?;
+    put(rt, &calendar, &mut second, &event(1, 1, 7))?;
     print(rt, &calendar, &mut first)?;
     // All passes are made one again. The history that they made together is legal.
     passes.lower(first);
     passes.lower(second);
     let whole = calendar.gather(passes);
-    calendar.close(whole);
-    Ok(())
+    Ok(calendar.close(whole))
 }
 
 fn main(rt: HostRuntime) -> ExitCode {
-    match run(&rt) {
-        Ok(()) => ExitCode::from(0),
+    match run(&rt, rt.alloc()) {
+        Ok(_) => ExitCode::from(0),
         Err(_) => ExitCode::from(1),
     }
 }

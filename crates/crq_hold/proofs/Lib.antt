@@ -1,4 +1,5 @@
 pub mod Working
+pub mod Waiting
 pub mod Lifting
 pub mod Teaming
 pub mod Totals

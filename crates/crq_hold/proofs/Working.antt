@@ -22,6 +22,7 @@ use Rattle.crq_rule.specs.ListKinds.{put_entries}
 use Rattle.crq_rows.specs.Passes.{caller, Stepped}
 use Rattle.crq_queue.specs.Wholes.{IsResting}
 use Rattle.crq_queue.specs.Calls.{call, Called, PutAnswers, TakeAnswers, SettleAnswers}
+use Rattle.crq_queue.specs.Waits.{Adds}
 use Rattle.crq_hold.specs.declared.worker.Worker.{Worker}
 use Rattle.crq_hold.specs.Workers.{IsNumbered, IsWorker, WorksOn, PutAndTook, next_event, put_count, takes_of}
 
@@ -35,14 +36,18 @@ puts_append xs ys = ap length (filter_map-append put_of xs ys) ∙ length-append
 outs_append : (xs ys : List Entry) → length (outs (xs ++ ys)) ≡ length (outs xs) + length (outs ys)
 outs_append xs ys = ap length (filter_map-append taken_of xs ys) ∙ length-append (outs xs) (outs ys)
 
--- what a call with these entries leaves, where each event of the worker's source among them has a number below `next`
-module _ (table : Table) (budget : ℕ) (worker : Worker) (new : Pass) (next : ℕ) (entries : List Entry) (w : IsWorker table worker) (c : Called (call table budget worker.pass) new entries) where
+-- a call adds its entries
+adds_of : {table : Table} {budget : ℕ} {old new : Pass} {entries : List Entry} → Called (call table budget old) new entries → Adds table old new entries
+adds_of c = record { rests = c.rests; number = c.number; deal = c.deal; own = c.own }
+
+-- what calls that added these entries leave, where each event of the worker's source among them has a number below `next`
+module _ (table : Table) (worker : Worker) (new : Pass) (next : ℕ) (entries : List Entry) (w : IsWorker table worker) (c : Adds table worker.pass new entries) where
   numbered_on : worker.next ≤ next → ((k : ℕ) (e : Event) → In (Put k e) entries → e.src ≡ worker.pass.number → e.seq < next) → IsNumbered table new next
   numbered_on up here k e i s = let from : e.src ≡ worker.pass.number = s ∙ c.number in let before : In (Put k e) (caller table worker.pass).deal.history ⊎ In (Put k e) (caller table worker.pass).own → e.seq < next = λ i. let b = w.numbered k e i from in omega arith in
       ⊎_elim (λ i. before (inl (subst (λ d. In (Put k e) d.history) c.deal i)))
       (λ i. ⊎_elim (λ i. before (inr i)) (λ i. here k e i from) (in_either (caller table worker.pass).own entries (Put k e) (subst (In (Put k e)) c.own i))) i
 
-  worker_on : next ≡ worker.next + length (puts entries) → ((k : ℕ) (e : Event) → In (Put k e) entries → e.src ≡ worker.pass.number → e.seq < next) → PutAndTook table worker (record worker { pass = new; next = next }) (length (puts entries)) (length (outs entries))
+  pub worker_on : next ≡ worker.next + length (puts entries) → ((k : ℕ) (e : Event) → In (Put k e) entries → e.src ≡ worker.pass.number → e.seq < next) → PutAndTook table worker (record worker { pass = new; next = next }) (length (puts entries)) (length (outs entries))
   worker_on up here = let put : length (puts (caller table new).own) ≡ put_count table worker + length (puts entries) = ap (λ es. length (puts es)) c.own ∙ puts_append (caller table worker.pass).own entries in record {
     on = record {
       worker = record { rests = c.rests; span = ap (λ d. d.span) c.deal ∙ w.span; numbered = numbered_on (omega arith) here; counted = let counted = w.counted in omega arith };
@@ -81,17 +86,17 @@ went_counted {table} {a} {b} x low high = record {
 none_put : {P : Type 0} (k : ℕ) (e : Event) → In (Put k e) [] → P
 none_put k e i = absurd i
 
-begin_no_put : {P : Type 0} (j k : ℕ) (e : Event) → In (Put k e) (Begin j ∷ []) → P
+pub begin_no_put : {P : Type 0} (j k : ℕ) (e : Event) → In (Put k e) (Begin j ∷ []) → P
 begin_no_put j k e i = ⊎_elim (λ (z : Put k e ≡ Begin j). absurd (cc)) (λ n. absurd n) i
 
 -- the one put among the entries of a put
-one_put : (j i k : ℕ) (e f : Event) → In (Put k f) (Begin j ∷ put_entries i e) → f ≡ e
+pub one_put : (j i k : ℕ) (e f : Event) → In (Put k f) (Begin j ∷ put_entries i e) → f ≡ e
 one_put j i k e f h = ⊎_elim (λ (z : Put k f ≡ Begin j). absurd (cc)) (λ h. ⊎_elim (λ (z : Put k f ≡ Put i e). cc) (λ h. ⊎_elim (λ (z : Put k f ≡ Settled i e). absurd (cc)) (λ n. absurd n) h) h) h
 
-take_no_put : {P : Type 0} (j i k : ℕ) (e f : Event) → In (Put k f) (Begin j ∷ Take i e ∷ []) → P
+pub take_no_put : {P : Type 0} (j i k : ℕ) (e f : Event) → In (Put k f) (Begin j ∷ Take i e ∷ []) → P
 take_no_put j i k e f h = ⊎_elim (λ (z : Put k f ≡ Begin j). absurd (cc)) (λ h. ⊎_elim (λ (z : Put k f ≡ Take i e). absurd (cc)) (λ n. absurd n) h) h
 
-miss_no_put : {P : Type 0} (j i k l : ℕ) (f : Event) → In (Put k f) (Begin j ∷ Miss i l ∷ []) → P
+pub miss_no_put : {P : Type 0} (j i k l : ℕ) (f : Event) → In (Put k f) (Begin j ∷ Miss i l ∷ []) → P
 miss_no_put j i k l f h = ⊎_elim (λ (z : Put k f ≡ Begin j). absurd (cc)) (λ h. ⊎_elim (λ (z : Put k f ≡ Miss i l). absurd (cc)) (λ n. absurd n) h) h
 
 -- an event with the worker's next number is fresh
@@ -108,21 +113,21 @@ module _ (table : Table) (worker : Worker) (w : IsWorker table worker) where
 
   pub put_done : (budget : ℕ) (new : Pass) (time load : ℕ) (end : PutEnd) → PutAnswers (call table budget worker.pass) (next_event worker time load) new (Ok end) → PutAndTook table worker (record worker { pass = new; next = worker.next + 1 }) 1 0
   put_done budget new time load IsSettled a = let e : Event = next_event worker time load in
-      worker_on table budget worker new (worker.next + 1) (Begin worker.pass.number ∷ put_entries worker.pass.number e) w a.0.called refl (λ k f i s. let same = ap (λ (e : Event). e.seq) (one_put _ _ k e f i) in omega arith)
+      worker_on table worker new (worker.next + 1) (Begin worker.pass.number ∷ put_entries worker.pass.number e) w (adds_of a.0.called) refl (λ k f i s. let same = ap (λ (e : Event). e.seq) (one_put _ _ k e f i) in omega arith)
   put_done budget new time load Owed a = absurd a
 
   stopped : (budget : ℕ) (new : Pass) → Called (call table budget worker.pass) new [] → PutAndTook table worker (record worker { pass = new }) 0 0
-  stopped budget new a = worker_on table budget worker new worker.next [] w a (omega arith) (λ k f i s. none_put k f i)
+  stopped budget new a = worker_on table worker new worker.next [] w (adds_of a) (omega arith) (λ k f i s. none_put k f i)
 
   begun : (budget : ℕ) (new : Pass) → Called (call table budget worker.pass) new (Begin worker.pass.number ∷ []) → PutAndTook table worker (record worker { pass = new }) 0 0
-  begun budget new a = worker_on table budget worker new worker.next (Begin worker.pass.number ∷ []) w a (omega arith) (λ k f i s. begin_no_put _ k f i)
+  begun budget new a = worker_on table worker new worker.next (Begin worker.pass.number ∷ []) w (adds_of a) (omega arith) (λ k f i s. begin_no_put _ k f i)
 
   pub put_refused : (budget : ℕ) (new : Pass) (e : Event) (r : Refusal) → PutAnswers (call table budget worker.pass) e new (Err r) → PutAndTook table worker (record worker { pass = new }) 0 0
   put_refused budget new e r a = ⊎_elim (λ s. stopped budget new s.called) (λ b. begun budget new b.on.called) a
 
   pub take_ended : (budget : ℕ) (new : Pass) (limit : ℕ) (r : Result TakeEnd Refusal) → TakeAnswers (call table budget worker.pass) limit new r → PutAndTook table worker (record worker { pass = new }) 0 (takes_of r)
-  take_ended budget new limit (Ok (Taken e route)) a = worker_on table budget worker new worker.next (Begin worker.pass.number ∷ Take worker.pass.number e ∷ []) w a.0.called (omega arith) (λ k f i s. take_no_put _ _ k e f i)
-  take_ended budget new limit (Ok Missed) a = worker_on table budget worker new worker.next (Begin worker.pass.number ∷ Miss worker.pass.number limit ∷ []) w a.0.called (omega arith) (λ k f i s. miss_no_put _ _ k limit f i)
+  take_ended budget new limit (Ok (Taken e route)) a = worker_on table worker new worker.next (Begin worker.pass.number ∷ Take worker.pass.number e ∷ []) w (adds_of a.0.called) (omega arith) (λ k f i s. take_no_put _ _ k e f i)
+  take_ended budget new limit (Ok Missed) a = worker_on table worker new worker.next (Begin worker.pass.number ∷ Miss worker.pass.number limit ∷ []) w (adds_of a.0.called) (omega arith) (λ k f i s. miss_no_put _ _ k limit f i)
   take_ended budget new limit (Err r) a = ⊎_elim (λ s. stopped budget new s.called) (λ b. begun budget new b.on.called) a
 
   pub settle_ended : (budget : ℕ) (new : Pass) (r : Result (Unit {0}) Refusal) → SettleAnswers (call table budget worker.pass) new r → PutAndTook table worker (record worker { pass = new }) 0 0

@@ -16,8 +16,6 @@ use std::thread::{self, Threads};
 
 /// The rows of each worker.
 const ROWS: u32 = 1024;
-/// The exchanges that a call may make before it is refused.
-const BUDGET: u32 = 1024;
 /// A limit above the time of each event.
 const LIMIT: u64 = 1 << 32;
 /// How many times a new event can fall on, and how many steps later an event can be put back.
@@ -47,13 +45,13 @@ pub struct Held {
     pub closed: Closed,
 }
 
-/// Puts an event. It waits while it is refused.
+/// Puts an event. It waits while no row is to be had, too, since the others go on to take events.
 fn put_surely<R: Wait>(rt: &R, queue: &Calendar, worker: &mut Worker, time: u32, load: u64)
     requires { IsWorker queue.now.table worker.old }
     ensures { PutAndTook queue.now.table worker.old worker.new 1 0 }
 {
     for _ in rt.forever() {
-        if worker.put(queue, time, load, BUDGET).is_ok() {
+        if worker.put_waiting(rt, queue, time, load).is_ok() {
             return;
         }
         thread::yield_now();
@@ -67,7 +65,7 @@ fn take_surely<R: Wait>(rt: &R, queue: &Calendar, worker: &mut Worker) -> Event
     ensures { PutAndTook queue.now.table worker.old worker.new 0 1 }
 {
     for _ in rt.forever() {
-        if let Ok(TakeEnd::Taken(event, _)) = worker.take(queue, LIMIT, BUDGET) {
+        if let Ok(TakeEnd::Taken(event, _)) = worker.take_waiting(rt, queue, LIMIT) {
             return event;
         }
         thread::yield_now();
