@@ -8,6 +8,7 @@ mod churning;
 mod owing;
 mod phases;
 mod scarcity;
+mod ways;
 
 use crate::team::team;
 use crate::words::job_of;

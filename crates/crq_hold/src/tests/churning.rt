@@ -3,20 +3,19 @@ ghost use Rattle.crq_base.specs.Sizes.{IsTeam};
 ghost use Rattle.crq_hold.specs.Workers.{IsWorker, WorksOn};
 
 use crate::team::team;
-use crate::tests::LIMIT;
+use crate::tests::ways::{Way, put_once, take_once};
 use crate::worker::Worker;
 use crq_base::{Event, First, MOST_WORKERS, TakeEnd};
 use crq_queue::{Calendar, Memory};
 use crq_sim::draw;
 use std::alloc::{AllocError, Global};
 use std::process::Abort;
+use std::sync::Wait;
 use std::test::Fail;
 use std::thread::{self, Threads};
 
 /// How often a refused call is tried again.
 const TRIES: u32 = 1_000_000;
-/// The exchanges that a call may make: so few that it is often refused.
-const BUDGET: u32 = 2;
 /// How many events a caller puts before it takes as many.
 const BATCH: u32 = 8;
 
@@ -59,13 +58,13 @@ pub(crate) fn all_planned(
 }
 
 /// Puts the worker's next event, and says whether that was done.
-fn put_next(queue: &Calendar, worker: &mut Worker) -> bool
+fn put_next<R: Wait>(rt: &R, queue: &Calendar, worker: &mut Worker, way: Way) -> bool
     requires { IsWorker queue.now.table worker.old }
     ensures { WorksOn queue.now.table worker.old worker.new }
 {
     let event = planned(worker.pass.number, worker.next);
     for _ in 0..TRIES {
-        if worker.put(queue, event.time, event.load, BUDGET).is_ok() {
+        if put_once(rt, queue, worker, &event, way) {
             return true;
         }
         thread::yield_now();
@@ -74,12 +73,18 @@ fn put_next(queue: &Calendar, worker: &mut Worker) -> bool
 }
 
 /// Puts the worker's next events, and says whether all were put.
-pub(crate) fn put_some(queue: &Calendar, worker: &mut Worker, count: u32) -> bool
+pub(crate) fn put_some<R: Wait>(
+    rt: &R,
+    queue: &Calendar,
+    worker: &mut Worker,
+    count: u32,
+    way: Way,
+) -> bool
     requires { IsWorker queue.now.table worker.old }
     ensures { WorksOn queue.now.table worker.old worker.new }
 {
     for _ in 0..count {
-        if !put_next(queue, worker) {
+        if !put_next(rt, queue, worker, way) {
             return false;
         }
     }
@@ -87,12 +92,12 @@ pub(crate) fn put_some(queue: &Calendar, worker: &mut Worker, count: u32) -> boo
 }
 
 /// Takes an event, where one comes in time.
-fn take_next(queue: &Calendar, worker: &mut Worker) -> Option<Event>
+fn take_next<R: Wait>(rt: &R, queue: &Calendar, worker: &mut Worker, way: Way) -> Option<Event>
     requires { IsWorker queue.now.table worker.old }
     ensures { WorksOn queue.now.table worker.old worker.new }
 {
     for _ in 0..TRIES {
-        if let Ok(TakeEnd::Taken(event, _)) = worker.take(queue, LIMIT, BUDGET) {
+        if let Some(TakeEnd::Taken(event, _)) = take_once(rt, queue, worker, way) {
             return Some(event);
         }
         thread::yield_now();
@@ -101,12 +106,18 @@ fn take_next(queue: &Calendar, worker: &mut Worker) -> Option<Event>
 }
 
 /// Takes a batch of events, and says whether all were taken and noted.
-fn take_some(queue: &Calendar, worker: &mut Worker, taken: &mut Vec<Event>) -> bool
+fn take_some<R: Wait>(
+    rt: &R,
+    queue: &Calendar,
+    worker: &mut Worker,
+    taken: &mut Vec<Event>,
+    way: Way,
+) -> bool
     requires { IsWorker queue.now.table worker.old }
     ensures { WorksOn queue.now.table worker.old worker.new }
 {
     for _ in 0..BATCH {
-        let Some(event) = take_next(queue, worker) else {
+        let Some(event) = take_next(rt, queue, worker, way) else {
             return false;
         };
         if taken.push(event).is_err() {
@@ -117,14 +128,21 @@ fn take_some(queue: &Calendar, worker: &mut Worker, taken: &mut Vec<Event>) -> b
 }
 
 /// Puts and takes so many batches of events.
-fn churn(alloc: Global, queue: &Calendar, mut worker: Worker, batches: u32) -> Record
+fn churn<R: Wait>(
+    rt: &R,
+    alloc: Global,
+    queue: &Calendar,
+    mut worker: Worker,
+    batches: u32,
+    way: Way,
+) -> Record
     requires { IsWorker queue.now.table worker }
 {
     let mut taken = Vec::new(alloc);
     let mut whole = true;
     for _ in 0..batches {
-        whole = put_some(queue, &mut worker, BATCH)
-            && take_some(queue, &mut worker, &mut taken)
+        whole = put_some(rt, queue, &mut worker, BATCH, way)
+            && take_some(rt, queue, &mut worker, &mut taken, way)
             && whole;
     }
     Record {
@@ -135,11 +153,12 @@ fn churn(alloc: Global, queue: &Calendar, mut worker: Worker, batches: u32) -> R
 }
 
 /// Has so many callers put and take so many batches each, all at once.
-fn churn_all<R: Threads + Sync>(
+fn churn_all<R: Threads + Wait + Sync>(
     rt: &R,
     alloc: Global,
     callers: u32,
     batches: u32,
+    way: Way,
 ) -> Result<Vec<Record>, Memory>
     requires { IsTeam callers }
 {
@@ -150,23 +169,24 @@ fn churn_all<R: Threads + Sync>(
         workers,
         &|worker: Worker| -> Record
             requires { IsWorker queue.now.table worker }
-        { churn(alloc, queue, worker, batches) },
+        { churn(rt, alloc, queue, worker, batches, way) },
     )?;
     Ok(records)
 }
 
 /// Checks that what so many callers put comes out, each event once.
-fn nothing_is_lost<R: Threads + Abort + Sync>(
+fn nothing_is_lost<R: Threads + Wait + Abort + Sync>(
     rt: &R,
     alloc: Global,
     callers: u32,
+    way: Way,
 ) -> Result<(), Fail>
     requires { IsTeam callers }
 {
     let batches = 2500u32.div_ceil(callers);
     let each = u64::from(batches) * u64::from(BATCH);
     let mut all = Vec::new(alloc);
-    for record in churn_all(rt, alloc, callers, batches)? {
+    for record in churn_all(rt, alloc, callers, batches, way)? {
         assert!(rt; record.whole, "{callers} callers: one gave up");
         assert_eq!(rt; record.puts, each, "{callers} callers");
         assert_eq!(rt; record.taken.len() as u64, each, "{callers} callers");
@@ -186,8 +206,16 @@ fn nothing_is_lost<R: Threads + Abort + Sync>(
 
 #[test]
 fn nothing_is_lost_or_invented(rt: HostRuntime) -> Result<(), Fail> {
-    nothing_is_lost(&rt, rt.alloc(), 2)?;
-    nothing_is_lost(&rt, rt.alloc(), 4)?;
-    nothing_is_lost(&rt, rt.alloc(), MOST_WORKERS)?;
+    nothing_is_lost(&rt, rt.alloc(), 2, Way::Tries)?;
+    nothing_is_lost(&rt, rt.alloc(), 4, Way::Tries)?;
+    nothing_is_lost(&rt, rt.alloc(), MOST_WORKERS, Way::Tries)?;
+    Ok(())
+}
+
+#[test]
+fn nothing_is_lost_by_waiting(rt: HostRuntime) -> Result<(), Fail> {
+    nothing_is_lost(&rt, rt.alloc(), 2, Way::Waits)?;
+    nothing_is_lost(&rt, rt.alloc(), 4, Way::Waits)?;
+    nothing_is_lost(&rt, rt.alloc(), MOST_WORKERS, Way::Waits)?;
     Ok(())
 }

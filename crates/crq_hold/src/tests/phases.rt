@@ -7,18 +7,18 @@ ghost use Rattle.crq_hold.specs.Teams.{AreWorkers};
 use crate::team::{lift_all, lower_all, team};
 use crate::tests::LIMIT;
 use crate::tests::churning::{all_planned, put_some};
+use crate::tests::ways::{Way, take_once};
 use crate::worker::Worker;
 use crq_base::{Entry, Event, First, MOST_WORKERS, TakeEnd, judge};
 use crq_queue::{Calendar, Memory};
 use std::alloc::{AllocError, Global};
 use std::process::Abort;
+use std::sync::Wait;
 use std::test::Fail;
 use std::thread::{self, Threads};
 
 /// How many calls a caller makes at most.
 const TRIES: u32 = 1_000_000;
-/// The exchanges that a call may make.
-const BUDGET: u32 = 2;
 /// How many events are put.
 const EVENTS: u32 = 256;
 
@@ -34,7 +34,13 @@ struct Record {
 }
 
 /// Has each worker put so many events, all at once.
-fn put_all<R: Threads + Sync>(rt: &R, queue: &Calendar, workers: &mut [Worker], each: u32)
+fn put_all<R: Threads + Wait + Sync>(
+    rt: &R,
+    queue: &Calendar,
+    workers: &mut [Worker],
+    each: u32,
+    way: Way,
+)
     requires { AreWorkers queue.now.table workers.old }
     ensures { AreWorkers queue.now.table workers.new }
 {
@@ -46,29 +52,35 @@ fn put_all<R: Threads + Sync>(rt: &R, queue: &Calendar, workers: &mut [Worker], 
             requires { IsWorker queue.now.table worker.now }
             ensures { WorksOn queue.entry.now.table worker.entry.now worker.exit.now }
         {
-            let _ = put_some(queue, worker, each);
+            let _ = put_some(rt, queue, worker, each, way);
         },
     );
 }
 
 /// Takes until it finds nothing.
-fn take_all(alloc: Global, queue: &Calendar, mut worker: Worker) -> Record
+fn take_all<R: Wait>(
+    rt: &R,
+    alloc: Global,
+    queue: &Calendar,
+    mut worker: Worker,
+    way: Way,
+) -> Record
     requires { IsResting queue.now.table worker.pass }
 {
     let mut taken = Vec::new(alloc);
     let mut missed = false;
     for _ in 0..TRIES {
-        match worker.take(queue, LIMIT, BUDGET) {
-            Ok(TakeEnd::Taken(event, _)) => {
+        match take_once(rt, queue, &mut worker, way) {
+            Some(TakeEnd::Taken(event, _)) => {
                 if taken.push(event).is_err() {
                     break;
                 }
             }
-            Ok(TakeEnd::Missed) => {
+            Some(TakeEnd::Missed) => {
                 missed = true;
                 break;
             }
-            Err(_) => thread::yield_now(),
+            None => thread::yield_now(),
         }
     }
     Record {
@@ -79,17 +91,18 @@ fn take_all(alloc: Global, queue: &Calendar, mut worker: Worker) -> Record
 }
 
 /// Has so many callers put so many events each, and then take them all.
-fn put_then_take<R: Threads + Sync>(
+fn put_then_take<R: Threads + Wait + Sync>(
     rt: &R,
     alloc: Global,
     callers: u32,
     each: u32,
+    way: Way,
 ) -> Result<Vec<Record>, Memory>
     requires { IsTeam callers }
 {
     let first = First::of_program();
     let (queue, mut places, mut workers) = team(alloc, callers, EVENTS, first)?;
-    put_all(rt, &queue, workers.as_mut_slice(), each);
+    put_all(rt, &queue, workers.as_mut_slice(), each, way);
     lower_all(&mut places, workers);
     let whole = queue.gather(places);
     let mut places = queue.deal(whole, 1);
@@ -100,7 +113,7 @@ fn put_then_take<R: Threads + Sync>(
         workers,
         &|worker: Worker| -> Record
             requires { IsResting queue.now.table worker.pass }
-        { take_all(alloc, queue, worker) },
+        { take_all(rt, alloc, queue, worker, way) },
     )?;
     Ok(records)
 }
@@ -145,11 +158,16 @@ fn push_misses(history: &mut Vec<Entry>, records: &[Record]) -> Result<(), Alloc
 }
 
 /// Checks what so many callers did.
-fn is_legal<R: Threads + Abort + Sync>(rt: &R, alloc: Global, callers: u32) -> Result<(), Fail>
+fn is_legal<R: Threads + Wait + Abort + Sync>(
+    rt: &R,
+    alloc: Global,
+    callers: u32,
+    way: Way,
+) -> Result<(), Fail>
     requires { IsTeam callers }
 {
     let each = EVENTS / callers;
-    let records = put_then_take(rt, alloc, callers, each)?;
+    let records = put_then_take(rt, alloc, callers, each, way)?;
     for record in records.as_slice() {
         assert!(rt; record.missed, "{callers} callers: one gave up");
         let rises = record.taken.as_slice().is_sorted_by(|a, b| a.is_before(b));
@@ -166,8 +184,16 @@ fn is_legal<R: Threads + Abort + Sync>(rt: &R, alloc: Global, callers: u32) -> R
 
 #[test]
 fn makes_a_legal_history(rt: HostRuntime) -> Result<(), Fail> {
-    is_legal(&rt, rt.alloc(), 2)?;
-    is_legal(&rt, rt.alloc(), 4)?;
-    is_legal(&rt, rt.alloc(), MOST_WORKERS)?;
+    is_legal(&rt, rt.alloc(), 2, Way::Tries)?;
+    is_legal(&rt, rt.alloc(), 4, Way::Tries)?;
+    is_legal(&rt, rt.alloc(), MOST_WORKERS, Way::Tries)?;
+    Ok(())
+}
+
+#[test]
+fn makes_a_legal_history_by_waiting(rt: HostRuntime) -> Result<(), Fail> {
+    is_legal(&rt, rt.alloc(), 2, Way::Waits)?;
+    is_legal(&rt, rt.alloc(), 4, Way::Waits)?;
+    is_legal(&rt, rt.alloc(), MOST_WORKERS, Way::Waits)?;
     Ok(())
 }

@@ -2,4 +2,4 @@ use Rattle.crq_hold.specs.Workers.{WorksOn}
 use Rattle.crq_hold.proofs.tests.churning.take_next.Given as goal
 
 abbrev pub invariant-loop : goal.invariant-loop
-invariant-loop l = WorksOn l.queue.table l.fn.worker l.worker
+invariant-loop g l = WorksOn l.queue.table l.fn.worker l.worker
