@@ -28,7 +28,8 @@ use Rattle.crq_rows.specs.Passes.{caller}
 use Rattle.crq_rows.proofs.Slots.{get_here, get_else}
 use Rattle.crq_queue.specs.declared.calendar.Whole.{Whole}
 use Rattle.crq_queue.specs.Wholes.{IsResting, AreResting, AreDealt, IsGathered, history_of}
-use Rattle.crq_queue.specs.Waits.{AreBegins, AddsBegun, PutAdded, TakeAdded}
+use Rattle.crq_set.specs.Answers.{AreBegins}
+use Rattle.crq_queue.specs.Waits.{AddsBegun, PutAdded, TakeAdded}
 use Rattle.crq_first_queue.specs.declared.Trouble.{Trouble}
 use Rattle.crq_first_queue.specs.Deeds.{IsNew, Did, EndsEmpty, HasPlayed, named, if_put}
 

@@ -14,7 +14,8 @@ use Rattle.crq_rule.specs.declared.pass.Pass.{Pass}
 use Rattle.crq_rule.specs.declared.pass.Table.{Table}
 use Rattle.crq_rule.specs.ListKinds.{put_entries}
 use Rattle.crq_queue.specs.Wholes.{IsResting}
-use Rattle.crq_queue.specs.Waits.{AreBegins, AddsBegun, PutAdded, TakeAdded}
+use Rattle.crq_set.specs.Answers.{AreBegins}
+use Rattle.crq_queue.specs.Waits.{AddsBegun, PutAdded, TakeAdded}
 use Rattle.crq_hold.specs.declared.worker.Worker.{Worker}
 use Rattle.crq_hold.specs.Workers.{IsWorker, PutAndTook, next_event}
 use Rattle.crq_hold.specs.Waiting.{waited_takes}
