@@ -1,13 +1,13 @@
 -- Passes that go from their places to the workers, and back, one after another.
 use Rattle.std.proofs.Common.{◌≡◌, ℕ, ◌+◌, ◌<◌, ◌≤◌, inl, inr, List, length, map, set, slice_get, get_or, Option, Some, None, refl, sym, ap, ◌∙◌, subst, arith, length-set}
-use Rattle.std.specs.Prelude.{option_map, IfSome}
+use Rattle.std.specs.Prelude.{option_map, IfSome, OnOk, All, Result, Ok, Err}
 use Rattle.std.proofs.lemmas.Bool.{cases_eq}
 use Rattle.std.proofs.lemmas.List.{length-map}
-use Rattle.std.proofs.lemmas.Option.{same_Some, slice_get_within, slice_get-get_or}
+use Rattle.std.proofs.lemmas.Option.{same_Some, slice_get_within, slice_get-get_or, slice_get-map}
 use Rattle.crq_base.specs.declared.answers.Short.{Short}
 use Rattle.crq_set.specs.Views.{PassView}
 use Rattle.crq_host.specs.declared.worker.Worker.{Worker}
-use Rattle.crq_host.specs.Workers.{without_pass, HavePasses, views_of, AreLifted, AreNumbered, shorts_of}
+use Rattle.crq_host.specs.Workers.{without_pass, HavePasses, views_of, AreLifted, AreNumbered, TellsShort, shorts_of}
 use Rattle.crq_host.proofs.Places.{get-set_same, get-set_other, same_places, map-set_same, element, get-map}
 
 module _ {P : Type 0} (view : P → PassView) (Is : P → Type 0) where
@@ -131,3 +131,8 @@ shorts_within {P} workers k short at = let lt = slice_get_within (shorts_of work
 
 pub shorts_count : {P : Type 0} (workers : List (Worker P)) → length (shorts_of workers) ≡ length workers
 shorts_count {P} workers = length-map workers (λ (w : Worker P). w.short)
+
+-- nobody stopped where no reason is told
+pub none_short : {P : Type 0} (ws : List (Worker P)) (r : Result (Unit {0}) Short) → TellsShort (shorts_of ws) r → OnOk r (All (λ (w : Worker P). w.short ≡ None) ws)
+none_short ws (Ok u) tells = λ k d lt. tells k (get_or ws k d).short (slice_get-map (λ (w : Worker _). w.short) ws k ∙ ap (option_map (λ (w : Worker _). w.short)) (slice_get-get_or ws k d lt))
+none_short ws (Err short) tells = tt

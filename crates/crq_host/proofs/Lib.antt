@@ -17,3 +17,7 @@ pub mod RunLaws
 pub mod MergeLaws
 pub mod OnceLaws
 pub mod ShareLaws
+pub mod Takings
+pub mod Runnings
+pub mod Drivings
+pub mod TestModels

@@ -12,7 +12,7 @@ use Rattle.crq_sim.specs.WindowRuns.{object_sends}
 use Rattle.crq_sim.proofs.EventListLemmas.{All-weaker}
 use Rattle.crq_sim.proofs.KeyLemmas.{sends_apart}
 use Rattle.crq_sim.proofs.Sound.{IsSend, sends_known, after_sent}
-use Rattle.crq_host.proofs.Members.{join_in, once_join}
+use Rattle.crq_host.proofs.Members.{once_join}
 use Rattle.crq_host.proofs.WindowSteps.{numbers_once}
 
 all_in : (Q : Event → Type 0) (es : List Event) (x : Event) → AllByRecursion Q es → In x es → Q x

@@ -22,7 +22,7 @@ use Rattle.crq_host.specs.declared.worker.Changed.{Changed}
 use Rattle.crq_host.specs.declared.worker.Worker.{Worker}
 use Rattle.crq_host.proofs.MergeLaws.{some_worker}
 use Rattle.crq_host.proofs.OnceLaws.{sends_later, sends_once, own_apart, once_by_source}
-use Rattle.crq_host.specs.Shares.{Begun, CanRunAll, IsRun, IsReady, AreChanges, AreSet, AreEach, AreDue, KeepsOthers, KeepsButDue, RanGroups, RanShare, WindowRan, WindowDone, owned_by, all_changed, all_steps, all_sends, changed_by, group_steps, group_sends, every}
+use Rattle.crq_host.specs.Shares.{Begun, CanRunAll, IsRun, IsReady, AreChanges, AreSet, AreEach, AreDue, KeepsOthers, KeepsButDue, KeepsPass, RanGroups, RanShare, WindowRan, WindowDone, owned_by, all_changed, all_steps, all_sends, changed_by, group_steps, group_sends, every}
 
 told : (b : Bool) → (b ≡ true) ⊎ (b ≡ false)
 told true = inl refl
@@ -166,13 +166,13 @@ none_above : (o : ℕ) (gs : List Group) → AllByRecursion (λ (h : Group). o <
 none_above o [] all = refl
 none_above o (g ∷ gs) all = (let t : nat_eq g.object o ≡ false = (let lt = all.0 in grind (arith, nat_tests)) in rw t (none_above o gs all.1))
 
-abbrev HasGroup : ℕ → List Group → Type 0
+abbrev pub HasGroup : ℕ → List Group → Type 0
 HasGroup o gs = (g : Group) × Contains gs g × (g.object ≡ o) × (filter (λ (h : Group). nat_eq h.object o) gs ≡ g ∷ [])
 
-abbrev HasNone : ℕ → List Group → Type 0
+abbrev pub HasNone : ℕ → List Group → Type 0
 HasNone o gs = ((g : Group) → Contains gs g → g.object ≡ o → ⊥) × (filter (λ (h : Group). nat_eq h.object o) gs ≡ [])
 
-found : (o : ℕ) (gs : List Group) → AreRising gs → HasGroup o gs ⊎ HasNone o gs
+pub found : (o : ℕ) (gs : List Group) → AreRising gs → HasGroup o gs ⊎ HasNone o gs
 found o [] rising = inr ((λ g at is. none_in g at), refl)
 found o (g ∷ gs) rising =
     elim (cases_eq g.object o) [
@@ -252,7 +252,17 @@ steps_apart : (m : ModelData) (a o : ℕ) (s : ObjectState) (es : List Event) �
     → steps_of o (object_steps m a s es) ≡ cond (nat_eq a o) (object_steps m a s es) []
 steps_apart m a o s es all = elim (told (nat_eq a o)) [ inl t ↦ rw t (steps_all m a o s es all t) | inr t ↦ rw t (steps_none m a o s es all t) ]
 
-is_group : (b : Begun) (g : Group) → CanRunAll b → Contains b.groups g → IsGroup (length b.model.objects) b.events g
+-- each step is at the object of its event
+step_dst : (m : ModelData) (a : ℕ) (s : ObjectState) (es : List Event) → AllByRecursion (λ (e : Event). e.dst ≡ a) es → (x : Step) → Contains (object_steps m a s es) x → x.event.dst ≡ a
+unfolding object_steps
+step_dst m a s [] all x at = absurd (none_in x at)
+step_dst m a s (e ∷ es) all x at =
+    elim (from_cons (step_of e (state_after m a s e)) x (object_steps m a (state_after m a s e) es) at) [
+      | inl same ↦ ap (λ (z : Step). z.event.dst) (sym same) ∙ all.0
+      | inr later ↦ step_dst m a (state_after m a s e) es all.1 x later
+    ]
+
+pub is_group : (b : Begun) (g : Group) → CanRunAll b → Contains b.groups g → IsGroup (length b.model.objects) b.events g
 is_group b g can at = All-contains (IsGroup (length b.model.objects) b.events) b.groups g (All-from_recursion (IsGroup (length b.model.objects) b.events) b.groups can.by_objects.each) at
 
 group_steps_apart : (b : Begun) (o : ℕ) (gs : List Group) → AllByRecursion (IsGroup (length b.model.objects) b.events) gs
@@ -274,7 +284,7 @@ group_sends_apart b o (g ∷ gs) is all =
     )
 
 -- an object without a group has no events
-none_here : (b : Begun) (o : ℕ) → CanRunAll b → ((g : Group) → Contains b.groups g → g.object ≡ o → ⊥) → events_of o b.events ≡ []
+pub none_here : (b : Begun) (o : ℕ) → CanRunAll b → ((g : Group) → Contains b.groups g → g.object ≡ o → ⊥) → events_of o b.events ≡ []
 none_here b o can none = none_of o b.events (λ e at is. (let g = can.by_objects.all e at in none g.0 g.1 (g.2 ∙ is)))
 
 -- what the groups of an object made is what its events make
@@ -355,6 +365,16 @@ module _ {P : Type 0} (b : Begun) (states : List ObjectState) (ws : List (Worker
           (subst (λ k. Contains (object_sends b.model k (state_of b.states k) (events_of k b.events)) x) (sym r.2) h.2))
       from (inr r) = absurd (none_in x (subst (λ es. Contains es x) (ap (object_sends b.model h.0 (state_of b.states h.0)) (none_here b h.0 run.can r.0) ∙ no_sends b.model h.0 (state_of b.states h.0)) h.2))
 
+  steps_there : (x : Step) → Contains (all_steps ws) x → IsObject (length b.states) x.event.dst
+  steps_there x h =
+      let w = in_flat (λ (v : Worker P). v.steps.items) ws x h in
+      let k : ℕ = w.1.0 in
+      let here : Contains (get_or ws k w.0).steps.items x = subst (λ (v : Worker P). Contains v.steps.items x) (sym w.1.2) w.2 in
+      let g = in_flat (group_steps b) (every (length ws) k b.groups) x (subst (λ ss. Contains ss x) (run.ran k w.0 w.1.1).steps_made here) in
+      let is = is_group b g.0 run.can (every_in (length ws) k b.groups g.0 g.1) in
+      let own = step_dst b.model g.0.object (state_of b.states g.0.object) (group_events b.events g.0) (subst (λ es. AllByRecursion (λ (e : Event). e.dst ≡ g.0.object) es) (sym is.just) (mine_all g.0.object b.events)) x g.2 in
+      subst (λ n. IsObject n x.event.dst) (sym run.can.many) (subst (IsObject (length b.model.objects)) (sym own) is.object)
+
   sent_once : IsModel b.model → IsOnce (all_sends ws)
   sent_once is =
       once_by_source (all_sends ws) (λ o.
@@ -390,6 +410,7 @@ module _ {P : Type 0} (b : Begun) (states : List ObjectState) (ws : List (Worker
         steps_made = (λ o at. ap (steps_of o) logged ∙ filter-append (λ (s : Step). nat_eq s.event.dst o) old (all_steps ws) ∙ ap (λ ss. steps_of o old ++ ss) (all_steps_of o));
         sent = (λ x. (sent_to x, sent_from x));
         once = sent_once;
+        there = (λ x at. elim (Contains-append_cases old (all_steps ws) x (subst (λ ss. Contains ss x) logged at)) [ inl before ↦ inl before | inr now ↦ inr (steps_there x now) ]);
       }
 
   pub changes_there : (k : ℕ) (d : Worker P) → k < length ws → AreChanges (length states) (get_or ws k d).changed.items
@@ -426,4 +447,14 @@ window_done b span states before log old mid new count ready others ran kept due
       let there : k < length old = omega arith in
       let none : (get_or mid k d).due.items ≡ [] = ap (λ v. v.items) (others k d there).2 ∙ (ready k d there).1 in
       due k d below ∙ ap (λ xs. xs ++ owned_by (length mid) span k (all_sends mid)) none ∙ ap (λ n. owned_by n span k (all_sends mid)) (sym kept.count));
+}
+
+-- the passes and what was taken stay
+pub passes_run : {P : Type 0} (old mid : List (Worker P)) → length mid ≡ length old → ((i : ℕ) (d : Worker P) → i < length old → KeepsOthers (get_or old i d) (get_or mid i d)) → AreEach KeepsPass old mid
+passes_run old mid count others = record { count = count; each = (λ i d lt. ((others i d lt).0, (others i d lt).1)) }
+
+pub passes_all : {P : Type 0} (old mid new : List (Worker P)) → AreEach KeepsPass old mid → AreEach KeepsButDue mid new → AreEach KeepsPass old new
+passes_all old mid new kept due = record {
+  count = due.count ∙ kept.count;
+  each = (λ i d lt. (let k = due.each i d (let n = kept.count in omega arith) in (k.pass ∙ (kept.each i d lt).0, k.taken ∙ (kept.each i d lt).1)));
 }

@@ -5,8 +5,8 @@ use Rattle.crq_sim.specs.declared.outcome.Outcome.{Outcome}
 use Rattle.crq_sim.specs.Models.{ModelData}
 use Rattle.crq_sim.specs.Runs.{beginning, simulation_at, traces_of}
 use Rattle.crq_sim.specs.Windows.{IsWindowEnd, IsPeak, Stop, Events as StopsByEvents, Rows as StopsByRows, IsStop}
-use Rattle.crq_host.specs.declared.drive.DriveEnd.{DriveEnd}
-use Rattle.crq_host.specs.declared.drive.DriveEnd.TheVariants.{Memory, Events, Rows}
+use Rattle.crq_host.specs.declared.drive_end.DriveEnd.{DriveEnd}
+use Rattle.crq_host.specs.declared.drive_end.DriveEnd.TheVariants.{Memory, Events, Rows}
 use Rattle.crq_host.specs.Histories.{IsRunTo, IsRunToTakes, IsCalm}
 
 -- what a model is driven with: how many events it may have, and how many rows each worker has

@@ -138,6 +138,7 @@ pub record WindowRan (b : Begun) (states : List ObjectState) (old log : List Ste
   pub steps_made : (o : ℕ) → IsObject (length b.states) o → steps_of o log ≡ steps_of o old ++ object_steps b.model o (state_of b.states o) (events_of o b.events)
   pub sent : (x : Event) → Contains sends x ↔ IsSentAt b.model b.states b.events x
   pub once : IsModel b.model → IsOnce sends
+  pub there : (s : Step) → Contains log s → Contains old s ⊎ IsObject (length b.states) s.event.dst
 
 -- each worker beside the one at its place
 pub record AreEach {P : Type 0} (R : Worker P → Worker P → Type 0) (old new : List (Worker P)) : Type 0 where

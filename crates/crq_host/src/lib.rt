@@ -3,14 +3,20 @@
 
 mod course;
 mod crew;
-mod drive;
+mod drive_end;
+mod driving;
 mod gate;
 mod merging;
 mod putting;
 mod running;
 mod taking;
+mod window;
 mod window_run;
 mod worker;
 
-pub use drive::DriveEnd;
+pub use drive_end::DriveEnd;
+pub use driving::drive;
 pub use gate::{Gate, OpenGate, Phase};
+
+#[cfg(test)]
+mod tests;

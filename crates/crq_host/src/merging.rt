@@ -1,26 +1,14 @@
 //! What comes of the Run phase: the objects' states, their steps, and what is to be put by whom.
 
-ghost use Rattle.std.specs.Prelude.{◌≡◌, ◌<◌, ◌+◌, ◌++◌, ◌∷◌, [], ℕ, length, slice_index_or, All, OnOk, MatchOption, None, Some};
+ghost use Rattle.std.specs.Prelude.{◌≡◌, ◌<◌, ◌+◌, ◌++◌, ◌∷◌, [], ℕ, length, slice_index_or, All, OnOk};
 ghost use Rattle.crq_host.specs.Shares.{Begun, IsRun, AreChanges, AreSet, AreEach, AreDue, KeepsButDue, IsCleared, WindowRan, all_changed, all_steps, all_sends};
 ghost use Rattle.crq_host.specs.declared.worker.Changed.{Changed};
 ghost use Rattle.crq_host.specs.declared.worker.Worker.{Worker};
 
 use crate::worker::{Changed, Worker};
-use crq_base::{Event, Short};
+use crq_base::Event;
 use crq_sim::{ObjectState, Step};
 use std::alloc::AllocError;
-
-/// Why the first worker that stopped early did so.
-pub fn first_short<P: Drop>(workers: &[Worker<P>]) -> Option<Short>
-    ensures { MatchOption result (All (λ (w : Worker P). w.short ≡ None) workers.now) (λ short. (i : ℕ) × (i < length workers.now) × ((d : Worker P) → (slice_index_or workers.now i d).short ≡ Some short)) }
-{
-    for worker in workers {
-        if worker.short.is_some() {
-            return worker.short;
-        }
-    }
-    None
-}
 
 /// Sets the states of objects.
 fn set_states(states: &mut Vec<ObjectState>, changed: &[Changed])

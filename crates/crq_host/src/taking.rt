@@ -1,6 +1,6 @@
 //! The workers take the events of a window, and one pass looks for the least event.
 
-ghost use Rattle.std.specs.Prelude.{◌≡◌, ◌<◌, ◌≤◌, ◌^◌, ◌++◌, ℕ, List, length, slice_index_or, IsSomeAnd, IfSome, All};
+ghost use Rattle.std.specs.Prelude.{◌≡◌, ◌<◌, ◌≤◌, ◌^◌, ◌++◌, ℕ, List, length, slice_index_or, IsSomeAnd, IfSome, OnOk, All, None};
 ghost use Rattle.crq_base.specs.declared.event.Event.{Event};
 ghost use Rattle.crq_base.specs.declared.entry.Entry.{Entry};
 ghost use Rattle.crq_base.specs.declared.limits.TheConstants.{MOST_WORKERS};
@@ -149,6 +149,7 @@ pub(crate) fn drain<S: EventSet, G: Gate, R: Threads + Wait + Sync>(
     ensures whole { S.is_whole set.now result.0 }
     ensures drained { DrainEnds (S.setup set.now) edge (S.history whole) (S.history result.0) result.1 }
     ensures idle { AreIdle workers.new }
+    ensures fine { OnOk result.1 (All (λ (w : Worker S.Pass). w.short ≡ None) workers.new) }
     ensures taken { (since : List Entry) → S.history result.0 ≡ S.history whole ++ since → AreTakenBy workers.old workers.new since }
 {
     let mut passes = set.deal(whole, 1);

@@ -4,8 +4,9 @@ ghost use Rattle.std.specs.Prelude.{◌≡◌, ◌<◌, ◌^◌, [], length, All
 ghost use Rattle.crq_host.specs.Shares.{CanRunAll, IsReady, AreEach, KeepsPass, WindowDone};
 ghost use Rattle.crq_host.specs.declared.worker.Worker.{Worker};
 
+use crate::crew::first_short;
 use crate::gate::Gate;
-use crate::merging::{first_short, merge, share_out};
+use crate::merging::{merge, share_out};
 use crate::running::run_groups;
 use crate::worker::Worker;
 use crq_base::{Event, Memory};
@@ -49,8 +50,8 @@ pub fn run_window<P: Send + Drop, G: Gate, R: Threads + Wait + Sync>(
         workers,
     );
     match first_short(workers) {
-        Some(_) => Err(Memory),
-        None => {
+        Err(_) => Err(Memory),
+        Ok(()) => {
             merge(states, log, workers)?;
             share_out(workers, span)?;
             Ok(())

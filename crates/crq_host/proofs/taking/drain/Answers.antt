@@ -1,7 +1,7 @@
 use Rattle.std.proofs.Common.{◌≡◌, ◌∙◌, ◌++◌, sym, ap, subst, length, arith}
 use Rattle.crq_set.specs.Gathered.{AreThere, Gathers}
 use Rattle.crq_host.specs.Workers.{AreTakenBy, TellsShort, shorts_of, views_of}
-use Rattle.crq_host.proofs.Crews.{shorts_count}
+use Rattle.crq_host.proofs.Crews.{shorts_count, none_short}
 use Rattle.crq_host.proofs.Phasing.{drain_ends, deals_there}
 use Rattle.crq_host.proofs.Rounds.{all_have, have_passes, takers_there, takers_each, takers_numbered, taken_by, shorts_same, one_since}
 use Rattle.crq_host.proofs.taking.drain.Goals as goal
@@ -55,3 +55,6 @@ returns-clause-taken g c = λ since is.
     let on = (g2.each 0 v.0 v.1).extends ∙ ap (λ d. d ++ g2.since) (each 0 v.0 v.1).2.dealt in
     subst (AreTakenBy c.args.workers.now c.lower_all.new.workers) (one_since history (g.S.EventSet.history c.args.whole) g2.since since on is)
     (taken_by view _ _ _ _ _ _ _ later c.deal-passes.ensures.deals c.lift_all.ensures.views many still took c.args.workers.now c.lower_all.new.workers history g2 c.lift_all.ensures.rest c.lower_all.ensures.rest)
+
+pub returns-clause-fine : goal.returns-clause-fine
+returns-clause-fine g c = none_short c.lower_all.new.workers c.first_short.result c.first_short.ensures
