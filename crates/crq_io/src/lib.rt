@@ -15,6 +15,3 @@ pub use host::{HostFiles, HostSink};
 pub use mem_files::MemFiles;
 pub use mem_sink::MemSink;
 pub use sink::{Cut, Failed, Sink, write_whole};
-
-#[cfg(test)]
-mod tests;

@@ -12,6 +12,3 @@ mod summary;
 pub use printing::trace_text;
 pub use reading::{TraceFault, read_traces};
 pub use summary::summary_text;
-
-#[cfg(test)]
-mod tests;

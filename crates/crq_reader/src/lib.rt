@@ -12,8 +12,6 @@ mod objects;
 mod read;
 mod resolved;
 mod starts;
-#[cfg(test)]
-mod tests;
 mod text;
 mod word;
 mod wording;

@@ -2,4 +2,3 @@ pub mod EventSets
 pub mod Balances
 pub mod PlainLaws
 pub mod MakerLaws
-pub mod TestLaws

@@ -5,8 +5,6 @@ mod event_set;
 mod plain_maker;
 mod plain_set;
 mod set_maker;
-#[cfg(test)]
-mod tests;
 
 pub use crq_base::{Entry, Event, First, Memory, Route, Short, TakeEnd};
 pub use event_set::EventSet;

@@ -13,7 +13,6 @@ pub mod RunLemmas
 pub mod ScheduleLemmas
 pub mod Sound
 pub mod StartLemmas
-pub mod TestModels
 pub mod TraceLemmas
 pub mod WindowCounts
 pub mod WindowFacts

@@ -37,6 +37,3 @@ pub use sequence::Sequence;
 pub use serial_run::{SimEnd, serial};
 pub use targets::Targets;
 pub use traces::{ObjectTrace, Step, Steps, Traces};
-
-#[cfg(test)]
-mod tests;

@@ -11,6 +11,3 @@ pub use edges::edge;
 pub use group::{Group, Groups};
 pub use grouping::group_by_object;
 pub use laws::group_law;
-
-#[cfg(test)]
-mod tests;

@@ -1,7 +1,9 @@
+//! Edges of windows, and events by their objects.
+
 ghost use Rattle.std.specs.Prelude.{◌≡◌};
 
-use super::*;
 use crq_base::Event;
+use crq_windows::{Group, edge, group_by_object};
 use std::test::Fail;
 
 /// An event that carries nothing.

@@ -3,8 +3,8 @@
 ghost use Rattle.std.specs.Prelude.{◌≡◌, true};
 ghost use Rattle.crq_sim.specs.Names.{is_name};
 
-use crate::{TraceFault, read_traces, summary_text, trace_text};
 use crq_base::Event;
+use crq_printer::{TraceFault, read_traces, summary_text, trace_text};
 use crq_sim::{BehaviourName, Name, ObjectTrace, Outcome, Sequence, Size, Step, Traces};
 use std::alloc::{AllocError, Global};
 

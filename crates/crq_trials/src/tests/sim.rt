@@ -1,3 +1,5 @@
+//! Draws, reactions and whole runs of small models.
+
 ghost use Rattle.std.specs.Prelude.{◌≡◌, ◌<◌, ◌≤◌, ◌^◌, true, IfOk, vec_len, length, codes, [], ◌∷◌};
 ghost use Rattle.std.specs.List.{AllByRecursion};
 ghost use Rattle.crq_sim.specs.Models.{IsBehaviour, IsObject};
@@ -5,8 +7,11 @@ ghost use Rattle.crq_sim.specs.declared.model.Behaviour.TheVariants.{Sink};
 ghost use Rattle.crq_sim.specs.Names.{is_name};
 ghost use Rattle.crq_sim.specs.declared.model.Start.{Start};
 
-use super::*;
-use crq_base::Event;
+use crq_base::{Event, Memory};
+use crq_sim::{
+    Behaviour, MOST_STARTS, Model, Name, Object, ObjectState, ObjectTrace, Objects, Sends,
+    Sequence, SimEnd, Start, Targets, draw, generate, react, serial,
+};
 use std::alloc::Global;
 use std::test::Fail;
 

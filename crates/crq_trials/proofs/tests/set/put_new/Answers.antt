@@ -1,6 +1,6 @@
 use Rattle.std.proofs.Common.{rules}
-use Rattle.crq_set.proofs.TestLaws.{may_put}
-use Rattle.crq_set.proofs.tests.put_new.Goals as goal
+use Rattle.crq_trials.proofs.Puts.{may_put}
+use Rattle.crq_trials.proofs.tests.set.put_new.Goals as goal
 
 pub put-requires-clause-may : goal.put-requires-clause-may
 put-requires-clause-may g c =

@@ -1,4 +1,6 @@
-use super::*;
+//! Texts that are models, and texts that aren't.
+
+use crq_reader::{model_text, read_model};
 use std::alloc::{AllocError, Global};
 use std::test::Fail;
 

@@ -1,6 +1,6 @@
 use Rattle.std.proofs.Common.{arith}
-use Rattle.crq_sim.proofs.TestModels.{one_known}
-use Rattle.crq_sim.proofs.tests.one.Goals as goal
+use Rattle.crq_trials.proofs.Models.{one_known}
+use Rattle.crq_trials.proofs.tests.sim.one.Goals as goal
 
 pub new-model-requires : goal.new-model-requires
 new-model-requires c = rw (c.in_ok-objects.ensures, c.from_vec.ensures) (one_known c.args.lookahead c.args.until c.args.behaviour c.args.starts.items c.requires.ahead (omega arith) (let n = c.args.starts.ok.0 in let few = c.requires.few in omega arith) c.requires.behaviour c.requires.started)

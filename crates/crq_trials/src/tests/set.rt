@@ -1,3 +1,5 @@
+//! A plain set by its one caller, and its maker.
+
 ghost use Rattle.std.specs.Prelude.{◌≡◌, ◌≤◌, ◌+◌, ◌++◌, ◌∷◌, [], ℕ, None, IsTrue, OnOk, IfOk};
 ghost use Rattle.std.specs.List.{All};
 ghost use Rattle.crq_base.specs.declared.event.Event.{Event};
@@ -5,8 +7,8 @@ ghost use Rattle.crq_base.specs.declared.entry.Entry.TheVariants.{Put};
 ghost use Rattle.crq_base.specs.Lists.{In};
 ghost use Rattle.crq_set.specs.Gathered.{AreThere};
 
-use super::*;
-use crq_base::judge;
+use crq_base::{Entry, Event, Memory, Route, Short, TakeEnd, judge};
+use crq_set::{EventSet, PlainMaker, PlainPass, PlainPasses, PlainSet, PlainWhole, SetMaker};
 use std::alloc::Global;
 use std::sync::Wait;
 use std::test::Fail;

@@ -1,4 +1,8 @@
-use super::*;
+//! Files and sinks, over memory and over the host.
+
+use crq_io::{
+    Cut, Failed, Fetch, Files, HostFiles, HostSink, MemFiles, MemSink, Sink, write_whole,
+};
 use std::alloc::Global;
 use std::fmt::Display;
 use std::fs;

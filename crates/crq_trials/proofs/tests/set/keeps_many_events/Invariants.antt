@@ -1,5 +1,5 @@
 use Rattle.crq_set.specs.Plain.{IsInOrder}
-use Rattle.crq_set.proofs.tests.keeps_many_events.Given as goal
+use Rattle.crq_trials.proofs.tests.set.keeps_many_events.Given as goal
 
 abbrev pub invariant-loop-seq : goal.invariant-loop-seq
 invariant-loop-seq g l = IsInOrder l.pass.entries.items l.pass.pending.keys l.pass.dealt
