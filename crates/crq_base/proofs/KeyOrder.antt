@@ -1,7 +1,8 @@
--- The order of events is total.
-use Rattle.std.proofs.Common.{◌≡◌, true, false, refl, ap, ◌∙◌}
+-- The order of events is total, and tells them apart.
+use Rattle.std.proofs.Common.{◌≡◌, ℕ, true, false, refl, arith, ap, ◌∙◌}
+use Rattle.std.proofs.lemmas.Bool.Decides.{nat_tests}
 use Rattle.std.specs.Cmp.{IsTotalOrder}
-use Rattle.std.specs.Ordering.{is_lt, is_eq, ordering_reverse}
+use Rattle.std.specs.Ordering.{is_lt, is_eq, nat_cmp, ordering_reverse, ordering_then}
 use Rattle.std.specs.declared.cmp.Ordering.{Ordering}
 use Rattle.std.specs.declared.cmp.Ordering.TheVariants.{Less, Equal, Greater}
 use Rattle.std.proofs.lemmas.Cmp.{on_total, then_total, nat_cmp_total, tied_itself}
@@ -15,6 +16,28 @@ event_total =
     (then_total (on_total (λ (e : Event). e.src) nat_cmp_total)
     (then_total (on_total (λ (e : Event). e.seq) nat_cmp_total)
     (then_total (on_total (λ (e : Event). e.dst) nat_cmp_total) (on_total (λ (e : Event). e.load) nat_cmp_total))))
+
+nat_equal : (a b : ℕ) → nat_cmp a b ≡ Equal → a ≡ b
+nat_equal a b h = grind (arith, nat_tests)
+
+then_equal : (p q : Ordering) → ordering_then p q ≡ Equal → (p ≡ Equal) × (q ≡ Equal)
+then_equal Less q h = absurd (cc)
+then_equal Equal q h = (refl, h)
+then_equal Greater q h = absurd (cc)
+
+-- events that the order doesn't tell apart are one
+pub same_event : (a b : Event) → event_cmp a b ≡ Equal → a ≡ b
+same_event a b h =
+    let one = then_equal _ _ h in
+    let two = then_equal _ _ one.1 in
+    let three = then_equal _ _ two.1 in
+    let four = then_equal _ _ three.1 in
+    let time = nat_equal a.time b.time one.0 in
+    let src = nat_equal a.src b.src two.0 in
+    let seq = nat_equal a.seq b.seq three.0 in
+    let dst = nat_equal a.dst b.dst four.0 in
+    let load = nat_equal a.load b.load four.1 in
+    λ i. record { time = time i; src = src i; seq = seq i; dst = dst i; load = load i }
 
 less_is : (o : Ordering) → is_lt o ≡ true → o ≡ Less
 less_is Less h = refl

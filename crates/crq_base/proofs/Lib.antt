@@ -1,3 +1,4 @@
+pub mod Elements
 pub mod KeyOrder
 pub mod WordLaws
 pub mod HistoryLaws

@@ -5,10 +5,10 @@ use Rattle.crq_base.specs.declared.entry.Entry.TheVariants.{Begin}
 use Rattle.crq_base.specs.Histories.{puts, outs}
 use Rattle.crq_base.specs.Lists.{In}
 use Rattle.crq_base.proofs.HistoryLaws.{outs-append, puts-append}
+use Rattle.crq_base.proofs.Elements.{in_cases, in_right}
 use Rattle.crq_set.specs.Views.{PassView, Setup}
 use Rattle.crq_set.specs.Answers.{Adds, AreBegins, GaveUpForRows}
 use Rattle.crq_host.specs.Workers.{AllAre, LacksRowsSince}
-use Rattle.crq_host.proofs.Elements.{in_cases, in_right}
 
 pub adds_none : (v : PassView) → Adds v v []
 adds_none v = record { number = refl; span = refl; dealt = refl; own = sym (append-nil v.own); tables = omega arith; settled = omega arith }

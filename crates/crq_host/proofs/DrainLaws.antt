@@ -9,9 +9,10 @@ use Rattle.crq_base.specs.Entries.{caller_of}
 use Rattle.crq_base.specs.Histories.{puts, settleds, outs, own, IsPending, Began, MayFollow, IsLegalAfter}
 use Rattle.crq_base.specs.Lists.{In, IsOnce}
 use Rattle.crq_base.proofs.HistoryLaws.{settleds-append, outs-append, own-append, legal_back, not_nil}
+use Rattle.crq_base.proofs.Elements.{contains_in}
 use Rattle.crq_host.specs.Phases.{Drains}
 use Rattle.crq_host.specs.Workers.{AllAre, IsTaking, EndsMissed}
-use Rattle.crq_host.proofs.Elements.{contains_in, filter_split}
+use Rattle.crq_host.proofs.Elements.{filter_split}
 use Rattle.crq_host.proofs.Pendings.{pending_back, takings_put_none}
 
 -- what is taken was pending before, and is below the limit

@@ -11,6 +11,7 @@ use Rattle.crq_base.specs.declared.entry.Entry.{Entry}
 use Rattle.crq_base.specs.Lists.{In, IsOnce}
 use Rattle.crq_base.specs.Sizes.{IsTeam}
 use Rattle.crq_base.specs.Sources.{owner_of}
+use Rattle.crq_base.proofs.Elements.{contains_in, in_contains}
 use Rattle.crq_set.specs.Views.{Setup, IsSetup}
 use Rattle.crq_sim.specs.declared.model.Object.{Object}
 use Rattle.crq_sim.specs.declared.outcome.Outcome.{Outcome}
@@ -38,7 +39,7 @@ use Rattle.crq_host.specs.Drives.{Caps, StopsBy, IsDriven, DriveStops}
 use Rattle.crq_host.specs.Histories.{IsRunTo}
 use Rattle.crq_host.specs.Progress.{sent_within, StandsAfter}
 use Rattle.crq_host.specs.Workers.{IsDue}
-use Rattle.crq_host.proofs.Elements.{at_in, contains_in, in_contains}
+use Rattle.crq_host.proofs.Elements.{at_in}
 use Rattle.crq_host.proofs.Members.{as_many}
 use Rattle.crq_host.proofs.MergeLaws.{some_worker}
 use Rattle.crq_host.proofs.Runnings.{all_so, pending_once, once_place}

@@ -9,6 +9,7 @@ use Rattle.crq_base.specs.Histories.{put_of, puts, settleds, IsPending, MayFollo
 use Rattle.crq_base.specs.Lists.{In, IsOnce}
 use Rattle.crq_base.proofs.Deeds.{done_at}
 use Rattle.crq_base.proofs.HistoryLaws.{puts-append, settleds-append}
+use Rattle.crq_base.proofs.Elements.{in_cases, contains_in, in_contains}
 use Rattle.crq_set.specs.Views.{Setup, table_count, raising_count}
 use Rattle.crq_sim.specs.declared.model.TheConstants.{MOST_STARTS}
 use Rattle.crq_sim.specs.Models.{ModelData, IsModel}
@@ -17,21 +18,21 @@ use Rattle.crq_sim.proofs.BoundLemmas.{few_sent, few_starts}
 use Rattle.crq_sim.proofs.Sound.{begins}
 use Rattle.crq_host.specs.Phases.{LacksRowsFor}
 use Rattle.crq_host.specs.Progress.{sent_within}
-use Rattle.crq_host.proofs.Members.{listed, contained, fits, once_join, join_in}
+use Rattle.crq_host.proofs.Members.{fits, once_join}
 
 -- Rows
 
 -- as many rows as twice the pending events and two: no list of pending events is so long that rows are lacking
 pub rows_enough : (setup : Setup) (history : List Entry) (pending : List Event) → ((x : Event) → IsPending history x → Contains pending x) → 2 * length pending + 2 ≤ setup.rows → LacksRowsFor setup history → ⊥
 rows_enough setup history pending within enough lacks =
-    let few = fits lacks.events pending lacks.once (λ x at. listed x pending (within x (lacks.pending x at))) in
+    let few = fits lacks.events pending lacks.once (λ x at. contains_in x pending (within x (lacks.pending x at))) in
     let many = lacks.many in
     omega arith
 
 -- Epochs
 
 one_settled : (h : List Entry) (x : Entry) (e : Event) → MayFollow h x → In e (settleds (x ∷ [])) → In e (settleds h) → ⊥
-one_settled h (Settled k f) e may (inl same) at = may.1 (contained f (settleds h) (subst (λ z. In z (settleds h)) same at))
+one_settled h (Settled k f) e may (inl same) at = may.1 (in_contains f (settleds h) (subst (λ z. In z (settleds h)) same at))
 one_settled h (Settled k f) e may (inr none) at = none
 one_settled h (Begin k) e may none at = none
 one_settled h (Put k f) e may none at = none
@@ -68,7 +69,7 @@ settled_more : (h : List Entry) (x : Entry) → MayFollow h x → AreSettled h �
 settled_more h x may are = record {
   once = subst IsOnce (sym (settleds-append h (x ∷ []))) (once_join (settleds h) (settleds (x ∷ [])) are.once (once_one x) (λ e at here. one_settled h x e may here at));
   put = (λ e at. subst (λ z. Contains z e) (sym (puts-append h (x ∷ []))) (Contains-append_left (puts h) (puts (x ∷ [])) e
-      (elim (join_in e (settleds h) (settleds (x ∷ [])) (subst (In e) (settleds-append h (x ∷ [])) at)) [
+      (elim (in_cases e (settleds h) (settleds (x ∷ [])) (subst (In e) (settleds-append h (x ∷ [])) at)) [
         | inl before ↦ are.put e before
         | inr here ↦ put_before h x e may here
       ])));
@@ -104,7 +105,7 @@ sent_few m n is =
 pub epochs_enough : (m : ModelData) (n : ℕ) (h : List Entry) → IsModel m → IsLegal h → table_count h ≡ 0 → ((x : Event) → Contains (puts h) x → Contains (sent_within m n) x) → n ≤ 4194304 → raising_count h < 2 ^ 32 - 64
 epochs_enough m n h is legal tables within few =
     let are = settled_once h legal in
-    let many = fits (settleds h) (sent_within m n) are.once (λ x at. listed x (sent_within m n) (within x (are.put x at))) in
+    let many = fits (settleds h) (sent_within m n) are.once (λ x at. contains_in x (sent_within m n) (within x (are.put x at))) in
     let most = sent_few m n is in
     let parts = raising_parts h in
     omega arith

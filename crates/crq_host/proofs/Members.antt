@@ -1,39 +1,10 @@
 -- Lists that have each element once.
-use Rattle.std.proofs.Common.{◌≡◌, ◌⊎◌, ◌≤◌, List, [], ◌∷◌, ◌++◌, length, refl, arith, ap, sym, subst, inl, inr, Contains}
+use Rattle.std.proofs.Common.{◌≡◌, ◌≤◌, List, [], ◌∷◌, ◌++◌, length, refl, arith, ap, sym, subst, inl, inr}
 use Rattle.std.proofs.lemmas.List.{length-append}
 use Rattle.crq_base.specs.Lists.{In, IsOnce}
-use Rattle.crq_sim.proofs.Members.{none_in, into_cons, from_cons}
+use Rattle.crq_base.proofs.Elements.{in_left, in_right, in_cases}
 
 module _ {A : Type 0} where
-  pub listed : (x : A) (xs : List A) → Contains xs x → In x xs
-  listed x [] at = none_in x at
-  listed x (y ∷ ys) at =
-      elim (from_cons y x ys at) [
-        | inl same ↦ inl (sym same)
-        | inr later ↦ inr (listed x ys later)
-      ]
-
-  pub contained : (x : A) (xs : List A) → In x xs → Contains xs x
-  contained x [] at = absurd at
-  contained x (y ∷ ys) (inl same) = into_cons y x ys (inl (sym same))
-  contained x (y ∷ ys) (inr later) = into_cons y x ys (inr (contained x ys later))
-
-  pub in_join : (x : A) (xs ys : List A) → In x xs ⊎ In x ys → In x (xs ++ ys)
-  in_join x [] ys (inl at) = absurd at
-  in_join x [] ys (inr at) = at
-  in_join x (y ∷ xs) ys (inl (inl same)) = inl same
-  in_join x (y ∷ xs) ys (inl (inr later)) = inr (in_join x xs ys (inl later))
-  in_join x (y ∷ xs) ys (inr at) = inr (in_join x xs ys (inr at))
-
-  pub join_in : (x : A) (xs ys : List A) → In x (xs ++ ys) → In x xs ⊎ In x ys
-  join_in x [] ys at = inr at
-  join_in x (y ∷ xs) ys (inl same) = inl (inl same)
-  join_in x (y ∷ xs) ys (inr later) =
-      elim (join_in x xs ys later) [
-        | inl at ↦ inl (inr at)
-        | inr at ↦ inr at
-      ]
-
   -- an element with what stands before and after it
   record Standing (x : A) (xs : List A) : Type 0 where
     front : List A
@@ -52,10 +23,10 @@ module _ {A : Type 0} where
       let s = standing x ys (within x (inl refl)) in
       let rest : List A = s.front ++ s.back in
       let few = fits xs rest once.1 (λ y at.
-      elim (join_in y s.front (x ∷ s.back) (subst (λ zs. In y zs) s.parts (within y (inr at)))) [
-        | inl front ↦ in_join y s.front s.back (inl front)
+      elim (in_cases y s.front (x ∷ s.back) (subst (λ zs. In y zs) s.parts (within y (inr at)))) [
+        | inl front ↦ in_left y s.front s.back front
         | inr (inl same) ↦ absurd (once.0 (subst (λ z. In z xs) same at))
-        | inr (inr back) ↦ in_join y s.front s.back (inr back)
+        | inr (inr back) ↦ in_right y s.front s.back back
       ]) in
       let a = length-append s.front s.back in
       let b = length-append s.front (x ∷ s.back) in
@@ -70,7 +41,7 @@ module _ {A : Type 0} where
   pub once_join : (xs ys : List A) → IsOnce xs → IsOnce ys → ((x : A) → In x xs → In x ys → ⊥) → IsOnce (xs ++ ys)
   once_join [] ys once_xs once_ys apart = once_ys
   once_join (x ∷ xs) ys once_xs once_ys apart = (
-    λ at. elim (join_in x xs ys at) [
+    λ at. elim (in_cases x xs ys at) [
       | inl here ↦ once_xs.0 here
       | inr there ↦ apart x (inl refl) there
     ],

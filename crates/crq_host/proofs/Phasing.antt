@@ -15,6 +15,7 @@ use Rattle.crq_base.specs.Entries.{caller_of}
 use Rattle.crq_base.specs.Histories.{outs, own, IsPending, IsEarlier, MayFollow, IsLegalAfter}
 use Rattle.crq_base.specs.Lists.{In}
 use Rattle.crq_base.proofs.HistoryLaws.{outs-append, legal_back}
+use Rattle.crq_base.proofs.Elements.{in_right}
 use Rattle.crq_set.specs.Views.{PassView, Setup, table_count}
 use Rattle.crq_set.specs.Answers.{Adds, AreBegins, Takes, TakeGaveUp}
 use Rattle.crq_set.specs.Gathered.{AreThere, Gathers, IsDealt, Deals}
@@ -22,7 +23,7 @@ use Rattle.crq_host.specs.Histories.{IsCalm}
 use Rattle.crq_host.specs.Phases.{GoesOn, TakesShort, LeastEnds, DrainEnds}
 use Rattle.crq_host.specs.Workers.{AllAre, IsTaking, StopsTakes, EndsMissed, Took, TellsShort, found_in, LacksRowsSince}
 use Rattle.crq_host.proofs.Places.{get-set_same, get-set_other}
-use Rattle.crq_host.proofs.Elements.{in_filter, filter_kept, in_right}
+use Rattle.crq_host.proofs.Elements.{in_filter, filter_kept}
 use Rattle.crq_host.proofs.Adding.{all_begun, all_none, all_more, begins_all, outs_begun, lacks_since}
 use Rattle.crq_host.proofs.Pendings.{IsAfter, gathered_after, gathered_all, lacks_before, tables-append, takings_put_none, takings_open_none}
 use Rattle.crq_host.proofs.DrainLaws.{drains, takes_pending, all_taken, settled_before}

@@ -13,11 +13,12 @@ use Rattle.crq_base.specs.Entries.{caller_of}
 use Rattle.crq_base.specs.Histories.{put_of, puts, IsLegalAfter}
 use Rattle.crq_base.specs.Lists.{In, IsOnce}
 use Rattle.crq_base.proofs.HistoryLaws.{puts-append}
+use Rattle.crq_base.proofs.Elements.{in_contains, contains_in, in_left, in_right, in_cases}
 use Rattle.crq_set.specs.Views.{PassView, Setup, table_count}
 use Rattle.crq_set.specs.Gathered.{AreThere, Gathers, IsDealt}
 use Rattle.crq_host.specs.Phases.{GoesOn, PutsShort, PutsEnd}
 use Rattle.crq_host.specs.Workers.{AllAre, IsPutting, StopsPuts, PutInTurn, TellsShort}
-use Rattle.crq_host.proofs.Elements.{in_contains, contains_in, in_filter, in_left, in_right, in_cases, in_filter_map, filter_map_in}
+use Rattle.crq_host.proofs.Elements.{in_filter, in_filter_map, filter_map_in}
 use Rattle.crq_host.proofs.Pendings.{IsAfter, gathered_after, gathered_all, gathered_in, lacks_after, puttings_take_none, puttings_open_none}
 use Rattle.crq_host.proofs.Phasing.{goes_on, no_table}
 

@@ -10,11 +10,12 @@ use Rattle.crq_base.specs.declared.answers.Short.TheVariants.{Rows, Epochs, Memo
 use Rattle.crq_base.specs.Histories.{put_of, puts}
 use Rattle.crq_base.specs.Lists.{In}
 use Rattle.crq_base.specs.Sources.{owner_of}
+use Rattle.crq_base.proofs.Elements.{in_cases, in_contains}
 use Rattle.crq_set.specs.Views.{PassView, Setup, MayPut}
 use Rattle.crq_set.specs.Answers.{Adds, Puts, PutGaveUp}
 use Rattle.crq_set.specs.Gathered.{IsDealt}
 use Rattle.crq_host.specs.Workers.{AllAre, IsPutting, PutInTurn, MayPutAll, IsDue}
-use Rattle.crq_host.proofs.Elements.{in_cases, filter_map_in, in_take, at_in, in_contains}
+use Rattle.crq_host.proofs.Elements.{filter_map_in, in_take, at_in}
 use Rattle.crq_host.proofs.Adding.{adds_none, adds_both, all_both, all_none, all_more, begins_all, puts_begun, puts_begins, all_begun, lacks_since}
 
 -- the first i events were put

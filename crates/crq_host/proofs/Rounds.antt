@@ -8,12 +8,13 @@ use Rattle.crq_base.specs.declared.entry.Entry.{Entry}
 use Rattle.crq_base.specs.declared.answers.Short.{Short}
 use Rattle.crq_base.specs.Entries.{caller_of}
 use Rattle.crq_base.specs.Histories.{taken_of, outs, own}
+use Rattle.crq_base.proofs.Elements.{in_contains, contains_in}
 use Rattle.crq_set.specs.Views.{PassView, Setup}
 use Rattle.crq_set.specs.Gathered.{AreThere, Gathers, IsDealt, Deals}
 use Rattle.crq_host.specs.declared.worker.Worker.{Worker}
 use Rattle.crq_host.specs.Workers.{without_pass, HavePasses, AreNumbered, views_of, shorts_of, WorkerTook, AreTakenBy}
 use Rattle.crq_host.proofs.Places.{element, get-map, map_places}
-use Rattle.crq_host.proofs.Elements.{in_contains, contains_in, in_filter, filter_in, in_filter_map, filter_map_in}
+use Rattle.crq_host.proofs.Elements.{in_filter, filter_in, in_filter_map, filter_map_in}
 use Rattle.crq_host.proofs.Phasing.{PlaceTook, place_took, dealt_at}
 
 pub is_mapped : {X Y : Type 0} (f : X → Y) (o : Option X) (y : Y) → option_map f o ≡ Some y → (x : X) × (o ≡ Some x)

@@ -22,6 +22,7 @@ use Rattle.crq_base.specs.Sizes.{IsTeam}
 use Rattle.crq_base.specs.Sources.{owner_of}
 use Rattle.crq_base.proofs.HistoryLaws.{puts-append}
 use Rattle.crq_base.proofs.KeyOrder.{before_not_itself}
+use Rattle.crq_base.proofs.Elements.{contains_in, in_contains}
 use Rattle.crq_set.specs.Views.{Setup, IsSetup, table_count}
 use Rattle.crq_sim.specs.declared.model.Object.{Object}
 use Rattle.crq_sim.specs.declared.reaction.ObjectState.{ObjectState}
@@ -55,7 +56,7 @@ use Rattle.crq_host.specs.Phases.{GoesOn, PutsShort}
 use Rattle.crq_host.specs.Progress.{sent_within, StandsAfter, PassesTo}
 use Rattle.crq_host.specs.Shares.{Begun, CanRunAll, AreEach, KeepsPass, WindowDone, owned_by}
 use Rattle.crq_host.specs.Workers.{IsDue, AreKept}
-use Rattle.crq_host.proofs.Elements.{at_in, contains_in, in_contains, in_filter, filter_in}
+use Rattle.crq_host.proofs.Elements.{at_in, in_filter, filter_in}
 use Rattle.crq_host.proofs.Enough.{rows_enough, epochs_enough}
 use Rattle.crq_host.proofs.Members.{as_many}
 use Rattle.crq_host.proofs.MergeLaws.{some_worker}

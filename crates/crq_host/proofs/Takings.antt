@@ -14,6 +14,7 @@ use Rattle.crq_base.specs.Histories.{taken_of, puts, outs, own, IsPending}
 use Rattle.crq_base.specs.Lists.{In, IsOnce}
 use Rattle.crq_base.proofs.HistoryLaws.{puts-append, outs-append}
 use Rattle.crq_base.specs.Sizes.{IsTeam}
+use Rattle.crq_base.proofs.Elements.{in_left, in_right, in_cases, contains_in, in_contains}
 use Rattle.crq_set.specs.Views.{Setup, IsSetup, table_count}
 use Rattle.crq_sim.specs.Models.{ModelData, IsModel}
 use Rattle.crq_sim.specs.Runs.{Simulation, beginning, simulation_at}
@@ -30,7 +31,7 @@ use Rattle.crq_host.specs.Phases.{GoesOn, Drains, TakesLeast, TakesShort}
 use Rattle.crq_host.specs.Progress.{StandsAfter, TakesWindow}
 use Rattle.crq_host.specs.Shares.{AreEach, IsCleared, IsReady}
 use Rattle.crq_host.specs.Workers.{AreTakenBy}
-use Rattle.crq_host.proofs.Elements.{in_left, in_right, in_cases, contains_in, in_contains, filter_in, in_filter_map, filter_map_in}
+use Rattle.crq_host.proofs.Elements.{filter_in, in_filter_map, filter_map_in}
 use Rattle.crq_host.proofs.Enough.{rows_enough}
 use Rattle.crq_host.proofs.Members.{once_join}
 use Rattle.crq_host.proofs.MergeLaws.{flat_next, some_worker}

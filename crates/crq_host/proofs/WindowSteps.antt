@@ -14,7 +14,8 @@ use Rattle.crq_base.specs.Histories.{puts, outs, IsPending, IsEarlier}
 use Rattle.crq_base.specs.Keys.{event_cmp, IsBefore}
 use Rattle.crq_base.specs.Lists.{IsOnce}
 use Rattle.crq_base.proofs.HistoryLaws.{puts-append, outs-append}
-use Rattle.crq_base.proofs.KeyOrder.{before_not_itself}
+use Rattle.crq_base.proofs.KeyOrder.{before_not_itself, same_event}
+use Rattle.crq_base.proofs.Elements.{in_contains}
 use Rattle.crq_set.specs.Views.{is_table, table_count}
 use Rattle.crq_sim.specs.declared.reaction.ObjectState.{ObjectState}
 use Rattle.crq_sim.specs.EventLists.{with_events, IsHead, AreInOrder, HaveOneKey, HaveOneNumber, HaveNumbersApart}
@@ -26,7 +27,7 @@ use Rattle.crq_sim.specs.Reactions.{state_after, withdrawn_by}
 use Rattle.crq_sim.specs.Windows.{IsWindowEnd, WindowData, window_of, IsWindow, Events, Rows, HasMoreEvents, HasFewRows, IsStop}
 use Rattle.crq_sim.proofs.AfterLemmas.{after_more}
 use Rattle.crq_sim.proofs.BoundLemmas.{sent_more, sent_fresh, start_numbers}
-use Rattle.crq_sim.proofs.EventListLemmas.{same_event, equal_is, bool_cases}
+use Rattle.crq_sim.proofs.EventListLemmas.{equal_is, bool_cases}
 use Rattle.crq_sim.proofs.KeyLemmas.{run_numbers_apart}
 use Rattle.crq_sim.proofs.Members.{none_in, into_cons, from_cons}
 use Rattle.crq_sim.proofs.NextWindow.{next_window}
@@ -38,7 +39,6 @@ use Rattle.crq_host.specs.Drives.{Caps}
 use Rattle.crq_host.specs.Histories.{AreTakesOf, ArePutsOf, IsRunToTakes, IsCalm}
 use Rattle.crq_host.specs.Phases.{Drains, TakesLeast}
 use Rattle.crq_host.specs.Progress.{sent_within, StandsAfter, TakesWindow, PassesTo}
-use Rattle.crq_host.proofs.Members.{contained}
 
 -- Events of a run: a source and its number tell which one it is
 
@@ -59,7 +59,7 @@ one_number (x ∷ xs) e f apart at_e at_f same =
 pub numbers_once : (es : List Event) → HaveNumbersApart es → IsOnce es
 numbers_once [] apart = tt
 numbers_once (e ∷ es) apart = (
-  (λ at. All-at (λ (g : Event). HaveOneNumber e g → ⊥) es e apart.0 (contained e es at) (refl, refl)),
+  (λ at. All-at (λ (g : Event). HaveOneNumber e g → ⊥) es e apart.0 (in_contains e es at) (refl, refl)),
   numbers_once es apart.1,
 )
 
@@ -225,7 +225,7 @@ window_taken m k n h first_since drain_since e is stands least first_tables drai
         extends = append_assoc h first_since drain_since;
         takes = record {
           takes = record {
-            once = subst IsOnce (sym taken) ((λ at. ((drains.just e).0 (contained e (outs drain_since) at)).0.kept out_here), drains.once);
+            once = subst IsOnce (sym taken) ((λ at. ((drains.just e).0 (in_contains e (outs drain_since) at)).0.kept out_here), drains.once);
             members = λ x. (
               (λ at. elim (from_cons e x (outs drain_since) (subst (λ z. Contains z x) taken at)) [
                 | inl same ↦ subst (Contains below) same first_in

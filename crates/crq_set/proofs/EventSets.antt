@@ -1,11 +1,10 @@
 -- Events that are kept in an ordered set.
-use Rattle.std.proofs.Common.{◌≡◌, ◌⊎◌, ⊎_elim, inl, inr, ℕ, suc, List, [], ◌∷◌, false, refl, sym, ap, ◌∙◌, subst, arith}
-use Rattle.std.proofs.lemmas.Bool.Decides.{nat_tests}
+use Rattle.std.proofs.Common.{◌≡◌, ◌⊎◌, ⊎_elim, inl, inr, List, [], ◌∷◌, false, refl, ap, ◌∙◌, subst}
 use Rattle.std.proofs.lemmas.Cmp.{tied_itself}
 use Rattle.std.proofs.lemmas.List.Elements.{All-contains}
 use Rattle.std.specs.declared.cmp.Ordering.{Ordering}
 use Rattle.std.specs.declared.cmp.Ordering.TheVariants.{Less, Equal, Greater}
-use Rattle.std.specs.List.{All, Contains}
+use Rattle.std.specs.List.{All}
 use Rattle.std.specs.Ordering.{nat_cmp, ordering_then, ordering_reverse, match_ordering, is_lt}
 use Rattle.std.specs.BTreeMap.Range.{IsLtBy}
 use Rattle.std.specs.BTreeSet.{insert_key}
@@ -13,29 +12,8 @@ use Rattle.crq_base.specs.declared.event.Event.{Event}
 use Rattle.crq_base.specs.Keys.{event_cmp, key_cmp, tie_cmp}
 use Rattle.crq_base.specs.Lists.{In}
 use Rattle.crq_base.specs.Histories.{IsEarlier}
-use Rattle.crq_base.proofs.KeyOrder.{event_total}
-
-nat_equal : (a b : ℕ) → nat_cmp a b ≡ Equal → a ≡ b
-nat_equal a b h = grind (arith, nat_tests)
-
-then_equal : (p q : Ordering) → ordering_then p q ≡ Equal → (p ≡ Equal) × (q ≡ Equal)
-then_equal Less q h = absurd (cc)
-then_equal Equal q h = (refl, h)
-then_equal Greater q h = absurd (cc)
-
--- events that the order doesn't tell apart are one
-pub same_event : (a b : Event) → event_cmp a b ≡ Equal → a ≡ b
-same_event a b h =
-    let one = then_equal _ _ h in
-    let two = then_equal _ _ one.1 in
-    let three = then_equal _ _ two.1 in
-    let four = then_equal _ _ three.1 in
-    let time = nat_equal a.time b.time one.0 in
-    let src = nat_equal a.src b.src two.0 in
-    let seq = nat_equal a.seq b.seq three.0 in
-    let dst = nat_equal a.dst b.dst four.0 in
-    let load = nat_equal a.load b.load four.1 in
-    λ i. record { time = time i; src = src i; seq = seq i; dst = dst i; load = load i }
+use Rattle.crq_base.proofs.Elements.{in_contains}
+use Rattle.crq_base.proofs.KeyOrder.{event_total, same_event}
 
 -- what is in the set with one more event
 in_one_more : (o : Ordering) (e f x : Event) (xs ys : List Event) → (In f ys → (f ≡ e) ⊎ In f xs)
@@ -68,14 +46,8 @@ inserted_new e [] = inl refl
 inserted_new e (x ∷ xs) = in_now (event_cmp e x) e x xs (insert_key event_cmp xs e) (same_event e x) (inserted_new e xs)
 
 -- what holds of each element of a list
-module _ {A : Type 0} where
-  place : (xs : List A) (x : A) → In x xs → Contains xs x
-  place [] x h = absurd h
-  place (y ∷ ys) x (inl s) = (0, omega arith, sym s)
-  place (y ∷ ys) x (inr k) = (let r = place ys x k in (suc r.0, (let below = r.1 in omega arith), r.2))
-
-  pub in_all : (P : A → Type 0) (xs : List A) (x : A) → All P xs → In x xs → P x
-  in_all P xs x all h = All-contains P xs x all (place xs x h)
+pub in_all : {A : Type 0} (P : A → Type 0) (xs : List A) (x : A) → All P xs → In x xs → P x
+in_all P xs x all h = All-contains P xs x all (in_contains x xs h)
 
 -- the first event isn't among the later ones
 pub first_once : (e : Event) (events : List Event) → All (IsLtBy event_cmp e) events → In e events → ⊥

@@ -13,6 +13,7 @@ use Rattle.crq_base.specs.Histories.{puts, settleds, outs, own, NoneEarlier, Non
 use Rattle.crq_base.specs.Keys.{event_cmp}
 use Rattle.crq_base.specs.Lists.{In}
 use Rattle.crq_base.proofs.HistoryLaws.{puts-append, settleds-append, outs-append, began_now, legal_more}
+use Rattle.crq_base.proofs.Elements.{in_cases}
 use Rattle.crq_set.specs.Views.{PassView, MayPut}
 use Rattle.crq_set.specs.Gathered.{StandsIn, Gathers, Deals}
 use Rattle.crq_set.specs.Plain.{IsBalanced, IsKept, IsInOrder, plain_view, plain_setup}
@@ -148,16 +149,11 @@ put_entry (Take k f ∷ h) e c = (let r = put_entry h e c in (r.0, inr r.1))
 put_entry (Miss k limit ∷ h) e c = (let r = put_entry h e c in (r.0, inr r.1))
 put_entry (Table k log shift ∷ h) e c = (let r = put_entry h e c in (r.0, inr r.1))
 
-in_parts : (x : Entry) (xs ys : List Entry) → In x (xs ++ ys) → In x xs ⊎ In x ys
-in_parts x [] ys h = inr h
-in_parts x (y ∷ xs) ys (inl same) = inl (inl same)
-in_parts x (y ∷ xs) ys (inr later) = ⊎_elim (λ l. inl (inr l)) inr (in_parts x xs ys later)
-
 -- an event that the pass may put wasn't put yet
 pub fresh_new : (h : List Entry) (dealt span rows : ℕ) (e : Event) → MayPut (plain_setup rows) (plain_view h dealt span) e → Contains (puts h) e → ⊥
 fresh_new h dealt span rows e may c =
     let r = put_entry h e c in
-    may.1 r.0 e (in_parts (Put r.0 e) (take dealt h) (drop dealt h) (subst (λ (xs : List Entry). In (Put r.0 e) xs) (sym (take-append-drop dealt h)) r.1)) refl refl
+    may.1 r.0 e (in_cases (Put r.0 e) (take dealt h) (drop dealt h) (subst (λ (xs : List Entry). In (Put r.0 e) xs) (sym (take-append-drop dealt h)) r.1)) refl refl
 
 -- the passes' one place
 only_place : (v w : PassView) (k : ℕ) (P : ℕ → PassView → Type 0) → slice_get (Some v ∷ []) k ≡ Some (Some w) → P 0 v → P k w

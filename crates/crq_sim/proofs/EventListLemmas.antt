@@ -1,14 +1,13 @@
 -- An event list with one more event, and with several.
 use Rattle.std.proofs.Common.{◌≡◌, ◌⊎◌, ℕ, ◌+◌, ◌<◌, ◌≤◌, List, [], ◌∷◌, Bool, true, false, cond, ◌||◌, refl, arith, ap, length, drop, get_or, sym, ◌∙◌, inl, inr}
-use Rattle.std.proofs.lemmas.Bool.Decides.{nat_tests}
 use Rattle.std.proofs.lemmas.List.{drop_more, drop_all}
 use Rattle.std.specs.declared.cmp.Ordering.{Ordering}
 use Rattle.std.specs.declared.cmp.Ordering.TheVariants.{Less, Equal, Greater}
 use Rattle.std.specs.List.{AllByRecursion, list_any}
-use Rattle.std.specs.Ordering.{is_eq, is_lt, nat_cmp, ordering_then}
+use Rattle.std.specs.Ordering.{is_eq, is_lt}
 use Rattle.crq_base.specs.declared.event.Event.{Event}
 use Rattle.crq_base.specs.Keys.{event_cmp, IsBefore}
-use Rattle.crq_base.proofs.KeyOrder.{before_trans, before_else}
+use Rattle.crq_base.proofs.KeyOrder.{before_trans, before_else, same_event}
 use Rattle.crq_sim.specs.EventLists.{with_event, with_events, without_event, without_events, AreInOrder}
 
 -- no event of the list has all fields of this one
@@ -20,35 +19,9 @@ abbrev pub AreAbsent : List Event → List Event → Type 0
 AreAbsent [] pending = Unit {0}
 AreAbsent (e ∷ es) pending = IsAbsent e pending × AreAbsent es (with_event e pending)
 
-nat_equal : (a b : ℕ) → nat_cmp a b ≡ Equal → a ≡ b
-nat_equal a b h = grind (arith, nat_tests)
-
-then_equal : (p q : Ordering) → ordering_then p q ≡ Equal → (p ≡ Equal) × (q ≡ Equal)
-then_equal Less q h = absurd (cc)
-then_equal Equal q h = (refl, h)
-then_equal Greater q h = absurd (cc)
-
 -- events that are alike have one source and number
 alike : (a b : Event) → event_cmp a b ≡ Equal → (a.src ≡ b.src) × (a.seq ≡ b.seq)
-alike a b h =
-    let one = then_equal _ _ h in
-    let two = then_equal _ _ one.1 in
-    let three = then_equal _ _ two.1 in
-    (nat_equal _ _ two.0, nat_equal _ _ three.0)
-
--- events that are alike are one
-pub same_event : (a b : Event) → event_cmp a b ≡ Equal → a ≡ b
-same_event a b h =
-    let one = then_equal _ _ h in
-    let two = then_equal _ _ one.1 in
-    let three = then_equal _ _ two.1 in
-    let four = then_equal _ _ three.1 in
-    let time = nat_equal a.time b.time one.0 in
-    let src = nat_equal a.src b.src two.0 in
-    let seq = nat_equal a.seq b.seq three.0 in
-    let dst = nat_equal a.dst b.dst four.0 in
-    let load = nat_equal a.load b.load four.1 in
-    λ i. record { time = time i; src = src i; seq = seq i; dst = dst i; load = load i }
+alike a b h = (let one = same_event a b h in (ap (λ e. e.src) one, ap (λ e. e.seq) one))
 
 pub equal_is : (o : Ordering) → is_eq o ≡ true → o ≡ Equal
 equal_is Less h = absurd (cc)

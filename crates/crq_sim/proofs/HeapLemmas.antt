@@ -7,10 +7,10 @@ use Rattle.std.specs.List.Sorted.{IsPermutation}
 use Rattle.std.proofs.lemmas.List.Sorted.{IsPermutation-keeps, IsPermutation-map}
 use Rattle.crq_base.specs.declared.event.Event.{Event}
 use Rattle.crq_base.specs.Keys.{event_cmp, IsBefore}
-use Rattle.crq_base.proofs.KeyOrder.{before_trans, before_else, before_not_itself}
+use Rattle.crq_base.proofs.KeyOrder.{before_trans, before_else, before_not_itself, same_event}
 use Rattle.crq_sim.specs.EventLists.{with_event, with_events, IsHead}
 use Rattle.crq_sim.specs.Heaps.{listed}
-use Rattle.crq_sim.proofs.EventListLemmas.{same_event, equal_is, bool_cases, All-with_events}
+use Rattle.crq_sim.proofs.EventListLemmas.{equal_is, bool_cases, All-with_events}
 
 -- of two events one is before the other, or they are one
 one_before : (a b : Event) → IsBefore a b ⊎ (IsBefore b a ⊎ (a ≡ b))

@@ -6,9 +6,9 @@ use Rattle.std.specs.List.{AllByRecursion}
 use Rattle.std.proofs.lemmas.Cmp.{tied_itself}
 use Rattle.crq_base.specs.declared.event.Event.{Event}
 use Rattle.crq_base.specs.Keys.{event_cmp, IsBefore}
-use Rattle.crq_base.proofs.KeyOrder.{event_total, before_trans, before_not_itself}
+use Rattle.crq_base.proofs.KeyOrder.{event_total, before_trans, before_not_itself, same_event}
 use Rattle.crq_sim.specs.EventLists.{with_event, with_events, without_event, AreInOrder, IsHead}
-use Rattle.crq_sim.proofs.EventListLemmas.{bool_cases, same_event, equal_is}
+use Rattle.crq_sim.proofs.EventListLemmas.{bool_cases, equal_is}
 use Rattle.crq_sim.proofs.Members.{none_in, into_cons, from_cons}
 
 pub All-at : (P : Event → Type 0) (es : List Event) (x : Event) → AllByRecursion P es → Contains es x → P x

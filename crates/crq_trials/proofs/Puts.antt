@@ -1,23 +1,14 @@
 -- What tests show before they put an event.
-use Rattle.std.proofs.Common.{◌≡◌, ⊎_elim, inl, inr, ℕ, ◌/◌, min, Option, Some, None, List, [], ◌∷◌, ◌++◌, arith, refl, sym, ap, ◌∙◌, subst, slice_get, slice_set}
+use Rattle.std.proofs.Common.{◌≡◌, ⊎_elim, ℕ, ◌/◌, min, Option, Some, None, List, [], ◌∷◌, ◌++◌, arith, refl, sym, ap, ◌∙◌, subst, slice_get, slice_set}
 use Rattle.std.specs.List.{All}
 use Rattle.crq_base.specs.declared.event.Event.{Event}
 use Rattle.crq_base.specs.declared.entry.Entry.{Entry}
 use Rattle.crq_base.specs.declared.entry.Entry.TheVariants.{Put}
-use Rattle.crq_base.specs.Lists.{In}
+use Rattle.crq_base.proofs.Elements.{in_left, in_right}
 use Rattle.crq_set.specs.Views.{PassView, MayPut}
 use Rattle.crq_set.specs.Gathered.{AreThere}
 use Rattle.crq_set.specs.Plain.{plain_view, plain_setup}
 use Rattle.crq_set.proofs.EventSets.{in_all}
-
-in_left : (x : Entry) (xs ys : List Entry) → In x xs → In x (xs ++ ys)
-in_left x [] ys h = absurd h
-in_left x (y ∷ xs) ys (inl same) = inl same
-in_left x (y ∷ xs) ys (inr later) = inr (in_left x xs ys later)
-
-in_right : (x : Entry) (xs ys : List Entry) → In x ys → In x (xs ++ ys)
-in_right x [] ys h = h
-in_right x (y ∷ xs) ys h = inr (in_right x xs ys h)
 
 whose : (source : ℕ) → min source 0 ≡ 0
 whose source = omega arith

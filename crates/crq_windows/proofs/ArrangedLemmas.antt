@@ -12,9 +12,9 @@ use Rattle.std.specs.declared.cmp.Ordering.{Ordering}
 use Rattle.std.specs.declared.cmp.Ordering.TheVariants.{Less, Equal, Greater}
 use Rattle.crq_base.specs.declared.event.Event.{Event}
 use Rattle.crq_base.specs.Keys.{event_cmp, IsBefore}
-use Rattle.crq_base.proofs.KeyOrder.{event_total, before_else}
+use Rattle.crq_base.proofs.KeyOrder.{event_total, before_else, same_event}
 use Rattle.crq_sim.specs.EventLists.{HaveOneKey, HaveKeysApart}
-use Rattle.crq_sim.proofs.EventListLemmas.{bool_cases, same_event, equal_is, All-weaker}
+use Rattle.crq_sim.proofs.EventListLemmas.{bool_cases, equal_is, All-weaker}
 use Rattle.crq_windows.specs.Arranged.{object_cmp, IsArranged, are_alike, AreDistinct}
 
 pub object_total : IsTotalOrder object_cmp
