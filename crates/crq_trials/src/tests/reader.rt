@@ -91,286 +91,252 @@ fn is_refused(
     Ok(fault_of(alloc, text.as_bytes()) == (number, at) && said.as_str() == words)
 }
 
-#[test]
-fn refused_texts_1(rt: HostRuntime) -> Result<(), Fail> {
-    let alloc = rt.alloc();
-    for (old, new, number, at, words) in [
-        ("]}", "]", 1, 0, "the text isn't JSON in UTF-8"),
-        (r#""format":1"#, r#""format":2,"format":1"#, 0, 0, ""),
-        (
-            r#""format":1"#,
-            r#""format":1,"format":2"#,
-            5,
-            0,
-            r#""format" isn't 1"#,
-        ),
-        (
-            r#""format":1"#,
-            r#""format":"1""#,
-            4,
-            0,
-            r#""format" isn't a whole number from 0 to 18446744073709551615 in digits alone"#,
-        ),
-        (r#""format":1,"#, "", 3, 0, r#""format" is missing"#),
-        (
-            r#""lookahead":5"#,
-            r#""lookahead":0"#,
-            7,
-            0,
-            r#""lookahead" is 0"#,
-        ),
-        (
-            r#""lookahead":5"#,
-            r#""lookahead":5.0"#,
-            4,
-            0,
-            r#""lookahead" isn't a whole number from 0 to 18446744073709551615 in digits alone"#,
-        ),
-        (
-            r#""until":12"#,
-            r#""until":-1"#,
-            4,
-            0,
-            r#""until" isn't a whole number from 0 to 18446744073709551615 in digits alone"#,
-        ),
-        (
-            r#""until":12"#,
-            r#""until":4294967296"#,
-            5,
-            0,
-            r#""until" is above 4294967295"#,
-        ),
-        (
-            r#""until":12"#,
-            r#""until":18446744073709551615"#,
-            5,
-            0,
-            r#""until" is above 4294967295"#,
-        ),
-        (
-            r#""until":12"#,
-            r#""until":18446744073709551616"#,
-            4,
-            0,
-            r#""until" isn't a whole number from 0 to 18446744073709551615 in digits alone"#,
-        ),
-    ] {
-        assert!(rt;
-            is_refused(alloc, (old, new), number, at, words)?,
-            "{new} for {old}"
-        );
-    }
-    Ok(())
-}
+/// A part of `RELAYS` and what stands in its place, and the number, the place and the words of the fault that this makes.
+type Row = (&'static str, &'static str, u32, u32, &'static str);
+
+const REFUSED: [Row; 38] = [
+    ("]}", "]", 1, 0, "the text isn't JSON in UTF-8"),
+    (r#""format":1"#, r#""format":2,"format":1"#, 0, 0, ""),
+    (
+        r#""format":1"#,
+        r#""format":1,"format":2"#,
+        5,
+        0,
+        r#""format" isn't 1"#,
+    ),
+    (
+        r#""format":1"#,
+        r#""format":"1""#,
+        4,
+        0,
+        r#""format" isn't a whole number from 0 to 18446744073709551615 in digits alone"#,
+    ),
+    (r#""format":1,"#, "", 3, 0, r#""format" is missing"#),
+    (
+        r#""lookahead":5"#,
+        r#""lookahead":0"#,
+        7,
+        0,
+        r#""lookahead" is 0"#,
+    ),
+    (
+        r#""lookahead":5"#,
+        r#""lookahead":5.0"#,
+        4,
+        0,
+        r#""lookahead" isn't a whole number from 0 to 18446744073709551615 in digits alone"#,
+    ),
+    (
+        r#""until":12"#,
+        r#""until":-1"#,
+        4,
+        0,
+        r#""until" isn't a whole number from 0 to 18446744073709551615 in digits alone"#,
+    ),
+    (
+        r#""until":12"#,
+        r#""until":4294967296"#,
+        5,
+        0,
+        r#""until" is above 4294967295"#,
+    ),
+    (
+        r#""until":12"#,
+        r#""until":18446744073709551615"#,
+        5,
+        0,
+        r#""until" is above 4294967295"#,
+    ),
+    (
+        r#""until":12"#,
+        r#""until":18446744073709551616"#,
+        4,
+        0,
+        r#""until" isn't a whole number from 0 to 18446744073709551615 in digits alone"#,
+    ),
+    (
+        r#""until":12"#,
+        r#""until":1e1"#,
+        4,
+        0,
+        r#""until" isn't a whole number from 0 to 18446744073709551615 in digits alone"#,
+    ),
+    (
+        r#"[{"time":0,"object":"a"}]"#,
+        "{}",
+        4,
+        0,
+        r#""starts" isn't an array"#,
+    ),
+    (
+        r#""delay":7"#,
+        r#""delay":4"#,
+        7,
+        2,
+        r#"object 2: "delay" is below the lookahead"#,
+    ),
+    (
+        r#""next":"b""#,
+        r#""next":"c""#,
+        6,
+        1,
+        r#"object 1: "next" names no object "c""#,
+    ),
+    (
+        r#""next":"b""#,
+        r#""next":0"#,
+        4,
+        1,
+        r#"object 1: "next" isn't a text"#,
+    ),
+    (
+        r#""next":"a""#,
+        r#""next":"A""#,
+        6,
+        2,
+        r#"object 2: "next" names no object "A""#,
+    ),
+    (
+        r#""object":"a""#,
+        r#""object":"c""#,
+        6,
+        3,
+        r#"start 1: "object" names no object "c""#,
+    ),
+    (
+        r#""name":"b""#,
+        r#""name":"a""#,
+        5,
+        2,
+        r#"object 2: the name "a" is given twice"#,
+    ),
+    (
+        r#""name":"b""#,
+        r#""name":"""#,
+        5,
+        2,
+        r#"object 2: the name "" isn't 1 to 32 letters and digits of ASCII, '_', '-' and '.'"#,
+    ),
+    (
+        r#""name":"b""#,
+        r#""name":"123456789012345678901234567890123""#,
+        5,
+        2,
+        r#"object 2: the name "123456789012345678901234567890123" isn't 1 to 32 letters and digits of ASCII, '_', '-' and '.'"#,
+    ),
+    (
+        r#""name":"b""#,
+        r#""name":"b \u0007\u007f\"\\~é""#,
+        5,
+        2,
+        r#"object 2: the name "b \x07\x7f\x22\x5c~\xc3\xa9" isn't 1 to 32 letters and digits of ASCII, '_', '-' and '.'"#,
+    ),
+    (
+        r#""kind":"relay","delay":5"#,
+        r#""delay":5"#,
+        3,
+        1,
+        r#"object 1: "kind" is missing"#,
+    ),
+    (
+        r#""kind":"relay","delay":7"#,
+        r#""kind":"realy","delay":7"#,
+        6,
+        2,
+        r#"object 2: no kind "realy""#,
+    ),
+    (
+        r#""kind":"relay","delay":7"#,
+        r#""kind":"1234567890123456789012345678901234567890123456789012345678901234","delay":7"#,
+        6,
+        2,
+        r#"object 2: no kind "1234567890123456789012345678901234567890123456789012345678901234""#,
+    ),
+    (
+        r#""kind":"relay","delay":7"#,
+        r#""kind":"12345678901234567890123456789012345678901234567890123456789012345","delay":7"#,
+        6,
+        2,
+        r#"object 2: no kind "1234567890123456789012345678901234567890123456789012345678901234"..."#,
+    ),
+    (
+        r#""time":0"#,
+        r#""time":4294967296"#,
+        5,
+        3,
+        r#"start 1: "time" is above 4294967295"#,
+    ),
+    (r#""time":0,"#, "", 3, 3, r#"start 1: "time" is missing"#),
+    (
+        r#""object":"a""#,
+        r#""object":"a","data":null"#,
+        4,
+        3,
+        r#"start 1: "data" isn't a whole number from 0 to 18446744073709551615 in digits alone"#,
+    ),
+    (
+        r#""object":"a""#,
+        r#""object":"a","data":18446744073709551616"#,
+        4,
+        3,
+        r#"start 1: "data" isn't a whole number from 0 to 18446744073709551615 in digits alone"#,
+    ),
+    (RELAY_B, "7", 4, 2, "object 2: it isn't a JSON object"),
+    (
+        RELAY_B,
+        r#"{"name":"b","kind":"fan","delay":7,"targets":[]}"#,
+        5,
+        2,
+        r#"object 2: "targets" is empty"#,
+    ),
+    (
+        RELAY_B,
+        r#"{"name":"b","kind":"fan","delay":7,"targets":["a",1,"a","a","a"]}"#,
+        8,
+        2,
+        r#"object 2: "targets" has more than 4 elements"#,
+    ),
+    (
+        RELAY_B,
+        r#"{"name":"b","kind":"fan","delay":7,"targets":["a",1]}"#,
+        4,
+        2,
+        r#"object 2: "targets" isn't an array of texts"#,
+    ),
+    (
+        RELAY_B,
+        r#"{"name":"b","kind":"fan","delay":7,"targets":["a","c","d"]}"#,
+        6,
+        2,
+        r#"object 2: "targets" names no object "c""#,
+    ),
+    (
+        RELAY_B,
+        r#"{"name":"b","kind":"phold","seed":18446744073709551616,"spread":0}"#,
+        4,
+        2,
+        r#"object 2: "seed" isn't a whole number from 0 to 18446744073709551615 in digits alone"#,
+    ),
+    (
+        RELAY_B,
+        r#"{"name":"b","kind":"station","service":4,"next":"a"}"#,
+        7,
+        2,
+        r#"object 2: "service" is below the lookahead"#,
+    ),
+    (
+        RELAY_B,
+        r#"{"name":"b","kind":"sink"},null"#,
+        4,
+        3,
+        "object 3: it isn't a JSON object",
+    ),
+];
 
 #[test]
-fn refused_texts_2(rt: HostRuntime) -> Result<(), Fail> {
+fn refused_texts(rt: HostRuntime) -> Result<(), Fail> {
     let alloc = rt.alloc();
-    for (old, new, number, at, words) in [
-        (
-            r#""until":12"#,
-            r#""until":1e1"#,
-            4,
-            0,
-            r#""until" isn't a whole number from 0 to 18446744073709551615 in digits alone"#,
-        ),
-        (
-            r#"[{"time":0,"object":"a"}]"#,
-            "{}",
-            4,
-            0,
-            r#""starts" isn't an array"#,
-        ),
-        (
-            r#""delay":7"#,
-            r#""delay":4"#,
-            7,
-            2,
-            r#"object 2: "delay" is below the lookahead"#,
-        ),
-        (
-            r#""next":"b""#,
-            r#""next":"c""#,
-            6,
-            1,
-            r#"object 1: "next" names no object "c""#,
-        ),
-        (
-            r#""next":"b""#,
-            r#""next":0"#,
-            4,
-            1,
-            r#"object 1: "next" isn't a text"#,
-        ),
-        (
-            r#""next":"a""#,
-            r#""next":"A""#,
-            6,
-            2,
-            r#"object 2: "next" names no object "A""#,
-        ),
-        (
-            r#""object":"a""#,
-            r#""object":"c""#,
-            6,
-            3,
-            r#"start 1: "object" names no object "c""#,
-        ),
-        (
-            r#""name":"b""#,
-            r#""name":"a""#,
-            5,
-            2,
-            r#"object 2: the name "a" is given twice"#,
-        ),
-        (
-            r#""name":"b""#,
-            r#""name":"""#,
-            5,
-            2,
-            r#"object 2: the name "" isn't 1 to 32 letters and digits of ASCII, '_', '-' and '.'"#,
-        ),
-    ] {
-        assert!(rt;
-            is_refused(alloc, (old, new), number, at, words)?,
-            "{new} for {old}"
-        );
-    }
-    Ok(())
-}
-
-#[test]
-fn refused_texts_3(rt: HostRuntime) -> Result<(), Fail> {
-    let alloc = rt.alloc();
-    for (old, new, number, at, words) in [
-        (
-            r#""name":"b""#,
-            r#""name":"123456789012345678901234567890123""#,
-            5,
-            2,
-            r#"object 2: the name "123456789012345678901234567890123" isn't 1 to 32 letters and digits of ASCII, '_', '-' and '.'"#,
-        ),
-        (
-            r#""name":"b""#,
-            r#""name":"b \u0007\u007f\"\\~é""#,
-            5,
-            2,
-            r#"object 2: the name "b \x07\x7f\x22\x5c~\xc3\xa9" isn't 1 to 32 letters and digits of ASCII, '_', '-' and '.'"#,
-        ),
-        (
-            r#""kind":"relay","delay":5"#,
-            r#""delay":5"#,
-            3,
-            1,
-            r#"object 1: "kind" is missing"#,
-        ),
-        (
-            r#""kind":"relay","delay":7"#,
-            r#""kind":"realy","delay":7"#,
-            6,
-            2,
-            r#"object 2: no kind "realy""#,
-        ),
-        (
-            r#""kind":"relay","delay":7"#,
-            r#""kind":"1234567890123456789012345678901234567890123456789012345678901234","delay":7"#,
-            6,
-            2,
-            r#"object 2: no kind "1234567890123456789012345678901234567890123456789012345678901234""#,
-        ),
-        (
-            r#""kind":"relay","delay":7"#,
-            r#""kind":"12345678901234567890123456789012345678901234567890123456789012345","delay":7"#,
-            6,
-            2,
-            r#"object 2: no kind "1234567890123456789012345678901234567890123456789012345678901234"..."#,
-        ),
-        (
-            r#""time":0"#,
-            r#""time":4294967296"#,
-            5,
-            3,
-            r#"start 1: "time" is above 4294967295"#,
-        ),
-        (r#""time":0,"#, "", 3, 3, r#"start 1: "time" is missing"#),
-        (
-            r#""object":"a""#,
-            r#""object":"a","data":null"#,
-            4,
-            3,
-            r#"start 1: "data" isn't a whole number from 0 to 18446744073709551615 in digits alone"#,
-        ),
-    ] {
-        assert!(rt;
-            is_refused(alloc, (old, new), number, at, words)?,
-            "{new} for {old}"
-        );
-    }
-    Ok(())
-}
-
-#[test]
-fn refused_texts_4(rt: HostRuntime) -> Result<(), Fail> {
-    let alloc = rt.alloc();
-    for (old, new, number, at, words) in [
-        (
-            r#""object":"a""#,
-            r#""object":"a","data":18446744073709551616"#,
-            4,
-            3,
-            r#"start 1: "data" isn't a whole number from 0 to 18446744073709551615 in digits alone"#,
-        ),
-        (RELAY_B, "7", 4, 2, "object 2: it isn't a JSON object"),
-        (
-            RELAY_B,
-            r#"{"name":"b","kind":"fan","delay":7,"targets":[]}"#,
-            5,
-            2,
-            r#"object 2: "targets" is empty"#,
-        ),
-        (
-            RELAY_B,
-            r#"{"name":"b","kind":"fan","delay":7,"targets":["a",1,"a","a","a"]}"#,
-            8,
-            2,
-            r#"object 2: "targets" has more than 4 elements"#,
-        ),
-        (
-            RELAY_B,
-            r#"{"name":"b","kind":"fan","delay":7,"targets":["a",1]}"#,
-            4,
-            2,
-            r#"object 2: "targets" isn't an array of texts"#,
-        ),
-        (
-            RELAY_B,
-            r#"{"name":"b","kind":"fan","delay":7,"targets":["a","c","d"]}"#,
-            6,
-            2,
-            r#"object 2: "targets" names no object "c""#,
-        ),
-        (
-            RELAY_B,
-            r#"{"name":"b","kind":"phold","seed":18446744073709551616,"spread":0}"#,
-            4,
-            2,
-            r#"object 2: "seed" isn't a whole number from 0 to 18446744073709551615 in digits alone"#,
-        ),
-        (
-            RELAY_B,
-            r#"{"name":"b","kind":"station","service":4,"next":"a"}"#,
-            7,
-            2,
-            r#"object 2: "service" is below the lookahead"#,
-        ),
-        (
-            RELAY_B,
-            r#"{"name":"b","kind":"sink"},null"#,
-            4,
-            3,
-            "object 3: it isn't a JSON object",
-        ),
-    ] {
+    for (old, new, number, at, words) in REFUSED {
         assert!(rt;
             is_refused(alloc, (old, new), number, at, words)?,
             "{new} for {old}"

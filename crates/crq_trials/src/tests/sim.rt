@@ -1,27 +1,18 @@
-//! Draws, reactions and whole runs of small models.
+//! Draws, reactions, and runs of models of one object. Larger models run in the tests of `crq_top`.
 
 ghost use Rattle.std.specs.Prelude.{◌≡◌, ◌<◌, ◌≤◌, ◌^◌, true, IfOk, vec_len, length, codes, [], ◌∷◌};
 ghost use Rattle.std.specs.List.{AllByRecursion};
 ghost use Rattle.crq_sim.specs.Models.{IsBehaviour, IsObject};
-ghost use Rattle.crq_sim.specs.declared.model.Behaviour.TheVariants.{Sink};
 ghost use Rattle.crq_sim.specs.Names.{is_name};
 ghost use Rattle.crq_sim.specs.declared.model.Start.{Start};
 
 use crq_base::{Event, Memory};
 use crq_sim::{
     Behaviour, MOST_STARTS, Model, Name, Object, ObjectState, ObjectTrace, Objects, Sends,
-    Sequence, SimEnd, Start, Targets, draw, generate, react, serial,
+    Sequence, SimEnd, Start, Targets, draw, react, serial,
 };
 use std::alloc::Global;
 use std::test::Fail;
-
-/// The seed of a PHOLD object, and None for any other behaviour.
-fn seed_of(object: &Object) -> Option<u64> {
-    match &object.behaviour {
-        Behaviour::Phold { seed, .. } => Some(*seed),
-        _ => None,
-    }
-}
 
 #[test]
 fn draws(rt: HostRuntime) {
@@ -36,26 +27,6 @@ fn draws(rt: HostRuntime) {
         assert_eq!(rt; drawn, wanted);
         state = after;
     }
-}
-
-#[test]
-fn generates(rt: HostRuntime) -> Result<(), Fail> {
-    let model = generate(rt.alloc(), 0, 2, 1)?;
-    assert_eq!(rt; (model.lookahead(), model.until()), (16, 2000));
-    let objects = model.objects();
-    let wanted = [("p1", 16294208416658607535), ("p2", 7960286522194355700)];
-    assert_eq!(rt; objects.len(), wanted.len());
-    for (object, (name, seed)) in objects.iter().zip(wanted) {
-        assert_eq!(rt; object.name.as_str(), name);
-        assert_eq!(rt; seed_of(object), Some(seed));
-    }
-    let start = Start {
-        time: 236,
-        object: 2,
-        load: 0,
-    };
-    assert_eq!(rt; model.starts(), [start].as_slice());
-    Ok(())
 }
 
 /// An object with a name.
@@ -79,20 +50,6 @@ fn one_object(alloc: Global, behaviour: Behaviour) -> Result<Objects, Memory>
     Ok(objects)
 }
 
-/// Three objects, `a`, `b` and a sink `z`.
-fn three_objects(alloc: Global, a: Behaviour, b: Behaviour) -> Result<Objects, Memory>
-    ensures { IfOk result (λ os. os ≡ record { name = codes "a"; behaviour = a } ∷ record { name = codes "b"; behaviour = b } ∷ record { name = codes "z"; behaviour = Sink } ∷ []) }
-{
-    let mut objects = Sequence::from_vec(Vec::new(alloc));
-    let first = object(alloc, "a", a)?;
-    objects.push(first)?;
-    let second = object(alloc, "b", b)?;
-    objects.push(second)?;
-    let third = object(alloc, "z", Behaviour::Sink)?;
-    objects.push(third)?;
-    Ok(objects)
-}
-
 /// A model of one object.
 fn one(
     alloc: Global,
@@ -109,26 +66,6 @@ fn one(
     ensures until { IfOk result (λ m. m.until ≡ until) }
 {
     let objects = one_object(alloc, behaviour)?;
-    let model = Model::new(lookahead, until, objects, Sequence::from_vec(starts));
-    Ok(model)
-}
-
-/// A model of three objects.
-fn three(
-    alloc: Global,
-    lookahead: u32,
-    until: u32,
-    a: Behaviour,
-    b: Behaviour,
-    starts: Vec<Start>,
-) -> Result<Model, Memory>
-    requires ahead { 0 < lookahead }
-    requires a { IsBehaviour lookahead 3 a }
-    requires b { IsBehaviour lookahead 3 b }
-    requires few { vec_len starts ≤ MOST_STARTS }
-    requires started { AllByRecursion (λ (s : Start). IsObject 3 s.object) starts.items }
-{
-    let objects = three_objects(alloc, a, b)?;
     let model = Model::new(lookahead, until, objects, Sequence::from_vec(starts));
     Ok(model)
 }
@@ -216,83 +153,23 @@ fn has_rows(trace: &ObjectTrace, rows: &[Row]) -> bool {
         })
 }
 
-fn start(time: u32, object: u32, load: u64) -> Start
-    ensures { result ≡ record { time = time; object = object; load = load } }
+/// A start of the one object at tick 0.
+fn start(load: u64) -> Start
+    ensures { result ≡ record { time = 0; object = 1; load = load } }
 {
-    Start { time, object, load }
-}
-
-/// Whether the serial run of a model leaves these steps, object by object.
-fn leaves(alloc: Global, model: &Model, wanted: &[&[Row]]) -> bool {
-    match serial(alloc, model, 100) {
-        Ok(traces) => {
-            traces.len() == wanted.len()
-                && traces
-                    .as_slice()
-                    .iter()
-                    .zip(wanted)
-                    .all(|(trace, rows)| has_rows(trace, rows))
-        }
-        Err(_) => false,
+    Start {
+        time: 0,
+        object: 1,
+        load,
     }
 }
 
-#[test]
-fn relays_run(rt: HostRuntime) -> Result<(), Fail> {
-    let alloc = rt.alloc();
-    let a = Behaviour::Relay { delay: 5, next: 2 };
-    let b = Behaviour::Relay { delay: 7, next: 1 };
-    let starts = vec![in alloc; start(0, 1, 0)]?;
-    let model = three(alloc, 5, 12, a, b, starts)?;
-    let wanted: [&[Row]; 3] = [
-        &[(0, 0, 0, 0, 1, 0), (12, 2, 0, 2, 2, 2)],
-        &[(5, 1, 0, 1, 1, 1)],
-        &[],
-    ];
-    assert!(rt; leaves(alloc, &model, &wanted));
-    Ok(())
-}
-
-#[test]
-fn equal_times_run(rt: HostRuntime) -> Result<(), Fail> {
-    let alloc = rt.alloc();
-    let a = Behaviour::Relay { delay: 5, next: 3 };
-    let b = Behaviour::Relay { delay: 5, next: 3 };
-    let starts = vec![in alloc; start(0, 2, 20), start(0, 1, 10)]?;
-    let model = three(alloc, 5, 100, a, b, starts)?;
-    let wanted: [&[Row]; 3] = [
-        &[(0, 0, 1, 10, 1, 10)],
-        &[(0, 0, 0, 20, 1, 20)],
-        &[(5, 1, 0, 11, 1, 11), (5, 2, 0, 21, 2, 32)],
-    ];
-    assert!(rt; leaves(alloc, &model, &wanted));
-    Ok(())
-}
-
-#[test]
-fn stations_run(rt: HostRuntime) -> Result<(), Fail> {
-    let alloc = rt.alloc();
-    let a = Behaviour::Station {
-        service: 4,
-        next: 3,
-    };
-    let starts = vec![in alloc; start(0, 1, 10), start(1, 1, 20), start(2, 1, 30)]?;
-    let model = three(alloc, 4, 100, a, Behaviour::Sink, starts)?;
-    let wanted: [&[Row]; 3] = [
-        &[
-            (0, 0, 0, 10, 1, 4),
-            (1, 0, 1, 20, 2, 8),
-            (2, 0, 2, 30, 3, 12),
-        ],
-        &[],
-        &[
-            (4, 1, 0, 10, 1, 10),
-            (8, 1, 1, 20, 2, 30),
-            (12, 1, 2, 30, 3, 60),
-        ],
-    ];
-    assert!(rt; leaves(alloc, &model, &wanted));
-    Ok(())
+/// Whether the serial run of a model of one object leaves these steps.
+fn leaves(alloc: Global, model: &Model, wanted: &[Row]) -> bool {
+    match serial(alloc, model, 100) {
+        Ok(traces) => matches!(traces.as_slice(), [trace] if has_rows(trace, wanted)),
+        Err(_) => false,
+    }
 }
 
 #[test]
@@ -302,12 +179,12 @@ fn drawn_delays_run(rt: HostRuntime) -> Result<(), Fail> {
         seed: 0,
         spread: 240,
     };
-    let starts = vec![in alloc; start(0, 1, 7)]?;
+    let starts = vec![in alloc; start(7)]?;
     let model = one(alloc, 16, 100, behaviour, starts)?;
-    let wanted: [&[Row]; 1] = [&[
+    let wanted = [
         (0, 0, 0, 7, 1, 4354685564936845354),
         (49, 1, 0, 7, 2, 8709371129873690708),
-    ]];
+    ];
     assert!(rt; leaves(alloc, &model, &wanted));
     Ok(())
 }
@@ -316,7 +193,7 @@ fn drawn_delays_run(rt: HostRuntime) -> Result<(), Fail> {
 fn fans_pass_the_cap(rt: HostRuntime) -> Result<(), Fail> {
     let alloc = rt.alloc();
     let targets = Targets::from_vec(vec![in alloc; 1, 1]?);
-    let starts = vec![in alloc; start(0, 1, 0)]?;
+    let starts = vec![in alloc; start(0)]?;
     let model = one(alloc, 5, 1000, Behaviour::Fan { delay: 5, targets }, starts)?;
     assert_eq!(rt; serial(alloc, &model, 1000).err(), Some(SimEnd::Events(10)));
     Ok(())
