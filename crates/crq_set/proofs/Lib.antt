@@ -2,3 +2,4 @@ pub mod EventSets
 pub mod Balances
 pub mod PlainLaws
 pub mod MakerLaws
+pub mod TestLaws

@@ -1,12 +1,11 @@
 -- What tests show before they put an event.
-use Rattle.std.proofs.Common.{◌≡◌, ⊎_elim, ℕ, ◌/◌, min, Option, Some, None, List, [], ◌∷◌, ◌++◌, arith, refl, sym, ap, ◌∙◌, subst, slice_get, slice_set}
+use Rattle.std.proofs.Common.{◌≡◌, ⊎_elim, ℕ, ◌/◌, min, List, ◌++◌, arith, refl}
 use Rattle.std.specs.List.{All}
 use Rattle.crq_base.specs.declared.event.Event.{Event}
 use Rattle.crq_base.specs.declared.entry.Entry.{Entry}
 use Rattle.crq_base.specs.declared.entry.Entry.TheVariants.{Put}
 use Rattle.crq_base.proofs.Elements.{in_left, in_right}
-use Rattle.crq_set.specs.Views.{PassView, MayPut}
-use Rattle.crq_set.specs.Gathered.{AreThere}
+use Rattle.crq_set.specs.Views.{MayPut}
 use Rattle.crq_set.specs.Plain.{plain_view, plain_setup}
 use Rattle.crq_set.proofs.EventSets.{in_all}
 
@@ -22,10 +21,3 @@ pub may_put : (h : List Entry) (dealt span rows : ℕ) (e : Event) → let v = p
 may_put h dealt span rows e all =
     let v = plain_view h dealt span in
     (whose (e.src / span), λ k f seen. in_all (IsOther e) (v.dealt ++ v.own) (Put k f) all (⊎_elim (in_left (Put k f) v.dealt v.own) (in_right (Put k f) v.dealt v.own) seen) k f refl)
-
--- the one pass stands in its place again
-pub one_there : (old new : List (Option PassView)) (v : PassView) → old ≡ None ∷ [] → new ≡ slice_set old 0 (Some v) → AreThere 1 new
-one_there old new v empty lowered k below =
-    let back : new ≡ Some v ∷ [] = lowered ∙ ap (λ (xs : List (Option PassView)). slice_set xs 0 (Some v)) empty in
-    let first : 0 ≡ k = omega arith in
-    (v, subst (λ (xs : List (Option PassView)). slice_get xs k ≡ Some (Some v)) (sym back) (subst (λ (j : ℕ). slice_get (Some v ∷ []) j ≡ Some (Some v)) first refl))

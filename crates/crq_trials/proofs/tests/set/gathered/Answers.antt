@@ -1,4 +1,4 @@
-use Rattle.crq_trials.proofs.Puts.{one_there}
+use Rattle.crq_set.proofs.TestLaws.{one_there}
 use Rattle.crq_trials.proofs.tests.set.gathered.Goals as goal
 
 pub gather-requires-clause-there : goal.gather-requires-clause-there
