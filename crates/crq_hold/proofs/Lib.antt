@@ -3,3 +3,4 @@ pub mod Waiting
 pub mod Lifting
 pub mod Teaming
 pub mod Totals
+pub mod OneCaller

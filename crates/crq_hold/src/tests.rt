@@ -5,6 +5,8 @@ ghost use Rattle.crq_hold.specs.Workers.{IsWorker};
 ghost use Rattle.crq_hold.specs.Teams.{AreFree};
 
 mod churning;
+mod epochs;
+mod one_caller;
 mod owing;
 mod phases;
 mod scarcity;

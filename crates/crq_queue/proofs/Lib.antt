@@ -11,4 +11,3 @@ pub mod CallStages
 pub mod CallEnds
 pub mod Waits
 pub mod Sets
-pub mod TestLaws

@@ -9,8 +9,6 @@ mod gathering;
 mod maker;
 mod runs;
 mod set_maker;
-#[cfg(test)]
-mod tests;
 mod waiting;
 
 pub use calendar::{Calendar, Closed, Whole};

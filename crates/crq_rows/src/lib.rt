@@ -13,8 +13,6 @@ mod own;
 mod places;
 mod recover;
 mod steps;
-#[cfg(test)]
-mod tests;
 mod tick;
 
 pub use crq_base::{Holder, Stamp};

@@ -1,8 +1,10 @@
 //! Callers whose rows run out: who keeps the epoch then, and how many events are pending where no row is left.
 ghost use Rattle.std.specs.Prelude.{◌≡◌, Some, None, IfOk};
 ghost use Rattle.crq_base.specs.Sizes.{IsTeam, AreRows};
+ghost use Rattle.crq_base.specs.declared.words.Control.{Control};
 ghost use Rattle.crq_rows.specs.Passes.{caller, IsPassOf};
 ghost use Rattle.crq_queue.specs.Wholes.{IsResting};
+ghost use Rattle.crq_queue.specs.Runs.{IsInside};
 ghost use Rattle.crq_hold.specs.declared.worker.Worker.{Worker};
 ghost use Rattle.crq_hold.specs.Workers.{IsWorker, WorksOn};
 
@@ -16,7 +18,7 @@ use std::alloc::Global;
 use std::test::Fail;
 
 /// The exchanges that a call may make.
-const BUDGET: u32 = 64;
+pub(crate) const BUDGET: u32 = 64;
 /// How often a put is made that is refused with Again.
 const TRIES: u32 = 10;
 /// More events than a caller of any table here has rows for.
@@ -42,11 +44,14 @@ fn pair(
 }
 
 /// Turns the guard of a resting pass on.
-fn enter(queue: &Calendar, pass: &mut Pass)
+pub(crate) fn enter(queue: &Calendar, pass: &mut Pass)
     requires { IsResting queue.now.table pass.old }
     ensures of { IsPassOf queue.now.table pass.new }
     ensures uncut { (caller queue.now.table pass.new).cut ≡ None }
     ensures uncopied { pass.new.debts.copy ≡ None }
+    ensures inside { (x : Control) → (caller queue.now.table pass.old).found.control ≡ Some x → IsInside queue.now.table x pass.new }
+    ensures own { (caller queue.now.table pass.new).own ≡ (caller queue.now.table pass.old).own }
+    ensures debts { pass.new.debts ≡ pass.old.debts }
 {
     let epoch = epoch_step(&queue.table, pass);
     enter_step(&queue.table, pass, epoch);
@@ -62,7 +67,7 @@ fn epoch_of(queue: &Calendar, worker: &mut Worker) -> u64
 }
 
 /// Puts an event and takes one, and says whether both were done.
-fn put_and_take(queue: &Calendar, worker: &mut Worker) -> bool
+pub(crate) fn put_and_take(queue: &Calendar, worker: &mut Worker) -> bool
     requires { IsWorker queue.now.table worker.old }
     ensures { WorksOn queue.now.table worker.old worker.new }
 {
@@ -105,7 +110,7 @@ fn put_again(queue: &Calendar, worker: &mut Worker, time: u32) -> Result<PutEnd,
 }
 
 /// Puts events until that is refused. It answers how many were put, and the refusal.
-fn fill(queue: &Calendar, worker: &mut Worker) -> (u32, Option<Refusal>)
+pub(crate) fn fill(queue: &Calendar, worker: &mut Worker) -> (u32, Option<Refusal>)
     requires { IsWorker queue.now.table worker.old }
 {
     for pending in 0..MANY {

@@ -1,6 +1,6 @@
 use Rattle.std.proofs.Common.{sym, ◌∙◌, subst, arith}
 use Rattle.crq_queue.specs.Wholes.{IsResting}
-use Rattle.crq_queue.proofs.tests.waits_for_nobody.Goals as goal
+use Rattle.crq_hold.proofs.tests.one_caller.waits_for_nobody.Goals as goal
 
 pub lift-pass-requires : goal.lift-pass-requires
 lift-pass-requires g c = let r = c.deal-passes.ensures.resting.each 0 (let one = c.in_ok-calendar.ensures.size.0 in omega arith) in (r.0, r.1)

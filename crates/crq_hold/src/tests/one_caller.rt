@@ -4,8 +4,9 @@ ghost use Rattle.std.specs.Prelude.{◌≡◌, [], OnOk};
 ghost use Rattle.crq_base.specs.Sizes.{IsTeam};
 ghost use Rattle.crq_set.specs.Gathered.{IsDealt};
 
-use crate::{Calendar, CalendarMaker, First, Memory, Route, Short, TakeEnd};
-use crq_base::{Event, judge};
+use crate::tests::LIMIT;
+use crq_base::{Event, First, Route, Short, TakeEnd, judge};
+use crq_queue::{Calendar, CalendarMaker, Memory};
 use crq_rows::Owes;
 use crq_set::{EventSet, PlainMaker, SetMaker};
 use std::alloc::Global;
@@ -57,9 +58,6 @@ fn waits_for_nobody(rt: HostRuntime) -> Result<(), Fail> {
     assert_eq!(rt; calendar.take(&rt, &mut pass, 4), Ok(TakeEnd::Missed));
     Ok(())
 }
-
-/// A limit above the time of each event.
-const LIMIT: u64 = 1 << 32;
 
 /// An event of source 0 by its time and number.
 fn event(time: u32, seq: u64) -> Event

@@ -6,7 +6,7 @@ use Rattle.crq_rule.specs.declared.pass.Seating.TheVariants.{Lifted}
 use Rattle.crq_rows.specs.Passes.{IsNew}
 use Rattle.crq_rows.proofs.Slots.{get_here, get_else}
 use Rattle.crq_rows.proofs.Deals.{lifted_new, lowered_here, same_pass}
-use Rattle.crq_rows.proofs.tests.pair.Goals as goal
+use Rattle.crq_hold.proofs.tests.epochs.pair.Goals as goal
 
 pub lift-zero-requires : goal.lift-zero-requires
 lift-zero-requires c = let t = c.passes-table.result.0 in let few = t.start.layout.few in let h = c.passes-table.ensures.new.each 0 (omega arith) in (h.0, h.1)

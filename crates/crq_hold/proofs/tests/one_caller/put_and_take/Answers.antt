@@ -1,6 +1,6 @@
 use Rattle.std.proofs.Common.{arith}
-use Rattle.crq_queue.proofs.TestLaws.{put_second}
-use Rattle.crq_queue.proofs.tests.put_and_take.Goals as goal
+use Rattle.crq_hold.proofs.OneCaller.{put_second}
+use Rattle.crq_hold.proofs.tests.one_caller.put_and_take.Goals as goal
 
 pub put-requires-2-clause-may : goal.put-requires-2-clause-may
 put-requires-2-clause-may g c =

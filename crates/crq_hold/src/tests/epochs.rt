@@ -1,15 +1,15 @@
-//! Worked examples of the passes of a small table.
+//! Worked examples of the passes of a small table: how they raise the epoch, and find free rows.
 ghost use Rattle.std.specs.Prelude.{◌≡◌, ◌<◌, ◌≤◌, ◌^◌, IfOk, None};
 ghost use Rattle.crq_rule.specs.declared.view.Guard.TheVariants.{Off};
 ghost use Rattle.crq_rows.specs.Passes.{caller, IsNew, IsPassOf};
 ghost use Rattle.crq_rows.specs.Ticking.{IsTicking};
 ghost use Rattle.crq_rows.specs.Recovering.{IsRecovering};
 
-use crate::{
+use crq_base::First;
+use crq_rows::{
     Holder, Owes, Own, OwnOp, Pass, Recover, RecoverOp, Stamp, Table, Tick, TickOp, confirm_step,
     enter_step, epoch_step, leave_step, look_step, passes, scan_step,
 };
-use crq_base::First;
 use crq_rule::{Layout, open_table};
 use std::alloc::{AllocError, Global};
 use std::test::Fail;

@@ -1,5 +1,5 @@
-use Rattle.crq_queue.proofs.TestLaws.{empty_one, lowered_one}
-use Rattle.crq_queue.proofs.tests.used_alone.Goals as goal
+use Rattle.crq_hold.proofs.OneCaller.{empty_one, lowered_one}
+use Rattle.crq_hold.proofs.tests.one_caller.used_alone.Goals as goal
 
 pub gather-whole-requires-clause-there : goal.gather-whole-requires-clause-there
 gather-whole-requires-clause-there g c =

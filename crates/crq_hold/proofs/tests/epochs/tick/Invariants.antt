@@ -1,6 +1,6 @@
 use Rattle.crq_rows.specs.Passes.{caller, IsPassOf}
 use Rattle.crq_rows.specs.Ticking.{IsTicking}
-use Rattle.crq_rows.proofs.tests.tick.Given as goal
+use Rattle.crq_hold.proofs.tests.epochs.tick.Given as goal
 
 abbrev pub invariant-loop-i : goal.invariant-loop-i
 invariant-loop-i l = IsPassOf l.table l.pass × IsTicking l.table.start.layout l.op (caller l.table l.pass)
