@@ -4,3 +4,4 @@ pub mod Lifting
 pub mod Teaming
 pub mod Totals
 pub mod OneCaller
+pub mod Stopping

@@ -10,6 +10,7 @@ mod one_caller;
 mod owing;
 mod phases;
 mod scarcity;
+mod stopping;
 mod ways;
 
 use crate::team::team;
