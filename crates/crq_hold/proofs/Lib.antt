@@ -3,5 +3,6 @@ pub mod Waiting
 pub mod Lifting
 pub mod Teaming
 pub mod Totals
+pub mod NewPasses
 pub mod OneCaller
 pub mod Stopping

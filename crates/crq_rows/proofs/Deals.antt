@@ -1,9 +1,5 @@
 -- The passes of a new table.
-use Rattle.std.proofs.Common.{◌≡◌, inl, ℕ, zero, suc, ◌+◌, ◌*◌, ◌<◌, ◌≤◌, List, [], ◌∷◌, length, set, None, Some, sym, refl, ap, ◌∙◌, subst, arith, length-set}
-use Rattle.std.specs.Prelude.{slice_get}
-use mathlib.Core.Option.{some, some-injective}
-use mathlib.Core.Logic.{dite}
-use native.Mathlib.Decide.{ℕ_discrete}
+use Rattle.std.proofs.Common.{◌≡◌, inl, ℕ, zero, suc, ◌+◌, ◌*◌, ◌<◌, List, [], ◌∷◌, length, None, Some, sym, refl, ap, ◌∙◌, subst, arith}
 use lib.ListN.{get_elem?}
 use Rattle.atomic_table.specs.declared.shared.Seat.{Seat}
 use Rattle.crq_rule.specs.declared.debts.CutDebt.{CutDebt}
@@ -15,7 +11,7 @@ use Rattle.crq_rule.specs.declared.pass.Rest.{Rest}
 use Rattle.crq_rule.specs.declared.pass.Table.{Table}
 use Rattle.crq_rule.specs.declared.pass.Seating.{Seating}
 use Rattle.crq_rule.specs.declared.pass.Seating.TheVariants.{Here, Resting}
-use Rattle.crq_rule.specs.Rule.{fresh, fresh_from, head_view, tail_view, first_of, rest_of, IsFirstApart}
+use Rattle.crq_rule.specs.Rule.{fresh, fresh_from}
 use Rattle.crq_rule.specs.Moves.{Lawful}
 use Rattle.crq_rule.specs.Opening.{IsFresh, IsOpening, no_debts}
 use Rattle.crq_rule.proofs.ScarceLaws.{none_base}
@@ -24,7 +20,6 @@ use Rattle.crq_rule.proofs.Openings.{fresh_at, none_control}
 use Rattle.crq_rule.proofs.HolderLaws.{none_some}
 use Rattle.crq_rows.specs.Passes.{first_part, IsOwed, IsNew, AreNew}
 use Rattle.crq_rows.specs.Waking.{AllRest, pass_of, AllWoken}
-use Rattle.crq_rows.proofs.Slots.{get_here, get_else}
 
 no_debt : (d : CutDebt) → None ≡ Some d → ⊥
 no_debt d is = cc
@@ -102,11 +97,3 @@ woken_new table seat places now o w = let parts : seat.me.0.parts ≡ fresh_from
 
 pub same_pass : (p q : Pass) → Some (Here p) ≡ Some (Here q) → p ≡ q
 same_pass p q e = cc
-
--- a pass that was lifted from its place is new
-pub lifted_new : (table : Table) (places : List Seating) (j : ℕ) (pass : Pass) → j < table.start.layout.workers → AreNew table places → slice_get places j ≡ Some (Here pass) → IsNew table j pass
-lifted_new table places j pass b new at = let h = new.each j b in subst (IsNew table j) (same_pass h.0 pass (sym h.1 ∙ at)) h.2
-
--- a pass that was put back is in its place
-pub lowered_here : (places : List Seating) (pass : Pass) (j : ℕ) → pass.number ≡ j → j < length places → slice_get (set places pass.number (Here pass)) j ≡ Some (Here pass)
-lowered_here places pass j is b = subst (λ k. slice_get (set places pass.number (Here pass)) k ≡ Some (Here pass)) is (get_here places pass.number (Here pass) (omega arith))

@@ -5,7 +5,8 @@ use Rattle.crq_rule.specs.declared.pass.Seating.{Seating}
 use Rattle.crq_rule.specs.declared.pass.Seating.TheVariants.{Lifted}
 use Rattle.crq_rows.specs.Passes.{IsNew}
 use Rattle.crq_rows.proofs.Slots.{get_here, get_else}
-use Rattle.crq_rows.proofs.Deals.{lifted_new, lowered_here, same_pass}
+use Rattle.crq_rows.proofs.Deals.{same_pass}
+use Rattle.crq_hold.proofs.NewPasses.{lifted_new, lowered_here}
 use Rattle.crq_hold.proofs.tests.epochs.pair.Goals as goal
 
 pub lift-zero-requires : goal.lift-zero-requires
