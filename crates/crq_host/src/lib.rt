@@ -17,6 +17,3 @@ mod worker;
 pub use drive_end::DriveEnd;
 pub use driving::drive;
 pub use gate::{Gate, OpenGate, Phase};
-
-#[cfg(test)]
-mod tests;

@@ -28,6 +28,7 @@ status_of endings.Read = statuses.Read
 status_of endings.Write = statuses.Write
 status_of endings.Long = statuses.Long
 status_of (endings.Events window) = statuses.Events
+status_of (endings.Rows window pending) = statuses.Rows
 
 -- the line that tells of an ending other than Ok
 abbrev pub line_of : Ending → List ℕ
@@ -39,3 +40,4 @@ line_of endings.Read = fault_line (4 ∷ [])
 line_of endings.Write = []
 line_of endings.Long = fault_line (6 ∷ [])
 line_of (endings.Events window) = fault_line (7 ∷ window ∷ [])
+line_of (endings.Rows window pending) = fault_line (8 ∷ window ∷ pending ∷ [])

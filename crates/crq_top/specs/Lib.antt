@@ -3,6 +3,7 @@ pub mod Commands
 pub mod Lines
 pub mod Endings
 pub mod Sessions
+pub mod Runs
 pub mod Meanings
 pub mod Statuses
 pub mod Explained

@@ -1,27 +1,30 @@
 -- What a top call is due to end with, and what it then wrote.
 --
 -- Where files tell nothing of a name, as the host's files, "the bytes" are some bytes.
-use Rattle.std.specs.Prelude.{◌≡◌, ◌⊎◌, ℕ, ◌<◌, ◌≤◌, List, [], ◌∷◌, length, take, Option, Some, None, Result, Ok, Err}
+use Rattle.std.specs.Prelude.{◌≡◌, ◌⊎◌, ℕ, ◌<◌, ◌≤◌, List, length, take, Some, None, Result, Ok, Err}
 use Rattle.std.specs.Global.{Vec}
+use Rattle.crq_host.specs.declared.drive_end.DriveEnd.{DriveEnd}
+use Rattle.crq_host.specs.declared.drive_end.DriveEnd.TheVariants as drive_ends
+use Rattle.crq_host.specs.Drives.{Caps, StopsBy, DriveStops}
 use Rattle.crq_io.specs.Faults.{Rose}
 use Rattle.crq_io.specs.Told.{IsTold, Appends}
-use Rattle.crq_printer.specs.Texts.{trace_text_of}
 use Rattle.crq_reader.specs.declared.fault.FaultNumber.TheVariants as faults
 use Rattle.crq_reader.specs.declared.fault.ModelFault.{ModelFault}
 use Rattle.crq_reader.specs.Canonical.{canonical}
 use Rattle.crq_reader.specs.Language.{language}
 use Rattle.crq_sim.specs.Generated.{generated}
 use Rattle.crq_sim.specs.Models.{ModelData}
-use Rattle.crq_sim.specs.Runs.{IsOverWithin, traces_within}
-use Rattle.crq_sim.specs.Windows.{IsInWindow}
-use Rattle.crq_top.specs.Commands.{Asked, run, check, serial, gen}
+use Rattle.crq_sim.specs.Runs.{IsOverWithin}
+use Rattle.crq_sim.specs.Windows.{IsInWindow, Stop, Events as StopsByEvents, Rows as StopsByRows}
+use Rattle.crq_top.specs.Commands.{Asked, run, check, serial, gen, Request, Asks, AsksNothing}
 use Rattle.crq_top.specs.declared.ending.Ending.{Ending}
 use Rattle.crq_top.specs.declared.ending.Ending.TheVariants as endings
 use Rattle.crq_top.specs.declared.texts.Role.{Role}
 use Rattle.crq_top.specs.declared.texts.Role.TheVariants as roles
 use Rattle.crq_top.specs.Endings.{line_of}
 use Rattle.crq_top.specs.Lines.{check_line}
-use Rattle.crq_top.specs.Sessions.{Found, FilesState, SinkState}
+use Rattle.crq_top.specs.Runs.{IsTextOfRun, HasOneAtMost, LeavesText}
+use Rattle.crq_top.specs.Sessions.{Found, FilesState, SinkState, Resources}
 
 -- how many bytes a file may have in a role
 abbrev pub limit_of : Role → ℕ
@@ -29,17 +32,29 @@ limit_of roles.Model = 16777216
 
 -- the command reads the file with this name in this role
 abbrev pub Names : Asked → Role → List ℕ → Type 0
-Names (run model rows events) roles.Model name = model ≡ name
+Names (run model workers rows events) roles.Model name = model ≡ name
 Names (check model) roles.Model name = model ≡ name
 Names (serial model events) roles.Model name = model ≡ name
 Names (gen seed objects population) roles.Model name = ⊥
 
--- the command runs the model, and this is the cap on its events
-abbrev pub IsCap : Asked → ℕ → Type 0
-IsCap (run model rows events) cap = events ≡ cap
-IsCap (check model) cap = ⊥
-IsCap (serial model events) cap = events ≡ cap
-IsCap (gen seed objects population) cap = ⊥
+-- what a run has: how many events, and how many rows each worker
+abbrev pub caps : ℕ → ℕ → Caps
+caps events rows = record { events = events; rows = rows }
+
+-- this stops the command's run of the model: of `run` the events or the rows, of `serial` the events alone
+abbrev pub HasStop : Asked → ModelData → Stop → Type 0
+HasStop (run model workers rows events) m stop = StopsBy m (caps events rows) stop
+HasStop (check model) m stop = ⊥
+HasStop (serial model events) m (StopsByEvents window) = (IsOverWithin m events → ⊥) × IsInWindow m window events
+HasStop (serial model events) m (StopsByRows window pending) = ⊥
+HasStop (gen seed objects population) m stop = ⊥
+
+-- nothing stops the command's run of the model, if it runs it
+abbrev pub RunsThrough : Asked → ModelData → Type 0
+RunsThrough (run model workers rows events) m = (stop : Stop) → StopsBy m (caps events rows) stop → ⊥
+RunsThrough (check model) m = Unit {0}
+RunsThrough (serial model events) m = IsOverWithin m events
+RunsThrough (gen seed objects population) m = Unit {0}
 
 -- these are the bytes of the command's file in a role, and no more than it may have
 pub record AreBytesOf (found : Found) (a : Asked) (role : Role) (bytes : List ℕ) : Type 0 where
@@ -66,12 +81,36 @@ pub record IsFaultOf (found : Found) (a : Asked) (fault : ModelFault) : Type 0 w
   pub fetched : AreBytesOf found a roles.Model bytes
   pub refused : language bytes ≡ Err fault
 
--- the text of the command
-abbrev pub IsTextOf : Found → Asked → List ℕ → Type 0
-IsTextOf found (run model rows events) text = (m : ModelData) × IsModelOf found (run model rows events) m × IsOverWithin m events × (text ≡ trace_text_of (traces_within m events))
-IsTextOf found (check model) text = (m : ModelData) × IsModelOf found (check model) m × (text ≡ check_line m)
-IsTextOf found (serial model events) text = (m : ModelData) × IsModelOf found (serial model events) m × IsOverWithin m events × (text ≡ trace_text_of (traces_within m events))
-IsTextOf found (gen seed objects population) text = text ≡ canonical (generated seed objects population)
+-- no set was closed
+abbrev pub MakerRests : Resources → Type 0
+MakerRests r = r.closed_after ≡ r.closed_before
+
+-- the text of a command on the model that it reads; of `run` with the history of its set
+abbrev pub IsTextOfModel : Resources → Asked → ModelData → List ℕ → Type 0
+IsTextOfModel r (run model workers rows events) m text = LeavesText m (caps events rows) r.closed_before r.closed_after text
+IsTextOfModel r (check model) m text = (text ≡ check_line m) × MakerRests r
+IsTextOfModel r (serial model events) m text = IsTextOfRun m events text × MakerRests r
+IsTextOfModel r (gen seed objects population) m text = ⊥
+
+-- the text of a command
+abbrev pub IsTextOf : Resources → Asked → List ℕ → Type 0
+IsTextOf r (gen seed objects population) text = (text ≡ canonical (generated seed objects population)) × MakerRests r
+IsTextOf r a text = (m : ModelData) × IsModelOf r.files_before.found a m × IsTextOfModel r a m text
+
+-- the command's run of the model stopped by this, and its set's history, if it made one, goes as far as the run came
+abbrev pub Stops : Resources → Asked → ModelData → DriveEnd → Type 0
+Stops r (run model workers rows events) m end = DriveStops m (caps events rows) r.closed_before r.closed_after end
+Stops r (check model) m end = ⊥
+Stops r (serial model events) m drive_ends.Memory = ⊥
+Stops r (serial model events) m (drive_ends.Events window) = HasStop (serial model events) m (StopsByEvents window) × MakerRests r
+Stops r (serial model events) m (drive_ends.Rows window pending) = ⊥
+Stops r (gen seed objects population) m end = ⊥
+
+-- the command's run of the model that it read stopped by this
+pub record IsStopped (r : Resources) (a : Asked) (end : DriveEnd) : Type 0 where
+  pub model : ModelData
+  pub is_model : IsModelOf r.files_before.found a model
+  pub stops : Stops r a model end
 
 -- a fault of reading was counted, or the files tell their names and that of a role isn't there
 pub record CannotRead (before after : FilesState) (a : Asked) : Type 0 where
@@ -88,31 +127,30 @@ pub record IsTooLong (found : Found) (a : Asked) : Type 0 where
   pub more : (bytes : List ℕ) → found name ≡ Some (Some bytes) → limit_of role < length bytes
   pub there : found name ≡ Some None → ⊥
 
--- the run has more events than the cap, and the first one past it is in this window
-pub record HasMoreEvents (found : Found) (a : Asked) (window : ℕ) : Type 0 where
-  pub model : ModelData
-  pub cap : ℕ
-  pub is_model : IsModelOf found a model
-  pub capped : IsCap a cap
-  pub more : IsOverWithin model cap → ⊥
-  pub in_window : IsInWindow model window cap
+-- the cause of an ending that comes of reading the command's model
+abbrev pub IsCauseInFiles : FilesState → FilesState → Asked → Ending → Type 0
+IsCauseInFiles before after a endings.Ok = ⊥
+IsCauseInFiles before after a endings.Usage = ⊥
+IsCauseInFiles before after a (endings.Model fault) = IsFaultOf before.found a fault
+IsCauseInFiles before after a endings.Memory = Unit {0}
+IsCauseInFiles before after a endings.Read = CannotRead before after a
+IsCauseInFiles before after a endings.Write = ⊥
+IsCauseInFiles before after a endings.Long = IsTooLong before.found a
+IsCauseInFiles before after a (endings.Events window) = ⊥
+IsCauseInFiles before after a (endings.Rows window pending) = ⊥
 
 -- the cause of an ending of a command that has no text
-abbrev pub IsCause : FilesState → FilesState → Asked → Ending → Type 0
-IsCause before after a endings.Ok = ⊥
-IsCause before after a endings.Usage = ⊥
-IsCause before after a (endings.Model fault) = IsFaultOf before.found a fault
-IsCause before after a endings.Memory = Unit {0}
-IsCause before after a endings.Read = CannotRead before after a
-IsCause before after a endings.Write = ⊥
-IsCause before after a endings.Long = IsTooLong before.found a
-IsCause before after a (endings.Events window) = HasMoreEvents before.found a window
+abbrev pub IsCause : Resources → Asked → Ending → Type 0
+IsCause r a endings.Memory = HasOneAtMost r.closed_before r.closed_after
+IsCause r a (endings.Events window) = IsStopped r a (drive_ends.Events window)
+IsCause r a (endings.Rows window pending) = IsStopped r a (drive_ends.Rows window pending)
+IsCause r a e = IsCauseInFiles r.files_before r.files_after a e × MakerRests r
 
--- what a call is due to end with: a text, or an ending without one. `asks` says which command its words ask it for
-abbrev pub IsDue : (Asked → Type 0) → FilesState → FilesState → Result (List ℕ) Ending → Type 0
-IsDue asks before after (Ok text) = (a : Asked) × asks a × IsTextOf before.found a text
-IsDue asks before after (Err endings.Usage) = (a : Asked) → asks a → ⊥
-IsDue asks before after (Err e) = (a : Asked) × asks a × IsCause before after a e
+-- what a request is due to end with: the text of its command, or an ending that has its cause
+abbrev pub IsDue : Request → Resources → Result (List ℕ) Ending → Type 0
+IsDue q r (Ok text) = (a : Asked) × Asks q a × IsTextOf r a text
+IsDue q r (Err endings.Usage) = AsksNothing q × MakerRests r
+IsDue q r (Err e) = (a : Asked) × Asks q a × IsCause r a e
 
 -- the bytes that it is due to write
 abbrev pub text_due : Result (List ℕ) Ending → List ℕ
@@ -128,9 +166,9 @@ ending_due (Err e) = e
 abbrev pub IsEndingOf : ModelFault → Ending → Type 0
 IsEndingOf fault e = ((fault.number ≡ faults.Memory) × (e ≡ endings.Memory)) ⊎ ((fault.number ≡ faults.Memory → ⊥) × (e ≡ endings.Model fault))
 
--- what a run that leaves no text ends a call with
-abbrev pub IsEndingOfRun : ModelData → ℕ → Ending → Type 0
-IsEndingOfRun m cap e = (e ≡ endings.Memory) ⊎ ((window : ℕ) × (e ≡ endings.Events window) × (IsOverWithin m cap → ⊥) × IsInWindow m window cap)
+-- what a serial run that leaves no text ends a call with
+abbrev pub IsEndingOfSerial : ModelData → ℕ → Ending → Type 0
+IsEndingOfSerial m events e = (e ≡ endings.Memory) ⊎ ((window : ℕ) × (e ≡ endings.Events window) × (IsOverWithin m events → ⊥) × IsInWindow m window events)
 
 -- a part of the bytes was appended, and a fault of writing was counted
 pub record IsCutOff (before after : SinkState) (bytes : List ℕ) : Type 0 where

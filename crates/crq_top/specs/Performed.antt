@@ -1,6 +1,7 @@
 -- What the program does with its words and its three devices.
-use Rattle.std.specs.Prelude.{◌≡◌, ◌⊎◌, ℕ, List, [], ◌∷◌, ◌++◌, ◌==◌, Option, Some, None, codes, bytes_eq, if◌then◌else◌}
-use Rattle.crq_top.specs.Commands.{Spells, Asked, IsFirstProblem, problem_of}
+use Rattle.std.specs.Prelude.{◌≡◌, ◌⊎◌, ℕ, List, [], ◌∷◌, ◌++◌, Option, Some, None, codes, bytes_eq, if◌then◌else◌}
+use Rattle.crq_base.specs.declared.entry.Entry.{Entry}
+use Rattle.crq_top.specs.Commands.{Spells, Asked, IsFirstProblem, problem_of, of_run, of_inspect}
 use Rattle.crq_top.specs.declared.command.Call.{Call}
 use Rattle.crq_top.specs.declared.command.Call.TheVariants as calls
 use Rattle.crq_top.specs.declared.ending.Ending.{Ending}
@@ -10,8 +11,8 @@ use Rattle.crq_top.specs.declared.ending.Status.TheVariants as statuses
 use Rattle.crq_top.specs.declared.forms.Misfit.{Misfit}
 use Rattle.crq_top.specs.Endings.{code_of, status_of}
 use Rattle.crq_top.specs.Explained.{ending_words, model_name}
-use Rattle.crq_top.specs.Meanings.{IsCutOff}
-use Rattle.crq_top.specs.Sessions.{Session, SinkSession}
+use Rattle.crq_top.specs.Meanings.{IsCutOff, MakerRests}
+use Rattle.crq_top.specs.Sessions.{Session, SinkSession, without_maker}
 use Rattle.crq_top.specs.Statuses.{EndsAs}
 use Rattle.crq_io.specs.Told.{Appends}
 
@@ -37,31 +38,36 @@ abbrev pub SaysLine : SinkSession → List ℕ → Type 0
 SaysLine e line = Says e (line ++ 10 ∷ []) ⊎ Says e memory_line
 
 -- what is wrong with the words, where something is
-pub record IsMisfitOf (words : List (List ℕ)) (misfit : Option Misfit) : Type 0 where
-  pub told : (m : Misfit) → misfit ≡ Some m → IsFirstProblem words (problem_of m)
-  pub fits : misfit ≡ None → (a : Asked) × Spells words a
+pub record IsMisfitOf (most : ℕ) (words : List (List ℕ)) (misfit : Option Misfit) : Type 0 where
+  pub told : (m : Misfit) → misfit ≡ Some m → IsFirstProblem most words (problem_of m)
+  pub fits : misfit ≡ None → (a : Asked) × Spells most words a
 
 -- an ending other than Ok is explained on the stream of errors, by the first thing that is wrong with the words where that is what it is about
-abbrev pub IsExplained : List (List ℕ) → Ending → SinkSession → Type 0
-IsExplained words ending e = (misfit : Option Misfit) × IsMisfitOf words misfit × SaysLine e (codes "crq: " ++ ending_words (model_name words) misfit ending)
+abbrev pub IsExplained : ℕ → List (List ℕ) → Ending → SinkSession → Type 0
+IsExplained most words ending e = (misfit : Option Misfit) × IsMisfitOf most words misfit × SaysLine e (codes "crq: " ++ ending_words most (model_name words) misfit ending)
 
 -- and after Ok nothing is said there
-pub record Explains (words : List (List ℕ)) (ending : Ending) (e : SinkSession) : Type 0 where
+pub record Explains (most : ℕ) (words : List (List ℕ)) (ending : Ending) (e : SinkSession) : Type 0 where
   pub silent : ending ≡ endings.Ok → e.after ≡ e.before
-  pub says : (ending ≡ endings.Ok → ⊥) → IsExplained words ending e
+  pub says : (ending ≡ endings.Ok → ⊥) → IsExplained most words ending e
+
+-- the call ended so; `inspect` is handed no maker, so no set was closed
+abbrev pub Ends : Call → ℕ → List (List ℕ) → Session → Ending → Type 0
+Ends calls.Run most words s ending = EndsAs (of_run most words) s ending
+Ends calls.Inspect most words s ending = EndsAs (of_inspect words) (without_maker s) ending × MakerRests s.resources
 
 -- the call to which the words belong was made, its ending explained, and this is its status
-pub record Performs (words : List (List ℕ)) (s : Session) (e : SinkSession) (result : Status) : Type 0 where
+pub record Performs (most : ℕ) (words : List (List ℕ)) (s : Session) (e : SinkSession) (result : Status) : Type 0 where
   pub ending : Ending
-  pub ends : EndsAs (call_for words) words s ending
-  pub explains : Explains words ending e
+  pub ends : Ends (call_for words) most words s ending
+  pub explains : Explains most words ending e
   pub status : result ≡ status_of ending
 
 -- the words of the command line were read, and the call to which they belong was performed
-pub record RanOn (s : Session) (e : SinkSession) (exit : ℕ) : Type 0 where
+pub record RanOn (most : ℕ) (s : Session) (e : SinkSession) (exit : ℕ) : Type 0 where
   pub words : List (List ℕ)
   pub status : Status
-  pub performs : Performs words s e status
+  pub performs : Performs most words s e status
   pub exits : exit ≡ code_of status
 
 -- they couldn't be read, since memory was short or a word isn't UTF-8, and that was said
@@ -74,7 +80,12 @@ pub record IsUnread (e : SinkSession) (exit : ℕ) : Type 0 where
   pub gives_up : GivesUp e status
   pub exits : exit ≡ code_of status
 
--- the program had this exit status over some devices, of which the host tells nothing
-pub record IsExitOfProgram (exit : ℕ) : Type 0 where
+-- the maker's histories in a session are these
+pub record HasHistories (s : Session) (old new : List (List Entry)) : Type 0 where
+  pub before : s.resources.closed_before ≡ old
+  pub after : s.resources.closed_after ≡ new
+
+-- the program had this exit status over some devices, of which the host tells nothing, and the maker's histories are these
+pub record IsExitOfProgram (most : ℕ) (old new : List (List Entry)) (exit : ℕ) : Type 0 where
   pub errors : SinkSession
-  pub ends : ((s : Session) × RanOn s errors exit) ⊎ IsUnread errors exit
+  pub ends : ((s : Session) × HasHistories s old new × RanOn most s errors exit) ⊎ (IsUnread errors exit × (new ≡ old))

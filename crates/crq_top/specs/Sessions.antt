@@ -1,5 +1,6 @@
--- The devices that a top call is handed, before it and after it.
-use Rattle.std.specs.Prelude.{ℕ, List, Option}
+-- The devices that a top call is handed, and the maker of its sets, before it and after it.
+use Rattle.std.specs.Prelude.{ℕ, List, [], Option}
+use Rattle.crq_base.specs.declared.entry.Entry.{Entry}
 
 -- what files tell of a name: nothing (`None`), that no file has it (`Some None`), or the bytes under it
 abbrev pub Found : Type 0
@@ -20,19 +21,41 @@ pub record SinkSession : Type 0 where
   pub before : SinkState
   pub after : SinkState
 
-pub record Session : Type 0 where
+-- what a call takes its text from: the files, and the histories of the sets that the maker closed, before and after
+pub record Resources : Type 0 where
   pub files_before : FilesState
   pub files_after : FilesState
+  pub closed_before : List (List Entry)
+  pub closed_after : List (List Entry)
+
+pub record Session : Type 0 where
+  pub resources : Resources
   pub out_before : SinkState
   pub out_after : SinkState
 
--- of what a type of files and a type of sinks tell, and of the devices before and after
-abbrev pub session : {F S : Type 0} → (F → Found) → (F → ℕ) → (S → Option (List ℕ)) → (S → ℕ) → F → F → S → S → Session
-session found file_faults written sink_faults files_old files_new out_old out_new = record {
-  files_before = record { found = found files_old; faults = file_faults files_old };
-  files_after = record { found = found files_new; faults = file_faults files_new };
-  out_before = record { written = written out_old; faults = sink_faults out_old };
-  out_after = record { written = written out_new; faults = sink_faults out_new };
+-- of what a type of files tells, of the files before and after, and of the histories before and after
+abbrev pub resources : {F : Type 0} → (F → Found) → (F → ℕ) → F → F → List (List Entry) → List (List Entry) → Resources
+resources found faults old new closed_old closed_new = record {
+  files_before = record { found = found old; faults = faults old };
+  files_after = record { found = found new; faults = faults new };
+  closed_before = closed_old;
+  closed_after = closed_new;
+}
+
+-- of those, of what a type of sinks tells, and of the sink before and after
+abbrev pub session : {S : Type 0} → Resources → (S → Option (List ℕ)) → (S → ℕ) → S → S → Session
+session r written faults old new = record {
+  resources = r;
+  out_before = record { written = written old; faults = faults old };
+  out_after = record { written = written new; faults = faults new };
+}
+
+-- the same session as a call has it that is handed no maker
+abbrev pub without_maker : Session → Session
+without_maker s = record {
+  resources = record { files_before = s.resources.files_before; files_after = s.resources.files_after; closed_before = []; closed_after = [] };
+  out_before = s.out_before;
+  out_after = s.out_after;
 }
 
 -- the same of the sink of errors alone

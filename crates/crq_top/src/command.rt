@@ -1,7 +1,7 @@
 //! The command that the words of a command line spell.
 
 ghost use Rattle.std.specs.Prelude.{◌≡◌, ℕ, List, IfOk, IfErr, MatchOption, map, string_bytes, ◌∷◌};
-ghost use Rattle.crq_top.specs.Commands.{Asked, Asks, Spells, AllFit, IsInRange, IsFirstProblem, asked_of, call_of, form_of, operands_of, problem_of, verb_of};
+ghost use Rattle.crq_top.specs.Commands.{Asked, Asks, AsksNothing, Spells, AllFit, IsInRange, IsFirstProblem, asked_of, call_of, form_of, operands_of, problem_of, verb_of};
 
 use crate::forms::{Misfit, Parameter, Verb, misfit_of};
 
@@ -17,9 +17,11 @@ pub enum Call {
 /// What a list of words asks for.
 #[derive(Clone, Copy, Debug)]
 pub enum Command<'w> {
-    /// `run MODEL 1 ROWS EVENTS`: the trace text of the model, where its run has at most so many events.
+    /// `run MODEL WORKERS ROWS EVENTS`: the trace text of the model, by so many workers with so many rows each, where its run
+    /// has at most so many events.
     Run {
         model: &'w str,
+        workers: u32,
         rows: u32,
         events: u32,
     },
@@ -52,39 +54,40 @@ impl Command<'_> {
     }
 }
 
-/// The command whose name is followed by these words.
-fn command_of<'w>(verb: Verb, words: &'w [String]) -> Command<'w>
-    requires { AllFit (form_of verb) (map string_bytes words.now) }
+/// The command whose name is followed by these words, where a set may have `most` workers.
+fn command_of<'w>(verb: Verb, most: u32, words: &'w [String]) -> Command<'w>
+    requires { AllFit most (form_of verb) (map string_bytes words.now) }
     ensures verb { verb_of (asked_of result) ≡ verb }
     ensures operands { operands_of (asked_of result) ≡ map string_bytes words.entry.now }
-    ensures in_range { IsInRange (asked_of result) }
+    ensures in_range { IsInRange most (asked_of result) }
 {
     match verb {
         Verb::Run => Command::Run {
             model: words[0].as_str(),
-            rows: Parameter::Rows.value(words[2].as_str()) as u32,
-            events: Parameter::Events.value(words[3].as_str()) as u32,
+            workers: Parameter::Workers.value(most, words[1].as_str()) as u32,
+            rows: Parameter::Rows.value(most, words[2].as_str()) as u32,
+            events: Parameter::Events.value(most, words[3].as_str()) as u32,
         },
         Verb::Check => Command::Check {
             model: words[0].as_str(),
         },
         Verb::Serial => Command::Serial {
             model: words[0].as_str(),
-            events: Parameter::Events.value(words[1].as_str()) as u32,
+            events: Parameter::Events.value(most, words[1].as_str()) as u32,
         },
         Verb::Gen => Command::Gen {
-            seed: Parameter::Seed.value(words[0].as_str()),
-            objects: Parameter::Objects.value(words[1].as_str()) as u32,
-            population: Parameter::Population.value(words[2].as_str()) as u32,
+            seed: Parameter::Seed.value(most, words[0].as_str()),
+            objects: Parameter::Objects.value(most, words[1].as_str()) as u32,
+            population: Parameter::Population.value(most, words[2].as_str()) as u32,
         },
     }
 }
 
-/// The command that the words spell, or the first thing that is wrong with them.
-pub(crate) fn read<'w>(words: &'w [String]) -> Result<Command<'w>, Misfit<'w>>
-    ensures ok { IfOk result (λ c. Spells (map string_bytes words.entry.now) (asked_of c)) }
-    ensures err { IfErr result (λ m. IsFirstProblem (map string_bytes words.entry.now) (problem_of m)) }
-    ensures none { IfErr result (λ m. (a : Asked) → Spells (map string_bytes words.entry.now) a → ⊥) }
+/// The command that the words spell, where a set may have `most` workers, or the first thing that is wrong with them.
+pub(crate) fn read<'w>(most: u32, words: &'w [String]) -> Result<Command<'w>, Misfit<'w>>
+    ensures ok { IfOk result (λ c. Spells most (map string_bytes words.entry.now) (asked_of c)) }
+    ensures err { IfErr result (λ m. IsFirstProblem most (map string_bytes words.entry.now) (problem_of m)) }
+    ensures none { IfErr result (λ m. (a : Asked) → Spells most (map string_bytes words.entry.now) a → ⊥) }
 {
     let Some((name, operands)) = words.split_first() else {
         return Err(Misfit::NoCommand);
@@ -92,17 +95,18 @@ pub(crate) fn read<'w>(words: &'w [String]) -> Result<Command<'w>, Misfit<'w>>
     let Some(verb) = Verb::named(name.as_str()) else {
         return Err(Misfit::Unknown(name.as_str()));
     };
-    match misfit_of(verb.form(), operands) {
+    match misfit_of(verb.form(), most, operands) {
         Some(misfit) => Err(misfit),
-        None => Ok(command_of(verb, operands)),
+        None => Ok(command_of(verb, most, operands)),
     }
 }
 
-/// The command that the words ask a call for.
-pub(crate) fn command_for<'w>(call: Call, words: &'w [String]) -> Option<Command<'w>>
-    ensures { MatchOption result ((a : Asked) → Asks call (map string_bytes words.entry.now) a → ⊥) (λ c. Asks call (map string_bytes words.entry.now) (asked_of c)) }
+/// The command that a call on the words is for, where a set may have `most` workers.
+pub(crate) fn command_for<'w>(call: Call, most: u32, words: &'w [String]) -> Option<Command<'w>>
+    ensures { MatchOption result (AsksNothing (record { call = call; most = most; words = map string_bytes words.entry.now }))
+        (λ c. Asks (record { call = call; most = most; words = map string_bytes words.entry.now }) (asked_of c)) }
 {
-    match read(words) {
+    match read(most, words) {
         Ok(command) if command.call() == call => Some(command),
         _ => None,
     }

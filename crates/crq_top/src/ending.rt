@@ -24,7 +24,7 @@ pub enum Status {
     Long,
     /// 7: the run has more events than it may have.
     Events,
-    /// 8: the run has more pending events than its rows hold.
+    /// 8: more events are pending after a window than the rows of a worker are for: two for each, and two.
     Rows,
 }
 
@@ -41,6 +41,8 @@ pub enum Ending {
     Long,
     /// The window of the first event past the cap.
     Events(u32),
+    /// The window after which the rows are too few, 0 before the first one, and how many events are pending then.
+    Rows(u32, u32),
 }
 
 impl Ending {
@@ -57,6 +59,7 @@ impl Ending {
             Ending::Write => Status::Write,
             Ending::Long => Status::Long,
             Ending::Events(_) => Status::Events,
+            Ending::Rows(_, _) => Status::Rows,
         }
     }
 }

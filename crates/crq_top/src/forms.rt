@@ -23,7 +23,7 @@ pub enum Verb {
 pub enum Parameter {
     /// The name of a model file: any word.
     Model,
-    /// How many threads work on the run: 1.
+    /// How many threads work on the run, 1 to as many as a set may have callers.
     Workers,
     /// How many rows each worker has, 4 to 131,072.
     Rows,
@@ -127,13 +127,13 @@ impl Parameter {
         }
     }
 
-    /// The least and the greatest number that may stand for it, if it is a number.
-    pub(crate) fn range(&self) -> Option<(u64, u64)>
-        ensures { result ≡ range_of self.now }
+    /// The least and the greatest number that may stand for it, if it is a number, where a set may have `most` workers.
+    pub(crate) fn range(&self, most: u32) -> Option<(u64, u64)>
+        ensures { result ≡ range_of most self.now }
     {
         match self {
             Parameter::Model => None,
-            Parameter::Workers => Some((1, 1)),
+            Parameter::Workers => Some((1, u64::from(most))),
             Parameter::Rows => Some((4, u64::from(MOST_ROWS))),
             Parameter::Events => Some((1, u64::from(MOST_EVENTS))),
             Parameter::Seed => Some((0, u64::MAX)),
@@ -143,22 +143,22 @@ impl Parameter {
     }
 
     /// Whether the word may stand for it.
-    fn fits(&self, word: &str) -> bool
-        ensures { IsTrue result ↔ Fits self.now word.now }
+    fn fits(&self, most: u32, word: &str) -> bool
+        ensures { IsTrue result ↔ Fits most self.now word.now }
     {
-        match self.range() {
+        match self.range(most) {
             None => true,
             Some((least, most)) => number(word, least, most).is_some(),
         }
     }
 
     /// The number that a fitting word spells.
-    pub(crate) fn value(&self, word: &str) -> u64
-        requires fits { Fits self.now word.now }
-        requires number { IsSome (range_of self.now) }
-        ensures { IfSome (range_of self.now) (λ r. IsBetween r.0 r.1 result) × (word.now ≡ decimal result) }
+    pub(crate) fn value(&self, most: u32, word: &str) -> u64
+        requires fits { Fits most self.now word.now }
+        requires number { IsSome (range_of most self.now) }
+        ensures { IfSome (range_of most self.now) (λ r. IsBetween r.0 r.1 result) × (word.now ≡ decimal result) }
     {
-        match self.range() {
+        match self.range(most) {
             None => unreachable!(),
             Some((least, most)) => match number(word, least, most) {
                 None => unreachable!(),
@@ -168,15 +168,20 @@ impl Parameter {
     }
 }
 
-/// The first thing that is wrong with the words behind a command's name, where its form is this.
-pub(crate) fn misfit_of<'w>(form: &[Parameter], words: &'w [String]) -> Option<Misfit<'w>>
-    ensures { MatchOption result (AllFit form.now (map string_bytes words.entry.now)) (λ m. IsProblemOf form.now (map string_bytes words.entry.now) (problem_of m)) }
+/// The first thing that is wrong with the words behind a command's name, where its form is this and a set may have `most` workers.
+pub(crate) fn misfit_of<'w>(
+    form: &[Parameter],
+    most: u32,
+    words: &'w [String],
+) -> Option<Misfit<'w>>
+    ensures { MatchOption result (AllFit most form.now (map string_bytes words.entry.now))
+        (λ m. IsProblemOf most form.now (map string_bytes words.entry.now) (problem_of m)) }
 {
     for (place, parameter) in form.iter().enumerate() {
         match words.get(place) {
             None => return Some(Misfit::Missing(*parameter)),
             Some(word) => {
-                if !parameter.fits(word.as_str()) {
+                if !parameter.fits(most, word.as_str()) {
                     return Some(Misfit::Unfit(*parameter, word.as_str()));
                 }
             }

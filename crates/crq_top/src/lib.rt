@@ -10,15 +10,13 @@ mod host;
 mod line;
 mod output;
 mod performing;
+mod running;
 mod texts;
 
-pub use calls::{call_to_ending, inspect, run};
+pub use calls::{inspect, inspect_to_ending, run, run_to_ending};
 pub use command::Call;
 pub use ending::{Ending, Status};
 pub use explanation::{Explanation, explanation_of};
 pub use forms::{Misfit, Parameter};
 pub use host::on_host;
 pub use performing::{perform, program};
-
-#[cfg(test)]
-mod tests;

@@ -88,5 +88,8 @@ pub(crate) fn line_of(ending: &Ending) -> Line
         Ending::Read => fault_line(&[4]),
         Ending::Long => fault_line(&[6]),
         Ending::Events(window) => fault_line(&[7, u64::from(*window)]),
+        Ending::Rows(window, pending) => {
+            fault_line(&[8, u64::from(*window), u64::from(*pending)])
+        }
     }
 }

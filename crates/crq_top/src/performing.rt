@@ -4,18 +4,21 @@ ghost use Rattle.std.specs.Prelude.{◌≡◌, ◌≢◌, ◌⊎◌, ℕ, List, 
 ghost use Rattle.std.specs.Process.{exit_status};
 ghost use Rattle.crq_top.specs.Endings.{code_of};
 ghost use Rattle.crq_top.specs.Explained.{explained};
-ghost use Rattle.crq_top.specs.Performed.{Explains, Performs, RanOn, IsUnread, GivesUp, Says, SaysLine, call_for};
-ghost use Rattle.crq_top.specs.Sessions.{session, sink_session};
+ghost use Rattle.crq_top.specs.Performed.{Ends, Explains, Performs, RanOn, IsUnread, GivesUp, Says, SaysLine, call_for};
+ghost use Rattle.crq_top.specs.Sessions.{session, resources, sink_session};
 
-use crate::calls::call_to_ending;
+use crate::calls::{inspect_to_ending, run_to_ending};
 use crate::command::Call;
 use crate::ending::{Ending, Status};
 use crate::explanation::{Explanation, explanation_of};
+use crq_host::Gate;
 use crq_io::{Files, Sink, write_whole};
+use crq_set::SetMaker;
 use std::alloc::Global;
 use std::env::{self, Env};
 use std::io::ErrorKind;
 use std::process::ExitCode;
+use std::sync::Wait;
 use std::thread::Threads;
 
 /// The call to which the words belong: `run` where they begin so, else `inspect`.
@@ -25,6 +28,27 @@ fn call_for(words: &[String]) -> Call
     match words.first() {
         Some(word) if word.as_str() == "run" => Call::Run,
         _ => Call::Inspect,
+    }
+}
+
+/// Makes the call.
+fn make_call<F: Files, S: Sink, M: SetMaker, G: Gate, R: Threads + Wait + Sync>(
+    rt: &R,
+    alloc: Global,
+    call: Call,
+    words: &[String],
+    files: &mut F,
+    out: &mut S,
+    maker: &mut M,
+    gate: &G,
+) -> Ending
+    ensures ends { Ends call M.MOST (map string_bytes words.now)
+        (session (resources F.found F.faults files.old files.new (M.closed maker.old) (M.closed maker.new)) S.written S.faults out.old out.new) result }
+    ensures room { M.room maker.new ≡ M.room maker.old }
+{
+    match call {
+        Call::Run => run_to_ending(rt, alloc, words, files, out, maker, gate),
+        Call::Inspect => inspect_to_ending(rt, alloc, words, files, out),
     }
 }
 
@@ -49,31 +73,36 @@ fn tell<E: Sink>(alloc: Global, explanation: &Explanation, errors: &mut E)
 }
 
 /// Writes the explanation of an ending other than Ok. The status is known by then, and stands where this fails.
-fn explain<E: Sink>(alloc: Global, ending: &Ending, words: &[String], errors: &mut E)
-    ensures { Explains (map string_bytes words.now) ending.now (sink_session E.written E.faults errors.old errors.new) }
+fn explain<E: Sink>(alloc: Global, most: u32, ending: &Ending, words: &[String], errors: &mut E)
+    ensures { Explains most (map string_bytes words.now) ending.now (sink_session E.written E.faults errors.old errors.new) }
 {
     match ending {
         Ending::Ok => {}
         _ => {
-            let explanation = explanation_of(ending, words);
+            let explanation = explanation_of(most, ending, words);
             tell(alloc, &explanation, errors);
         }
     }
 }
 
 /// Makes the call to which the words belong, explains an ending other than Ok on `errors`, and answers the status.
-pub fn perform<F: Files, S: Sink, E: Sink, R: Threads + Sync>(
+pub fn perform<F: Files, S: Sink, E: Sink, M: SetMaker, G: Gate, R: Threads + Wait + Sync>(
     rt: &R,
     alloc: Global,
     words: &[String],
     files: &mut F,
     out: &mut S,
     errors: &mut E,
+    maker: &mut M,
+    gate: &G,
 ) -> Status
-    ensures { Performs (map string_bytes words.now) (session F.found F.faults S.written S.faults files.old files.new out.old out.new) (sink_session E.written E.faults errors.old errors.new) result }
+    ensures performs { Performs M.MOST (map string_bytes words.now)
+        (session (resources F.found F.faults files.old files.new (M.closed maker.old) (M.closed maker.new)) S.written S.faults out.old out.new)
+        (sink_session E.written E.faults errors.old errors.new) result }
+    ensures room { M.room maker.new ≡ M.room maker.old }
 {
-    let ending = call_to_ending(rt, alloc, call_for(words), words, files, out);
-    explain(alloc, &ending, words, errors);
+    let ending = make_call(rt, alloc, call_for(words), words, files, out, maker, gate);
+    explain(alloc, M::MOST, &ending, words, errors);
     ending.status()
 }
 
@@ -112,19 +141,23 @@ fn give_up<E: Sink>(kind: ErrorKind, errors: &mut E) -> Status
 
 /// The program: makes the call to which the words of the command line belong, explains an ending other than Ok on `errors`,
 /// and answers the exit status. Where a word isn't UTF-8 it makes no call and writes nothing to `out`, and the status is 1.
-pub fn program<F: Files, S: Sink, E: Sink, R: Threads + Sync, V: Env>(
+pub fn program<F: Files, S: Sink, E: Sink, M: SetMaker, G: Gate, R: Threads + Wait + Sync, V: Env>(
     rt: &R,
     env: &V,
     alloc: Global,
     files: &mut F,
     out: &mut S,
     errors: &mut E,
+    maker: &mut M,
+    gate: &G,
 ) -> ExitCode
-    ensures { RanOn (session F.found F.faults S.written S.faults files.old files.new out.old out.new) (sink_session E.written E.faults errors.old errors.new) (exit_status result)
-        ⊎ (IsUnread (sink_session E.written E.faults errors.old errors.new) (exit_status result) × (files.new ≡ files.old) × (out.new ≡ out.old)) }
+    ensures runs { RanOn M.MOST (session (resources F.found F.faults files.old files.new (M.closed maker.old) (M.closed maker.new)) S.written S.faults out.old out.new)
+        (sink_session E.written E.faults errors.old errors.new) (exit_status result)
+        ⊎ (IsUnread (sink_session E.written E.faults errors.old errors.new) (exit_status result) × (files.new ≡ files.old) × (out.new ≡ out.old) × (maker.new ≡ maker.old)) }
+    ensures room { M.room maker.new ≡ M.room maker.old }
 {
     let status = match words_of(env, alloc) {
-        Ok(words) => perform(rt, alloc, words.as_slice(), files, out, errors),
+        Ok(words) => perform(rt, alloc, words.as_slice(), files, out, errors, maker, gate),
         Err(kind) => give_up(kind, errors),
     };
     ExitCode::from(status.code())

@@ -1,17 +1,16 @@
 //! The text of each command, or why there is none.
 
-ghost use Rattle.std.specs.Prelude.{◌≡◌, ℕ, ◌⊎◌, ◌≤◌, IfOk, IfErr, List, Some, Ok};
+ghost use Rattle.std.specs.Prelude.{◌≡◌, ℕ, ◌≤◌, IfOk, IfErr, List, []};
 ghost use Rattle.crq_reader.specs.Canonical.{canonical};
-ghost use Rattle.crq_sim.specs.Ends.{IsEndOf};
 ghost use Rattle.crq_sim.specs.Generated.{generated};
-ghost use Rattle.crq_sim.specs.Models.{ModelData};
 ghost use Rattle.crq_sim.specs.Runs.{IsOverWithin, traces_within};
-ghost use Rattle.crq_printer.specs.Texts.{trace_text_of};
-ghost use Rattle.crq_top.specs.Commands.{Asked, IsBetween, IsInRange, asked_of};
+ghost use Rattle.crq_top.specs.Commands.{IsBetween, IsInRange, asked_of, call_of};
 ghost use Rattle.crq_top.specs.Lines.{check_line};
-ghost use Rattle.crq_top.specs.Meanings.{Names, IsCap, IsModelOf, IsTextOf, IsCause, IsEndingOf, IsEndingOfRun, AreBytesOf, limit_of};
+ghost use Rattle.crq_top.specs.Meanings.{Names, IsModelOf, IsTextOf, IsCause, IsCauseInFiles, IsEndingOf, IsEndingOfSerial, AreBytesOf, limit_of};
+ghost use Rattle.crq_top.specs.Runs.{IsTextOfRun};
+ghost use Rattle.crq_top.specs.Sessions.{resources};
 
-use crate::command::Command;
+use crate::command::{Call, Command};
 use crate::ending::Ending;
 use crq_io::{Fetch, Files};
 use crq_printer::trace_text;
@@ -48,7 +47,7 @@ fn bytes_of<F: Files>(
 ) -> Result<Vec<u8>, Ending>
     requires { Names (asked_of command.now) role name.now }
     ensures ok { IfOk result (λ bytes. AreBytesOf (F.found files.old) (asked_of command.now) role bytes.items) }
-    ensures err { IfErr result (λ e. IsCause (record { found = F.found files.old; faults = F.faults files.old }) (record { found = F.found files.new; faults = F.faults files.new }) (asked_of command.now) e) }
+    ensures err { IfErr result (λ e. IsCauseInFiles (record { found = F.found files.old; faults = F.faults files.old }) (record { found = F.found files.new; faults = F.faults files.new }) (asked_of command.now) e) }
     ensures kept { (other : List ℕ) → F.found files.new other ≡ F.found files.old other }
     ensures later { F.faults files.old ≤ F.faults files.new }
 {
@@ -72,7 +71,7 @@ fn ending_of(fault: ModelFault) -> Ending
 }
 
 /// The model that the file spells.
-fn model_of<F: Files>(
+pub(crate) fn model_of<F: Files>(
     alloc: Global,
     files: &mut F,
     name: &str,
@@ -80,7 +79,7 @@ fn model_of<F: Files>(
 ) -> Result<Model, Ending>
     requires { Names (asked_of command.now) Role.Model name.now }
     ensures ok { IfOk result (λ m. IsModelOf (F.found files.old) (asked_of command.now) m) }
-    ensures err { IfErr result (λ e. IsCause (record { found = F.found files.old; faults = F.faults files.old }) (record { found = F.found files.new; faults = F.faults files.new }) (asked_of command.now) e) }
+    ensures err { IfErr result (λ e. IsCauseInFiles (record { found = F.found files.old; faults = F.faults files.old }) (record { found = F.found files.new; faults = F.faults files.new }) (asked_of command.now) e) }
     ensures kept { (other : List ℕ) → F.found files.new other ≡ F.found files.old other }
     ensures later { F.faults files.old ≤ F.faults files.new }
 {
@@ -95,7 +94,7 @@ fn model_of<F: Files>(
 fn traces_of(alloc: Global, model: &Model, events: u32) -> Result<Traces, Ending>
     requires { events ≤ 4194304 }
     ensures ok { IfOk result (λ t. IsOverWithin model.now events × (t ≡ traces_within model.now events)) }
-    ensures err { IfErr result (λ e. IsEndingOfRun model.now events e) }
+    ensures err { IfErr result (λ e. IsEndingOfSerial model.now events e) }
 {
     match serial(alloc, model, events) {
         Ok(traces) => Ok(traces),
@@ -105,42 +104,21 @@ fn traces_of(alloc: Global, model: &Model, events: u32) -> Result<Traces, Ending
 }
 
 /// The trace text of the serial run, where it has at most `events` events.
-fn text_of_run<R: Threads + Sync>(
+fn serial_text<R: Threads + Sync>(
     rt: &R,
     alloc: Global,
     model: &Model,
     events: u32,
 ) -> Result<Vec<u8>, Ending>
     requires { events ≤ 4194304 }
-    ensures ok { IfOk result (λ t. IsOverWithin model.now events × (t.items ≡ trace_text_of (traces_within model.now events))) }
-    ensures err { IfErr result (λ e. IsEndingOfRun model.now events e) }
+    ensures ok { IfOk result (λ t. IsTextOfRun model.now events t.items) }
+    ensures err { IfErr result (λ e. IsEndingOfSerial model.now events e) }
 {
     let traces = traces_of(alloc, model, events)?;
     match trace_text(rt, alloc, &traces) {
         Ok(text) => Ok(text),
         Err(Memory) => Err(Ending::Memory),
     }
-}
-
-/// The text of a run of the model under that name.
-fn run_text<F: Files, R: Threads + Sync>(
-    rt: &R,
-    alloc: Global,
-    files: &mut F,
-    name: &str,
-    events: u32,
-    command: &Command,
-) -> Result<Vec<u8>, Ending>
-    requires named { Names (asked_of command.now) Role.Model name.now }
-    requires capped { IsCap (asked_of command.now) events }
-    requires few { events ≤ 4194304 }
-    ensures ok { IfOk result (λ t. (m : ModelData) × IsModelOf (F.found files.old) (asked_of command.now) m × IsOverWithin m events × (t.items ≡ trace_text_of (traces_within m events))) }
-    ensures err { IfErr result (λ e. IsCause (record { found = F.found files.old; faults = F.faults files.old }) (record { found = F.found files.new; faults = F.faults files.new }) (asked_of command.now) e) }
-    ensures kept { (other : List ℕ) → F.found files.new other ≡ F.found files.old other }
-    ensures later { F.faults files.old ≤ F.faults files.new }
-{
-    let model = model_of(alloc, files, name, command)?;
-    text_of_run(rt, alloc, &model, events)
 }
 
 /// The line that tells the size of a model.
@@ -187,27 +165,30 @@ fn canonical_text(alloc: Global, model: &Model) -> Result<Vec<u8>, Ending>
     }
 }
 
-/// The text of a command, or why it has none.
+/// The text of a command that needs no set, or why it has none.
 pub(crate) fn text_of<F: Files, R: Threads + Sync>(
     rt: &R,
     alloc: Global,
     command: &Command,
     files: &mut F,
 ) -> Result<Vec<u8>, Ending>
-    requires { IsInRange (asked_of command.now) }
-    ensures ok { IfOk result (λ t. IsTextOf (F.found files.old) (asked_of command.now) t.items) }
-    ensures err { IfErr result (λ e. IsCause (record { found = F.found files.old; faults = F.faults files.old }) (record { found = F.found files.new; faults = F.faults files.new }) (asked_of command.now) e) }
+    requires call { call_of (asked_of command.now) ≡ Call.Inspect }
+    requires in_range { IsInRange 0 (asked_of command.now) }
+    ensures ok { IfOk result (λ t. IsTextOf (resources F.found F.faults files.old files.new [] []) (asked_of command.now) t.items) }
+    ensures err { IfErr result (λ e. IsCause (resources F.found F.faults files.old files.new [] []) (asked_of command.now) e) }
     ensures kept { (other : List ℕ) → F.found files.new other ≡ F.found files.old other }
     ensures later { F.faults files.old ≤ F.faults files.new }
 {
     match command {
-        Command::Run { model, events, .. } | Command::Serial { model, events } => {
-            run_text(rt, alloc, files, model, *events, command)
-        }
-        Command::Check { model } => {
-            let model = model_of(alloc, files, model, command)?;
-            check_text(alloc, &model)
-        }
+        Command::Run { .. } => unreachable!(),
+        Command::Check { model } => match model_of(alloc, files, model, command) {
+            Ok(model) => check_text(alloc, &model),
+            Err(ending) => Err(ending),
+        },
+        Command::Serial { model, events } => match model_of(alloc, files, model, command) {
+            Ok(model) => serial_text(rt, alloc, &model, *events),
+            Err(ending) => Err(ending),
+        },
         Command::Gen {
             seed,
             objects,
