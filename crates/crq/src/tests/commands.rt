@@ -42,7 +42,9 @@ fn runs(rt: HostRuntime) -> Result<(), Fail> {
         ("run quiet 1 4 1", 0, QUIET_TEXT),
         ("run quiet 16 4 1", 0, QUIET_TEXT),
         ("run meeting 2 16 100", 0, MEETING_TEXT),
+        ("serial meeting 100", 0, MEETING_TEXT),
         ("run station 3 16 100", 0, STATION_TEXT),
+        ("serial station 100", 0, STATION_TEXT),
         ("run hold 4 16 10", 0, HOLD_TEXT),
     ];
     compare(&rt, rt.alloc(), &mut models(rt.alloc())?, &rows)

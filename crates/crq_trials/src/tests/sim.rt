@@ -1,4 +1,4 @@
-//! Draws, reactions, and runs of models of one object. Larger models run in the tests of `crq_top`.
+//! Draws, reactions, and runs of models of one object. Larger models run in the tests of `crq`.
 
 ghost use Rattle.std.specs.Prelude.{◌≡◌, ◌<◌, ◌≤◌, ◌^◌, true, IfOk, vec_len, length, codes, [], ◌∷◌};
 ghost use Rattle.std.specs.List.{AllByRecursion};
