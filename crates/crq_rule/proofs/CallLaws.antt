@@ -14,7 +14,7 @@ use Rattle.crq_rule.specs.declared.layout.Layout.{Layout}
 use Rattle.crq_rule.specs.declared.view.Tick.{Tick}
 use Rattle.crq_rule.specs.declared.view.CutRow.{CutRow}
 use Rattle.crq_rule.specs.declared.view.Found.{Found}
-use Rattle.crq_rule.specs.declared.view.Position.{Position}
+use Rattle.crq_rule.specs.declared.view.Stand.{Stand}
 use Rattle.crq_rule.specs.declared.view.Walk.{Walk}
 use Rattle.crq_rule.specs.Lists.{put}
 use Rattle.crq_rule.specs.Places.{IsHead}
@@ -70,13 +70,13 @@ carriers_same l history x link event holding none kept old = record {
 }
 
 -- the caller j adds an entry and gives up its walk, and each row that carries an event carries it still, unless that is out now
-pub walkers_entry : (l : Layout) (control : Control) (history : List Entry) (begun begun' : ℕ → ℕ) (link link' : ℕ → Link) (twin : ℕ → ℕ) (event : ℕ → Event) (holding : ℕ → Holding) (position : ℕ → Position)
+pub walkers_entry : (l : Layout) (control : Control) (history : List Entry) (begun begun' : ℕ → ℕ) (link link' : ℕ → Link) (twin : ℕ → ℕ) (event : ℕ → Event) (holding : ℕ → Holding) (rows : ℕ → List Stand)
     (walk : ℕ → Option Walk) (j : ℕ) (x : Entry) → ((k : ℕ) → k < l.workers → begun k ≤ length history) → ((k : ℕ) → k ≢ j → begun' k ≡ begun k)
     → ((at : ℕ) (e : Event) → (Contains (outs (history ++ x ∷ [])) e → ⊥) → StandsFrom l link twin event holding at e → StandsFrom l link' twin event holding at e)
-    → Walkers l control history begun link twin event holding position walk → Walkers l control (history ++ x ∷ []) begun' link' twin event holding position (put walk j None)
-walkers_entry l control history begun begun' link link' twin event holding position walk j x low others stays old = record {
+    → Walkers l control history begun link twin event holding rows walk → Walkers l control (history ++ x ∷ []) begun' link' twin event holding rows (put walk j None)
+walkers_entry l control history begun begun' link link' twin event holding rows walk j x low others stays old = record {
   opened = λ k w. put_all walk j None (λ k o. k < l.workers → o ≡ Some w → IsHead w.head × IsOpen control w.head) (λ _ e. absurd (none_walk w e)) (λ k _. old.opened k w) k;
-  at_stand = λ k w. put_all walk j None (λ k o. k < l.workers → o ≡ Some w → (w.at ≡ 0) ⊎ In w.at (rows_of (position k).rows)) (λ _ e. absurd (none_walk w e)) (λ k _. old.at_stand k w) k;
+  at_stand = λ k w. put_all walk j None (λ k o. k < l.workers → o ≡ Some w → (w.at ≡ 0) ⊎ In w.at (rows_of (rows k))) (λ _ e. absurd (none_walk w e)) (λ k _. old.at_stand k w) k;
   left = λ k w front back e. put_all walk j None
       (λ k o. k < l.workers → o ≡ Some w → history ++ x ∷ [] ≡ front ++ back → length front ≡ begun' k → head_of control e ≡ w.head → Contains (puts front) e → (Contains (outs (history ++ x ∷ [])) e → ⊥) → StandsFrom l link' twin event holding w.at e)
       (λ _ q. absurd (none_walk w q))
@@ -142,7 +142,7 @@ miss_legal c j limit b may inv = let from = inv.told.began j b may.began in let 
   from.2,
   λ f settled less. ⊎_elim (λ o. o) (λ kept. let beyond = left_beyond c inv j w front (Begin j ∷ from.2.back) f b may.walks.1 may.one_list from.2.parts from.1 settled kept in ⊎_elim
       (λ (none : w.at ≡ 0). let some = beyond.some_row in absurd (omega arith))
-      (λ (h : (e : Event) × StandsOn (c.position j).rows w.at e × (limit ≤ e.time)). let e = h.0 in let s = h.1.0 in
+      (λ (h : (e : Event) × StandsOn (c.rows j) w.at e × (limit ≤ e.time)). let e = h.0 in let s = h.1.0 in
       let holds : c.words.event w.at ≡ e = ap c.words.event (sym h.1.2) ∙ (inv.standing.holds j s b h.1.1 ∙ h.1.3) in
       let late = beyond_time c inv w.at e f holds beyond in let high = h.2 in absurd (omega arith))
       may.walks.2) (contains_or (outs c.history) f),

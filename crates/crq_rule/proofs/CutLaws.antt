@@ -10,18 +10,16 @@ use Rattle.crq_base.specs.declared.words.Control.{Control}
 use Rattle.crq_base.specs.Words.{IsLink}
 use Rattle.crq_base.specs.Lists.{In}
 use Rattle.crq_rule.specs.declared.debts.CutDebt.{CutDebt}
-use Rattle.crq_rule.specs.declared.debts.Debts.{Debts}
 use Rattle.crq_rule.specs.declared.layout.Layout.{Layout}
 use Rattle.crq_rule.specs.declared.view.Guard.{Guard}
-use Rattle.crq_rule.specs.declared.view.Guard.TheVariants.{Off, Entering, On}
+use Rattle.crq_rule.specs.declared.view.Guard.TheVariants.{On}
 use Rattle.crq_rule.specs.declared.view.CutRow.{CutRow}
-use Rattle.crq_rule.specs.declared.view.Position.{Position}
 use Rattle.crq_rule.specs.declared.view.Stand.{Stand}
 use Rattle.crq_rule.specs.declared.view.Walk.{Walk}
 use Rattle.crq_rule.specs.Lists.{put}
 use Rattle.crq_rule.specs.Places.{IsRow, IsHead}
-use Rattle.crq_rule.specs.Core.{Core, Holding, in_hand, listed, cut_by, retired, caller_of}
-use Rattle.crq_rule.specs.Parts.{IsEvent, Spelled, Holders, Stamps, stamp_of, Chains, Leads, Cover, Covers, HasTag, IsOn, rows_of, standing}
+use Rattle.crq_rule.specs.Core.{Core, DeadNames, Holding, in_hand, listed, cut_by, retired, caller_of}
+use Rattle.crq_rule.specs.Parts.{IsEvent, Spelled, Holders, Stamps, stamp_of, Chains, Leads, Cover, Covers, Ground, ground_of, footings, IsGuarded, HasTag, IsOn, rows_of, rows_of_old, rows_of_copy}
 use Rattle.crq_rule.specs.ListParts.{Heads, IsShutHead, Sorted, Marks, MarkFits, TwinFits, Standing, IsFinal, Lanes, Writing, row_word, Naming, IsNamed, ranks}
 use Rattle.crq_rule.specs.HistoryParts.{Carriers, IsLive, Walkers, StandsFrom}
 use Rattle.crq_rule.specs.ScarceParts.{IsLate}
@@ -31,15 +29,10 @@ use Rattle.crq_rule.specs.ListKinds.{cut_from, without_stand, unnamed, StandsOn,
 use Rattle.crq_rule.proofs.Puts.{put_here, put_else, put_all}
 use Rattle.crq_rule.proofs.PartLaws.{sort, of_whom, read_cut, cutting_cut}
 use Rattle.crq_rule.proofs.HolderLaws.{none_some, some_some}
+use Rattle.crq_rule.proofs.CoverLaws.{guarded_by, stand_row, row_footing, footing_covered}
 use Rattle.crq_rule.proofs.ScarceLaws.{since_low, scarce_lasts, lasts_held}
 use Rattle.crq_rule.proofs.SweepLaws.{swept_cut}
 use Rattle.crq_rule.proofs.WithoutLaws.{first_in, next_in, leads_else, leads_first, leads_without, rises_without, in_without_row, without_row_in, gone, Passes, path_cut, path_pass}
-
--- the caller's guard is on or not
-on_or_not : (g : Guard) → ((x : ℕ) × (g ≡ On x)) ⊎ (IsOn g → ⊥)
-on_or_not Off = inr (λ n. n)
-on_or_not (Entering x) = inr (λ n. n)
-on_or_not (On x) = inl (x, refl)
 
 on_is : (g : Guard) (x : ℕ) → g ≡ On x → IsOn g
 on_is g x is = subst IsOn (sym is) tt
@@ -55,14 +48,6 @@ val_final : (m : Mark) → m ≡ Val → IsFinal m → ⊥
 val_final m is final = subst IsFinal is final
 
 -- Stands, and what is left of them without the row x
-
-stand_row : (ss : List Stand) (s : Stand) → In s ss → In s.row (rows_of ss)
-stand_row [] s i = i
-stand_row (t ∷ ts) s i = ⊎_elim (λ (e : s ≡ t). inl (ap (λ (z : Stand). z.row) e)) (λ (h : In s ts). inr (stand_row ts s h)) i
-
-in_front : (xs ys : List ℕ) (a : ℕ) → In a xs → In a (xs ++ ys)
-in_front [] ys a i = absurd i
-in_front (x ∷ xs) ys a i = ⊎_elim inl (λ (t : In a xs). inr (in_front xs ys a t)) i
 
 stand_left : (x : ℕ) (ss : List Stand) (s : Stand) → In s (without_stand x ss) → In s ss
 stand_left x [] s i = i
@@ -193,17 +178,14 @@ module _ (c : Core) (j : ℕ) (cell : Cell) (x : ℕ) (l : Link) (b : j < c.star
   abbrev now_cut : CutRow
   now_cut = record { row = x; tags = [] }
 
-  abbrev now_position : Position
-  now_position = record (c.position j) { rows = without_stand x (c.position j).rows }
+  abbrev now_rows : List Stand
+  now_rows = without_stand x (c.rows j)
 
-  abbrev now_debts : Debts
-  now_debts = record (c.debts j) { cut = unnamed x (c.debts j).cut }
+  abbrev now_names : DeadNames
+  now_names = record (c.named j) { first = unnamed x (c.named j).first }
 
-  abbrev WasCovered : ℕ → ℕ → ℕ → Type 0
-  WasCovered = Covers n c.words.link c.words.twin c.guard c.position c.debts
-
-  abbrev IsCovered : ℕ → ℕ → ℕ → Type 0
-  IsCovered = Covers n links c.words.twin c.guard (put c.position j now_position) (put c.debts j now_debts)
+  abbrev ground' : Ground
+  ground' = record (ground_of c) { link = links; footing = footings (put c.rows j now_rows) c.old c.copying }
 
   -- The row x, on which the caller stands, and the cell
 
@@ -213,36 +195,35 @@ module _ (c : Core) (j : ℕ) (cell : Cell) (x : ℕ) (l : Link) (b : j < c.star
   dead : (c.words.link x).mark ≡ Del
   dead = ap (λ (z : Link). z.mark) at_x ∙ may.dead
 
-  on : (g : ℕ) × (c.guard j ≡ On g)
-  on = ⊎_elim (λ h. h) (λ off. absurd (subst (In may.on.0.row) (inv.cover.resting j b off) (in_front _ _ _ (stand_row (c.position j).rows may.on.0 may.on.1)))) (on_or_not (c.guard j))
+  covered : (r : ℕ) (e : Event) → StandsOn (c.rows j) r e → (g : ℕ) × Covers (ground_of c) j g r
+  covered r e s = subst (λ r. (g : ℕ) × Covers (ground_of c) j g r) s.2 (footing_covered (ground_of c) c.cut c.holding inv.cover j s.0.row b (row_footing c.rows c.old c.copying j s.0.row (stand_row (c.rows j) s.0 s.1)))
 
-  covered : (r : ℕ) (e : Event) → StandsOn (c.position j).rows r e → WasCovered j on.0 r
-  covered r e s = subst (WasCovered j on.0) s.2
-      (record { inside = b; on = on.1; at = s.0.row; stands = in_front _ _ _ (stand_row (c.position j).rows s.0 s.1); reaches = record { through = []; path = refl } })
-
-  covered_x : WasCovered j on.0 x
+  covered_x : (g : ℕ) × Covers (ground_of c) j g x
   covered_x = covered x may.on.0.event (may.on.0, may.on.1, may.on.2, refl)
 
+  on : (g : ℕ) × (c.guard j ≡ On g)
+  on = (covered_x.0, covered_x.1.on)
+
   row_x : IsRow c.start.layout x
-  row_x = inv.lanes.is_row j on.0 x covered_x
+  row_x = inv.lanes.is_row x (guarded_by j covered_x)
 
   -- a covered row that is present is listed
-  present_listed : (r : ℕ) → WasCovered j on.0 r → (c.words.link r).mark ≡ Val → (k : ℕ) × (c.holding r ≡ listed k)
+  present_listed : (r : ℕ) → IsGuarded (ground_of c) r → (c.words.link r).mark ≡ Val → (k : ℕ) × (c.holding r ≡ listed k)
   present_listed r v present = held (c.holding r) refl
     where
       held : (h : Holding) → c.holding r ≡ h → (k : ℕ) × (c.holding r ≡ listed k)
-      held (in_hand i) is = absurd (inv.cover.free j on.0 r i v is)
+      held (in_hand i) is = absurd (inv.cover.free v.0 v.1 r i v.2 is)
       held (listed k) is = (k, is)
-      held (cut_by i) is = absurd (del_val (sym (subst (λ h. MarkFits h (c.words.link r).mark) is (inv.marks.mark r (inv.lanes.is_row j on.0 r v))) ∙ present))
-      held (retired t) is = absurd (del_val (sym (subst (λ h. MarkFits h (c.words.link r).mark) is (inv.marks.mark r (inv.lanes.is_row j on.0 r v))) ∙ present))
+      held (cut_by i) is = absurd (del_val (sym (subst (λ h. MarkFits h (c.words.link r).mark) is (inv.marks.mark r (inv.lanes.is_row r v))) ∙ present))
+      held (retired t) is = absurd (del_val (sym (subst (λ h. MarkFits h (c.words.link r).mark) is (inv.marks.mark r (inv.lanes.is_row r v))) ∙ present))
 
   abbrev IsCellOf : ℕ → Cell → Type 0
   IsCellOf k (at_head h) = h ≡ k
   IsCellOf k (at_row p) = In p (c.chain k)
 
-  cell_list : (z : Cell) → MayWalk (c.position j).rows z → (link_at c.words.head c.words.link z).mark ≡ Val → (link_at c.words.head c.words.link z).row ≡ x → (k : ℕ) × IsHead k × In x (c.chain k) × IsCellOf k z
+  cell_list : (z : Cell) → MayWalk (c.rows j) z → (link_at c.words.head c.words.link z).mark ≡ Val → (link_at c.words.head c.words.link z).row ≡ x → (k : ℕ) × IsHead k × In x (c.chain k) × IsCellOf k z
   cell_list (at_head h) is present to = (h, is, first_in c.words.link x (c.chain h) row_x.0 (subst (λ z. Leads c.words.link z (c.chain h)) to (inv.chains.leads h is)), refl)
-  cell_list (at_row p) is present to = let v = covered p is.0 is.1 in let k = present_listed p v present in let o = inv.holders.of_chain k.0 p (inv.lanes.is_row j on.0 p v) k.1 in
+  cell_list (at_row p) is present to = let v : IsGuarded (ground_of c) p = guarded_by j (covered p is.0 is.1) in let k = present_listed p v present in let o = inv.holders.of_chain k.0 p (inv.lanes.is_row p v) k.1 in
       (k.0, o.0, next_in c.words.link (c.words.head k.0).row p x (c.chain k.0) row_x.0 to (inv.chains.leads k.0 o.0) o.1, o.1)
 
   place : IsHead q × In x (c.chain q) × IsCellOf q cell
@@ -265,8 +246,8 @@ module _ (c : Core) (j : ℕ) (cell : Cell) (x : ℕ) (l : Link) (b : j < c.star
   to_x : (r : ℕ) → cell ≡ at_row r → (c.words.link r).row ≡ x
   to_x r e = subst (λ z. (link_at c.words.head c.words.link z).row ≡ x) e names
 
-  cell_covered : (r : ℕ) → cell ≡ at_row r → WasCovered j on.0 r
-  cell_covered r e = let s = subst (MayWalk (c.position j).rows) e may.cell_is in covered r s.0 s.1
+  cell_covered : (r : ℕ) → cell ≡ at_row r → (g : ℕ) × Covers (ground_of c) j g r
+  cell_covered r e = let s = subst (MayWalk (c.rows j)) e may.cell_is in covered r s.0 s.1
 
   passes : Passes x c.words.link links
   passes r = ⊎_elim inl (λ (h : (cell ≡ at_row r) × ((links r).row ≡ l.row)). inr (to_x r h.0, h.1 ∙ sym (ap (λ (z : Link). z.row) at_x))) (changed r)
@@ -317,13 +298,14 @@ module _ (c : Core) (j : ℕ) (cell : Cell) (x : ℕ) (l : Link) (b : j < c.star
   }
 
   -- what is covered was covered
-  stands_before : (k a : ℕ) → In a (standing (put c.position j now_position k) (put c.debts j now_debts k)) → In a (standing (c.position k) (c.debts k))
-  stands_before k a = put_all c.position j now_position (λ i p. In a (standing p (put c.debts j now_debts i)) → In a (standing (c.position i) (c.debts i)))
-      (λ i. row_left x (c.position j).rows _ a (subst (λ z. In a (standing now_position z)) (put_here c.debts j now_debts) i))
-      (λ i ne h. subst (λ z. In a (standing (c.position i) z)) (put_else c.debts j now_debts i ne) h) k
+  stands_before : (k a : ℕ) → In a (footings (put c.rows j now_rows) c.old c.copying k) → In a (footings c.rows c.old c.copying k)
+  stands_before k a = put_all c.rows j now_rows (λ i ss. In a (rows_of ss ++ (rows_of_old (c.old i) ++ rows_of_copy (c.copying i))) → In a (footings c.rows c.old c.copying i)) (row_left x (c.rows j) _ a) (λ _ _ h. h) k
 
-  before : (k g r : ℕ) → IsCovered k g r → WasCovered k g r
+  before : (k g r : ℕ) → Covers ground' k g r → Covers (ground_of c) k g r
   before k g r v = record { inside = v.inside; on = v.on; at = v.at; stands = stands_before k v.at v.stands; reaches = path_cut c.words.link links c.words.twin x passes row_x.0 v.at r v.reaches.through v.reaches.path }
+
+  guarded : (r : ℕ) → IsGuarded ground' r → IsGuarded (ground_of c) r
+  guarded r v = (v.0, v.1, before v.0 v.1 r v.2)
 
   tag_before : (r t : ℕ) → HasTag n (put c.cut j (Some now_cut)) holding r t → HasTag n c.cut c.holding r t
   tag_before r t has = ⊎_elim
@@ -338,42 +320,41 @@ module _ (c : Core) (j : ℕ) (cell : Cell) (x : ℕ) (l : Link) (b : j < c.star
       ))
       has
 
-  cover_part : Cover n links c.words.twin c.guard (put c.position j now_position) (put c.debts j now_debts) (put c.cut j (Some now_cut)) holding
+  cover_part : Cover ground' (put c.cut j (Some now_cut)) holding
   cover_part = record {
-    free = λ k g r i v. put_all c.holding x (cut_by j) (λ s h. WasCovered k g s → h ≡ in_hand i → ⊥) (λ _ e. let z : 2 ≡ 0 = ap sort e in absurd (omega arith)) (λ s _ w. inv.cover.free k g s i w) r (before k g r v);
+    free = λ k g r i v. put_all c.holding x (cut_by j) (λ s h. Covers (ground_of c) k g s → h ≡ in_hand i → ⊥) (λ _ e. let z : 2 ≡ 0 = ap sort e in absurd (omega arith)) (λ s _ w. inv.cover.free k g s i w) r (before k g r v);
     tags = λ k g r t v has. inv.cover.tags k g r t (before k g r v) (tag_before r t has);
-    resting = λ k. put_all c.position j now_position (λ i p. i < n → (IsOn (c.guard i) → ⊥) → standing p (put c.debts j now_debts i) ≡ [])
-        (λ _ off. absurd (off (on_is (c.guard j) on.0 on.1)))
-        (λ i ne a off. subst (λ z. standing (c.position i) z ≡ []) (sym (put_else c.debts j now_debts i ne)) (inv.cover.resting i a off)) k;
+    resting = λ k. put_all c.rows j now_rows (λ i ss. i < n → (IsOn (c.guard i) → ⊥) → rows_of ss ++ (rows_of_old (c.old i) ++ rows_of_copy (c.copying i)) ≡ [])
+        (λ _ off. absurd (off (on_is (c.guard j) on.0 on.1))) (λ i _ a off. inv.cover.resting i a off) k;
   }
 
   -- what holds of each covered row and the next one, and goes on along the rows, holds now
-  along : (P : ℕ → ℕ → Type 0) → ((r s t : ℕ) → P r s → P s t → P r t) → ((k g r : ℕ) → WasCovered k g r → 0 < (c.words.link r).row → P r (c.words.link r).row)
-      → (k g r : ℕ) → IsCovered k g r → 0 < (links r).row → P r (links r).row
-  along P on_and_on old k g r v = ⊎_elim
-      (λ (e : links r ≡ c.words.link r). subst (λ (z : Link). 0 < z.row → P r z.row) (sym e) (old k g r (before k g r v)))
+  along : (P : ℕ → ℕ → Type 0) → ((r s t : ℕ) → P r s → P s t → P r t) → ((r : ℕ) → IsGuarded (ground_of c) r → 0 < (c.words.link r).row → P r (c.words.link r).row)
+      → (r : ℕ) → IsGuarded ground' r → 0 < (links r).row → P r (links r).row
+  along P on_and_on old r v = ⊎_elim
+      (λ (e : links r ≡ c.words.link r). subst (λ (z : Link). 0 < z.row → P r z.row) (sym e) (old r (guarded r v)))
       (λ (h : (cell ≡ at_row r) × ((links r).row ≡ l.row)). subst (λ z. 0 < z → P r z) (sym h.1)
-      (λ some. on_and_on r x l.row (subst (λ z. 0 < z → P r z) (to_x r h.0) (old j on.0 r (cell_covered r h.0)) row_x.0) (subst (λ (z : Link). 0 < z.row → P x z.row) at_x (old j on.0 x covered_x) some)))
+      (λ some. on_and_on r x l.row (subst (λ z. 0 < z → P r z) (to_x r h.0) (old r (guarded_by j (cell_covered r h.0))) row_x.0) (subst (λ (z : Link). 0 < z.row → P x z.row) at_x (old x (guarded_by j covered_x)) some)))
       (changed r)
 
-  lanes_part : Lanes c.start.layout c.words.control links c.words.twin c.words.event c.guard (put c.position j now_position) (put c.debts j now_debts)
+  lanes_part : Lanes c.start.layout c.words.control ground' c.words.event
   lanes_part = record {
-    is_row = λ k g r v. inv.lanes.is_row k g r (before k g r v);
+    is_row = λ r v. inv.lanes.is_row r (guarded r v);
     rises = along (λ r s. ranks c.words.event r < ranks c.words.event s) (λ r s t lo hi. omega arith) inv.lanes.rises;
     stays = along (λ r s. head_of c.words.control (c.words.event s) ≡ head_of c.words.control (c.words.event r)) (λ r s t lo hi. hi ∙ lo) inv.lanes.stays;
-    generation = λ k g r v some. link_generation c.words.head c.words.link l.row cell (links r).row
-        ∙ (along (λ r s. (c.words.link s).generation ≡ (c.words.link r).generation) (λ r s t lo hi. hi ∙ lo) inv.lanes.generation k g r v some ∙ sym (link_generation c.words.head c.words.link l.row cell r));
+    generation = λ r v some. link_generation c.words.head c.words.link l.row cell (links r).row
+        ∙ (along (λ r s. (c.words.link s).generation ≡ (c.words.link r).generation) (λ r s t lo hi. hi ∙ lo) inv.lanes.generation r v some ∙ sym (link_generation c.words.head c.words.link l.row cell r));
   }
 
-  still_last : (k : ℕ) (s : Stand) (m : Link) → k < n → In s (c.position k).rows → s.last ≡ Some m → (links s.row ≡ m) × IsFinal m.mark
+  still_last : (k : ℕ) (s : Stand) (m : Link) → k < n → In s (c.rows k) → s.last ≡ Some m → (links s.row ≡ m) × IsFinal m.mark
   still_last k s m a i is = let o = inv.standing.last k s m a i is in
       (⊎_elim (λ e. e ∙ o.0) (λ (h : (cell ≡ at_row s.row) × ((links s.row).row ≡ l.row)). absurd (val_final m.mark (ap (λ (z : Link). z.mark) (sym o.0) ∙ present s.row h.0) o.1)) (changed s.row), o.1)
 
-  standing_part : Standing n links c.words.event (put c.position j now_position)
+  standing_part : Standing n links c.words.event (put c.rows j now_rows)
   standing_part = record {
-    holds = λ k s. put_all c.position j now_position (λ i p. i < n → In s p.rows → c.words.event s.row ≡ s.event) (λ a i. inv.standing.holds j s a (stand_left x (c.position j).rows s i)) (λ i _. inv.standing.holds i s) k;
-    last = λ k s m. put_all c.position j now_position (λ i p. i < n → In s p.rows → s.last ≡ Some m → (links s.row ≡ m) × IsFinal m.mark)
-        (λ a i. still_last j s m a (stand_left x (c.position j).rows s i)) (λ i _. still_last i s m) k;
+    holds = λ k s. put_all c.rows j now_rows (λ i ss. i < n → In s ss → c.words.event s.row ≡ s.event) (λ a i. inv.standing.holds j s a (stand_left x (c.rows j) s i)) (λ i _. inv.standing.holds i s) k;
+    last = λ k s m. put_all c.rows j now_rows (λ i ss. i < n → In s ss → s.last ≡ Some m → (links s.row ≡ m) × IsFinal m.mark)
+        (λ a i. still_last j s m a (stand_left x (c.rows j) s i)) (λ i _. still_last i s m) k;
   }
 
   writing_part : Writing n links c.words.twin c.words.event c.hand c.written
@@ -382,22 +363,22 @@ module _ (c : Core) (j : ℕ) (cell : Cell) (x : ℕ) (l : Link) (b : j < c.star
     placed = inv.writing.placed;
     stands = λ k y a i. ⊎_elim
         (λ (e : links y.row ≡ c.words.link y.row). subst (λ (z : Link). row_word z (c.words.twin y.row) (c.words.event y.row) y.place ≡ y.word) (sym e) (inv.writing.stands k y a i))
-        (λ (h : (cell ≡ at_row y.row) × ((links y.row).row ≡ l.row)). absurd (inv.cover.free j on.0 y.row k (cell_covered y.row h.0) (inv.holders.held k y.row a (inv.writing.in_hand_is k y a i)).1))
+        (λ (h : (cell ≡ at_row y.row) × ((links y.row).row ≡ l.row)). absurd (let v = cell_covered y.row h.0 in inv.cover.free j v.0 y.row k v.1 (inv.holders.held k y.row a (inv.writing.in_hand_is k y a i)).1))
         (changed y.row);
   }
 
   listed_before : (r k : ℕ) → holding r ≡ listed k → (c.holding r ≡ listed k) × (r ≢ x)
   listed_before r k = put_all c.holding x (cut_by j) (λ s h. h ≡ listed k → (c.holding s ≡ listed k) × (s ≢ x)) (λ e. let z : 2 ≡ 1 = ap sort e in absurd (omega arith)) (λ s ne e. (e, ne)) r
 
-  naming_part : Naming c.start.layout c.words.control links c.words.event (put c.debts j now_debts) holding
+  naming_part : Naming c.start.layout c.words.control links c.words.event (put c.named j now_names) holding
   naming_part = record {
     named = λ r k row is del. let o = listed_before r k is in let e = c.words.event r in let old = inv.naming.named r k row o.0 (sym (link_mark c.words.head c.words.link l.row cell r) ∙ del) in (
       old.0,
       old.1,
-      put_all c.debts j now_debts (λ i d. IsNamed (c.debts i).cut r e ⊎ IsNamed (c.debts i).second_cut r e → IsNamed d.cut r e ⊎ IsNamed d.second_cut r e)
-          (λ h. ⊎_elim (λ h. inl (named_left x r e (c.debts j).cut o.1 h)) inr h) (λ _ _ h. h) old.0 old.2,
+      put_all c.named j now_names (λ i d. IsNamed (c.named i).first r e ⊎ IsNamed (c.named i).second r e → IsNamed d.first r e ⊎ IsNamed d.second r e)
+          (λ h. ⊎_elim (λ h. inl (named_left x r e (c.named j).first o.1 h)) inr h) (λ _ _ h. h) old.0 old.2,
     );
-    place = λ k d. put_all c.debts j now_debts (λ i o. i < n → o.cut ≡ Some d → (d.head ≡ head_of c.words.control d.event) × IsRow c.start.layout d.row × IsEvent d.event) (λ a is. inv.naming.place j d a (debt_left x (c.debts j).cut d is)) (λ i _. inv.naming.place i d) k;
+    place = λ k d. put_all c.named j now_names (λ i o. i < n → o.first ≡ Some d → (d.head ≡ head_of c.words.control d.event) × IsRow c.start.layout d.row × IsEvent d.event) (λ a is. inv.naming.place j d a (debt_left x (c.named j).first d is)) (λ i _. inv.naming.place i d) k;
   }
 
   -- The row x was dead, so the same rows are live
@@ -426,11 +407,11 @@ module _ (c : Core) (j : ℕ) (cell : Cell) (x : ℕ) (l : Link) (b : j < c.star
     reached = path_pass c.words.link links c.words.twin x passes lone at s.row s.reached.through (not_x s.row s.live) s.reached.path;
   }
 
-  walkers_part : Walkers c.start.layout c.words.control c.history c.begun links c.words.twin c.words.event holding (put c.position j now_position) (put c.walk j None)
+  walkers_part : Walkers c.start.layout c.words.control c.history c.begun links c.words.twin c.words.event holding (put c.rows j now_rows) (put c.walk j None)
   walkers_part = record {
     opened = λ k w. put_all c.walk j None (λ i o. i < n → o ≡ Some w → IsHead w.head × IsOpen c.words.control w.head) (λ _ e. absurd (no_walk w e)) (λ i _. inv.walkers.opened i w) k;
-    at_stand = λ k w. put_all c.walk j None (λ i o. i < n → o ≡ Some w → (w.at ≡ 0) ⊎ In w.at (rows_of (put c.position j now_position i).rows)) (λ _ e. absurd (no_walk w e))
-        (λ i ne a e. subst (λ (z : Position). (w.at ≡ 0) ⊎ In w.at (rows_of z.rows)) (sym (put_else c.position j now_position i ne)) (inv.walkers.at_stand i w a e)) k;
+    at_stand = λ k w. put_all c.walk j None (λ i o. i < n → o ≡ Some w → (w.at ≡ 0) ⊎ In w.at (rows_of (put c.rows j now_rows i))) (λ _ e. absurd (no_walk w e))
+        (λ i ne a e. subst (λ ss. (w.at ≡ 0) ⊎ In w.at (rows_of ss)) (sym (put_else c.rows j now_rows i ne)) (inv.walkers.at_stand i w a e)) k;
     left = λ k w front back e a is split long of_head was_put not_out. from_before w.at e (inv.walkers.left k w front back e a (walk_before k w is) split long of_head was_put not_out);
   }
     where

@@ -5,11 +5,11 @@ use Rattle.crq_rule.specs.declared.view.Guard.{Guard}
 use Rattle.crq_rule.specs.declared.view.Tick.{Tick}
 use Rattle.crq_rule.specs.declared.view.CutRow.{CutRow}
 use Rattle.crq_rule.specs.declared.view.Base.{Base}
-use Rattle.crq_rule.specs.declared.view.Position.{Position}
+use Rattle.crq_rule.specs.declared.view.Stand.{Stand}
 use Rattle.crq_rule.specs.declared.view.Made.{Made}
 use Rattle.crq_rule.specs.declared.view.Walk.{Walk}
 use Rattle.crq_rule.specs.Core.{Core, Holding}
-use Rattle.crq_rule.specs.Parts.{Reading, Guards, Holders, Cutting, Stamps, Cover}
+use Rattle.crq_rule.specs.Parts.{ground_of, footings, Reading, Guards, Holders, Cutting, Stamps, Cover}
 use Rattle.crq_rule.specs.ListParts.{Marks, Standing, Lanes, Writing, Naming}
 use Rattle.crq_rule.specs.HistoryParts.{Carriers, Walkers}
 use Rattle.crq_rule.specs.ScarceParts.{Scarce, Refusals}
@@ -17,19 +17,19 @@ use Rattle.crq_rule.specs.Invariant.{Inv}
 use Rattle.crq_rule.specs.Kinds.{after_made}
 
 -- the epoch word, announcements, guards, ticks, epochs read, tags, bases, positions and walks
-pub frame_guards : (c : Core) (e : ℕ) (announced : ℕ → ℕ) (epochs : ℕ → List ℕ) (guard : ℕ → Guard) (tick : ℕ → Tick) (cut : ℕ → Option CutRow) (base : ℕ → Option Base) (position : ℕ → Position) (walk : ℕ → Option Walk) → Inv c
+pub frame_guards : (c : Core) (e : ℕ) (announced : ℕ → ℕ) (epochs : ℕ → List ℕ) (guard : ℕ → Guard) (tick : ℕ → Tick) (cut : ℕ → Option CutRow) (base : ℕ → Option Base) (rows : ℕ → List Stand) (old : ℕ → Option Stand) (walk : ℕ → Option Walk) → Inv c
     → Reading c.start.layout.workers e c.words.current c.words.control epochs tick cut c.found
     → Guards c.start.layout.workers e announced guard tick
     → Holders c.start.layout c.hand cut c.chain c.holding
     → Cutting c.start.layout.workers guard cut
     → Stamps c.start.layout e c.words.stamp c.ripening c.holding
-    → Cover c.start.layout.workers c.words.link c.words.twin guard position c.debts cut c.holding
-    → Standing c.start.layout.workers c.words.link c.words.event position
-    → Lanes c.start.layout c.words.control c.words.link c.words.twin c.words.event guard position c.debts
-    → Walkers c.start.layout c.words.control c.history c.begun c.words.link c.words.twin c.words.event c.holding position walk
+    → Cover (record (ground_of c) { guard = guard; footing = footings rows old c.copying }) cut c.holding
+    → Standing c.start.layout.workers c.words.link c.words.event rows
+    → Lanes c.start.layout c.words.control (record (ground_of c) { guard = guard; footing = footings rows old c.copying }) c.words.event
+    → Walkers c.start.layout c.words.control c.history c.begun c.words.link c.words.twin c.words.event c.holding rows walk
     → Scarce c.start.layout e c.history base guard c.holding
-    → Inv (record c { words = record c.words { epoch = e; announced = announced }; epochs = epochs; guard = guard; tick = tick; cut = cut; base = base; position = position; walk = walk })
-frame_guards c e announced epochs guard tick cut base position walk inv reading guards holders cutting stamps cover standing lanes walkers scarce = record {
+    → Inv (record c { words = record c.words { epoch = e; announced = announced }; epochs = epochs; guard = guard; tick = tick; cut = cut; base = base; rows = rows; old = old; walk = walk })
+frame_guards c e announced epochs guard tick cut base rows old walk inv reading guards holders cutting stamps cover standing lanes walkers scarce = record {
   spelled = inv.spelled;
   reading = reading;
   guards = guards;
@@ -59,12 +59,12 @@ pub frame_rows : (c : Core) (stamp : ℕ → ℕ) (hand : ℕ → List ℕ) (rip
     → Holders c.start.layout hand cut c.chain holding
     → Cutting c.start.layout.workers c.guard cut
     → Stamps c.start.layout c.words.epoch stamp ripening holding
-    → Cover c.start.layout.workers c.words.link c.words.twin c.guard c.position c.debts cut holding
+    → Cover (ground_of c) cut holding
     → Marks c.start.layout c.words.link c.words.twin holding
     → Writing c.start.layout.workers c.words.link c.words.twin c.words.event hand c.written
-    → Naming c.start.layout c.words.control c.words.link c.words.event c.debts holding
+    → Naming c.start.layout c.words.control c.words.link c.words.event c.named holding
     → Carriers c.start.layout c.history c.words.link c.words.event holding
-    → Walkers c.start.layout c.words.control c.history c.begun c.words.link c.words.twin c.words.event holding c.position c.walk
+    → Walkers c.start.layout c.words.control c.history c.begun c.words.link c.words.twin c.words.event holding c.rows c.walk
     → Scarce c.start.layout c.words.epoch c.history base c.guard holding
     → Refusals c.start.layout.workers c.history refused
     → Inv (record c { words = record c.words { stamp = stamp }; hand = hand; ripening = ripening; cut = cut; base = base; refused = refused; holding = holding })

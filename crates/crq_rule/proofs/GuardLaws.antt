@@ -10,14 +10,14 @@ use Rattle.crq_rule.specs.declared.view.CutRow.{CutRow}
 use Rattle.crq_rule.specs.Lists.{put}
 use Rattle.crq_rule.specs.Core.{Core}
 use Rattle.crq_rule.specs.ScarceParts.{pending, IsBase}
-use Rattle.crq_rule.specs.Parts.{Cutting, Reading, Stamps, Guards, GuardIs, OnSince, IsOn, LetsRise, standing, rows_of_copy}
+use Rattle.crq_rule.specs.Parts.{Cutting, Reading, Stamps, Guards, GuardIs, OnSince, IsOn, LetsRise, footings, ground_of}
 use Rattle.crq_rule.specs.Invariant.{Inv}
-use Rattle.crq_rule.specs.Kinds.{epoch_loaded, recovery_begun, new_base, entered, confirmed, left, scanned, ticked, tick_failed, tagged, new_tick, nowhere, HasScanned}
+use Rattle.crq_rule.specs.Kinds.{epoch_loaded, recovery_begun, new_base, entered, confirmed, left, scanned, ticked, tick_failed, tagged, new_tick, HasScanned}
 use Rattle.crq_rule.proofs.Puts.{put_here, put_else}
 use Rattle.crq_rule.proofs.PartLaws.{read_epoch, read_tick, read_cut, read_risen, tagged_some, guard_set, tick_set, guards_risen, found_at, announced_low, cutting_guard, cutting_cut, stamps_risen}
 use Rattle.crq_rule.proofs.HolderLaws.{holders_tagged, none_some}
-use Rattle.crq_rule.proofs.CoverLaws.{cover_guard, cover_nowhere, cover_tagged}
-use Rattle.crq_rule.proofs.StandLaws.{lanes_guard, lanes_nowhere, standing_nowhere, walkers_none}
+use Rattle.crq_rule.proofs.CoverLaws.{nowhere_now, less_nowhere, cover_guard, cover_less, cover_tagged}
+use Rattle.crq_rule.proofs.StandLaws.{lanes_guard, lanes_less, standing_nowhere, walkers_none}
 use Rattle.crq_rule.proofs.ScarceLaws.{some_base, scarce_put, scarce_lasts, lasts_guard, base_begun}
 use Rattle.crq_rule.proofs.Frames.{frame_guards}
 
@@ -26,7 +26,7 @@ pub on_low : (c : Core) → Inv c → (k g : ℕ) → k < c.start.layout.workers
 on_low c inv k g b is = let h = subst (GuardIs c.words.epoch (c.words.announced k)) is (inv.guards.each k b) in (h.2, h.3)
 
 -- a caller whose guard isn't on stands nowhere, and has no cut row
-not_on : (c : Core) → Inv c → (j : ℕ) → (IsOn (c.guard j) → ⊥) → j < c.start.layout.workers → standing (c.position j) (c.debts j) ≡ []
+not_on : (c : Core) → Inv c → (j : ℕ) → (IsOn (c.guard j) → ⊥) → j < c.start.layout.workers → (ground_of c).footing j ≡ []
 not_on c inv j off b = inv.cover.resting j b off
 
 no_scan : (t : ℕ) (guard : ℕ → Guard) (i a : ℕ) → In {A = ℕ × ℕ} (i, a) [] → LetsRise t a → OnSince t (guard i)
@@ -39,13 +39,13 @@ cutting_tagged c j inv = cutting_cut _ _ _ j (tagged c.words.epoch (c.cut j))
     (λ t f x b is on i. let y = tagged_some c.words.epoch (c.cut j) x is in ⊎_elim (λ (q : t ≡ c.words.epoch). let low = (on_low c inv j f b on).0 in omega arith) (inv.cutting.tags j t f y.0 b y.1 on) (y.3 t i)) inv.cutting
 
 pub load_keeps : (c : Core) (j : ℕ) → j < c.start.layout.workers → Inv c → Inv (epoch_loaded c j)
-load_keeps c j b inv = let e = c.words.epoch in let t = new_tick e in let o = tagged e (c.cut j) in frame_guards c _ _ _ _ _ _ _ _ _ inv
+load_keeps c j b inv = let e = c.words.epoch in let t = new_tick e in let o = tagged e (c.cut j) in frame_guards c _ _ _ _ _ _ _ _ _ _ inv
     (read_epoch _ _ _ _ _ _ _ _ j e (le_refl e) (read_tick _ _ _ _ _ _ _ _ j t (le_refl e) (λ k a n. absurd n) (read_cut _ _ _ _ _ _ _ _ j o low inv.reading)))
     (tick_set _ _ _ _ _ j t (λ i a _ n l. no_scan e c.guard i a n l) inv.guards)
     (holders_tagged _ _ _ _ _ j e inv.holders)
     (cutting_tagged c j inv)
     inv.stamps
-    (cover_tagged _ _ _ _ _ _ _ _ j e (λ k g b' is. (on_low c inv k g b' is).0) inv.cover)
+    (cover_tagged _ _ _ j e (λ k g b' is. (on_low c inv k g b' is).0) inv.cover)
     inv.standing inv.lanes inv.walkers inv.scarce
   where
     low : (t : ℕ) (x : CutRow) → j < c.start.layout.workers → tagged c.words.epoch (c.cut j) ≡ Some x → In t x.tags → t ≤ c.words.epoch
@@ -53,7 +53,7 @@ load_keeps c j b inv = let e = c.words.epoch in let t = new_tick e in let o = ta
 
 -- the first load of a recovery
 pub recovery_keeps : (c : Core) (j : ℕ) → j < c.start.layout.workers → Inv c → Inv (recovery_begun c j)
-recovery_keeps c j b inv = let loaded = load_keeps c j b inv in frame_guards c _ _ _ _ _ _ _ _ _ inv loaded.reading loaded.guards loaded.holders loaded.cutting loaded.stamps loaded.cover loaded.standing loaded.lanes loaded.walkers
+recovery_keeps c j b inv = let loaded = load_keeps c j b inv in frame_guards c _ _ _ _ _ _ _ _ _ _ inv loaded.reading loaded.guards loaded.holders loaded.cutting loaded.stamps loaded.cover loaded.standing loaded.lanes loaded.walkers
     (scarce_put _ _ _ _ _ _ _ _ _ _ j (Some (new_base (length c.history) (pending c.history) c.words.epoch)) (λ x _ is. subst (IsBase c.start.layout c.words.epoch c.history c.guard c.holding j) (some_base _ x is) (base_begun c j b inv)) (λ k x _ _ old. old) inv.scarce)
 
 off_not_on : (g : Guard) → g ≡ Off → IsOn g → ⊥
@@ -63,52 +63,49 @@ entering_not_on : (g : Guard) (x : ℕ) → g ≡ Entering x → IsOn g → ⊥
 entering_not_on g x is on = subst IsOn is on
 
 pub enter_keeps : (c : Core) (j e : ℕ) → j < c.start.layout.workers → c.guard j ≡ Off → In e (c.epochs j) → Inv c → Inv (entered c j e)
-enter_keeps c j e b off read inv = frame_guards c _ _ _ _ _ _ _ _ _ inv inv.reading
+enter_keeps c j e b off read inv = frame_guards c _ _ _ _ _ _ _ _ _ _ inv inv.reading
     (guard_set _ _ _ _ _ (put c.words.announced j (e + 1)) j (Entering e) (put_else _ _ _) (put_here _ _ _, inv.reading.read j e b read) (λ _ _. tt) inv.guards)
     inv.holders
     (cutting_guard _ _ _ j (Entering e) (λ x b' is. off_not_on (c.guard j) off (inv.cutting.on j x b' is)) inv.cutting)
     inv.stamps
-    (cover_guard _ _ _ _ _ _ _ _ j (Entering e) (not_on c inv j (off_not_on (c.guard j) off)) inv.cover)
+    (cover_guard _ _ _ j (Entering e) (not_on c inv j (off_not_on (c.guard j) off)) inv.cover)
     inv.standing
-    (lanes_guard _ _ _ _ _ _ _ _ j (Entering e) (not_on c inv j (off_not_on (c.guard j) off)) inv.lanes)
+    (lanes_guard _ _ _ _ j (Entering e) (not_on c inv j (off_not_on (c.guard j) off)) inv.lanes)
     inv.walkers
     (scarce_lasts _ _ _ _ _ _ _ _ _ (le_refl _) (λ k inside. lasts_guard _ _ _ _ j (Entering e) k inside (λ r g _ _ _. subst (OnSince (g + 1)) (sym off) tt) (λ _ _ _. tt)) inv.scarce)
 
 pub confirm_keeps : (c : Core) (j x : ℕ) → j < c.start.layout.workers → c.guard j ≡ Entering x → Inv c → Inv (confirmed c j)
 confirm_keeps c j x b is inv = let old : GuardIs c.words.epoch (c.words.announced j) (Entering x) = subst (GuardIs c.words.epoch (c.words.announced j)) is (inv.guards.each j b) in
-    let a = old.0 in let low = old.1 in let e = c.words.epoch in frame_guards c _ _ _ _ _ _ _ _ _ inv
+    let a = old.0 in let low = old.1 in let e = c.words.epoch in frame_guards c _ _ _ _ _ _ _ _ _ _ inv
     (read_epoch _ _ _ _ _ _ _ _ j e (le_refl e) inv.reading)
     (guard_set _ _ _ _ _ c.words.announced j (On e) (λ _ _. refl) (omega arith, omega arith, le_refl e, omega arith) inv.reading.loaded inv.guards)
     inv.holders
     (cutting_guard _ _ _ j (On e) (λ z b' at. entering_not_on (c.guard j) x is (inv.cutting.on j z b' at)) inv.cutting)
     inv.stamps
-    (cover_guard _ _ _ _ _ _ _ _ j (On e) (not_on c inv j (entering_not_on (c.guard j) x is)) inv.cover)
+    (cover_guard _ _ _ j (On e) (not_on c inv j (entering_not_on (c.guard j) x is)) inv.cover)
     inv.standing
-    (lanes_guard _ _ _ _ _ _ _ _ j (On e) (not_on c inv j (entering_not_on (c.guard j) x is)) inv.lanes)
+    (lanes_guard _ _ _ _ j (On e) (not_on c inv j (entering_not_on (c.guard j) x is)) inv.lanes)
     inv.walkers
     (scarce_lasts _ _ _ _ _ _ _ _ _ (le_refl _) (λ k inside. lasts_guard _ _ _ _ j (On e) k inside (λ r g _ _ _. subst (OnSince (g + 1)) (sym is) tt) (λ g low _. omega arith)) inv.scarce)
 
--- a caller that owes no copy may come to stand nowhere
-owes_none : (c : Core) (j : ℕ) → (c.debts j).copy ≡ None → standing nowhere (c.debts j) ≡ []
-owes_none c j none = ap rows_of_copy none
-
-pub leave_keeps : (c : Core) (j : ℕ) → j < c.start.layout.workers → c.cut j ≡ None → (c.debts j).copy ≡ None → Inv c → Inv (left c j)
-leave_keeps c j b uncut none inv = frame_guards c _ _ _ _ _ _ _ _ _ inv inv.reading
+pub leave_keeps : (c : Core) (j : ℕ) → j < c.start.layout.workers → c.cut j ≡ None → c.copying j ≡ None → Inv c → Inv (left c j)
+leave_keeps c j b uncut none inv = frame_guards c _ _ _ _ _ _ _ _ _ _ inv inv.reading
     (guard_set _ _ _ _ _ (put c.words.announced j 0) j Off (put_else _ _ _) (put_here _ _ _) (λ _ _. tt) inv.guards)
     inv.holders
     (cutting_guard _ _ _ j Off (λ x _ is. absurd (none_some x (sym uncut ∙ is))) inv.cutting)
     inv.stamps
-    (cover_guard _ _ _ _ (put c.position j nowhere) _ _ _ j Off (λ _. subst (λ p. standing p (c.debts j) ≡ []) (sym (put_here c.position j nowhere)) (owes_none c j none))
-    (cover_nowhere _ _ _ _ _ _ _ _ j (owes_none c j none) inv.cover))
+    (cover_guard _ _ _ j Off (λ _. nowhere_now c.rows c.old c.copying j none) (cover_less _ _ _ _ less inv.cover))
     (standing_nowhere _ _ _ _ j inv.standing)
-    (lanes_guard _ _ _ _ _ _ (put c.position j nowhere) _ j Off (λ _. subst (λ p. standing p (c.debts j) ≡ []) (sym (put_here c.position j nowhere)) (owes_none c j none))
-    (lanes_nowhere _ _ _ _ _ _ _ _ j (owes_none c j none) inv.lanes))
-    (walkers_none _ _ _ _ _ _ _ _ _ _ j nowhere inv.walkers)
+    (lanes_guard _ _ _ _ j Off (λ _. nowhere_now c.rows c.old c.copying j none) (lanes_less _ _ _ _ _ less inv.lanes))
+    (walkers_none _ _ _ _ _ _ _ _ _ _ j [] inv.walkers)
     (scarce_lasts _ _ _ _ _ _ _ _ _ (le_refl _) (λ k inside. lasts_guard _ _ _ _ j Off k inside
     (λ r g row held _. absurd (let o = inv.holders.of_cut j r row held in none_some o.1.0 (sym uncut ∙ o.1.1))) (λ _ _ _. tt)) inv.scarce)
+  where
+    less : (k a : ℕ) → In a (footings (put c.rows j []) (put c.old j None) c.copying k) → In a (footings c.rows c.old c.copying k)
+    less = less_nowhere c.rows c.old c.copying j none
 
 pub scan_keeps : (c : Core) (j k : ℕ) → j < c.start.layout.workers → k < c.start.layout.workers → Inv c → Inv (scanned c j k)
-scan_keeps c j k b d inv = let t = c.tick j in let t' : Tick = record { loaded = t.loaded; found = (k, c.words.announced k) ∷ t.found } in frame_guards c _ _ _ _ _ _ _ _ _ inv
+scan_keeps c j k b d inv = let t = c.tick j in let t' : Tick = record { loaded = t.loaded; found = (k, c.words.announced k) ∷ t.found } in frame_guards c _ _ _ _ _ _ _ _ _ _ inv
     (read_tick _ _ _ _ _ _ _ _ j t' (inv.reading.loaded j b) low inv.reading)
     (tick_set _ _ _ _ _ j t' new inv.guards)
     inv.holders inv.cutting inv.stamps inv.cover inv.standing inv.lanes inv.walkers inv.scarce
@@ -125,7 +122,7 @@ scan_keeps c j k b d inv = let t = c.tick j in let t' : Tick = record { loaded =
 
 pub tick_keeps : (c : Core) (j x : ℕ) → j < c.start.layout.workers → c.words.epoch ≡ x → x < 2 ^ 62 → (c.tick j).loaded ≡ x → c.guard j ≡ Off → HasScanned c.start.layout.workers j (c.tick j) → Inv c → Inv (ticked c j x)
 tick_keeps c j x b now limit is off all inv = let n = c.start.layout.workers in let t = new_tick 0 in
-    let reading = subst (λ z. Reading n z c.words.current c.words.control c.epochs c.tick c.cut c.found) now inv.reading in frame_guards c _ _ _ _ _ _ _ _ _ inv
+    let reading = subst (λ z. Reading n z c.words.current c.words.control c.epochs c.tick c.cut c.found) now inv.reading in frame_guards c _ _ _ _ _ _ _ _ _ _ inv
     (read_epoch _ _ _ _ _ _ _ _ j (x + 1) (le_refl (x + 1)) (read_tick _ _ _ _ _ _ _ _ j t (omega arith) (λ k a h. absurd h) (read_risen _ _ _ _ _ _ _ _ (omega arith) reading)))
     (tick_set _ _ _ _ _ j t (λ i a _ h l. no_scan 0 c.guard i a h l) (guards_risen _ _ _ _ _ low (subst (λ z. Guards n z c.words.announced c.guard c.tick) now inv.guards)))
     inv.holders inv.cutting
@@ -139,7 +136,7 @@ tick_keeps c j x b now limit is off all inv = let n = c.start.layout.workers in 
 
 -- the exchange found another epoch, and the caller knows it
 pub tick_fails_keeps : (c : Core) (j : ℕ) → j < c.start.layout.workers → Inv c → Inv (tick_failed c j)
-tick_fails_keeps c j b inv = let t = new_tick 0 in let e = c.words.epoch in frame_guards c _ _ _ _ _ _ _ _ _ inv
+tick_fails_keeps c j b inv = let t = new_tick 0 in let e = c.words.epoch in frame_guards c _ _ _ _ _ _ _ _ _ _ inv
     (read_epoch _ _ _ _ _ _ _ _ j e (le_refl e) (read_tick _ _ _ _ _ _ _ _ j t (omega arith) (λ k a h. absurd h) inv.reading))
     (tick_set _ _ _ _ _ j t (λ i a _ h l. no_scan 0 c.guard i a h l) inv.guards)
     inv.holders inv.cutting inv.stamps inv.cover inv.standing inv.lanes inv.walkers inv.scarce

@@ -1,5 +1,5 @@
 -- What a step function asks of each kind on guards and epochs.
-use Rattle.std.proofs.Common.{◌≡◌, ℕ, ◌+◌, ◌^◌, ◌<◌, List, ◌∷◌, length, Option, Some, None, cond, get_or, set, eqb, sym, refl, ap, ◌∙◌, subst, arith, eq-eqb, ne_eqb}
+use Rattle.std.proofs.Common.{[], ◌≡◌, ℕ, ◌+◌, ◌^◌, ◌<◌, List, ◌∷◌, length, Option, Some, None, cond, get_or, set, eqb, sym, refl, ap, ◌∙◌, subst, arith, eq-eqb, ne_eqb}
 use mathlib.Core.Logic.{dite}
 use native.Mathlib.Decide.{ℕ_discrete}
 use lib.Seq.{set-get_or}
@@ -15,7 +15,7 @@ use Rattle.crq_rule.specs.Core.{Core, caller_of}
 use Rattle.crq_rule.specs.Invariant.{Inv}
 use Rattle.crq_rule.specs.declared.view.Base.{Base}
 use Rattle.crq_rule.specs.ScarceParts.{pending}
-use Rattle.crq_rule.specs.Kinds.{loads_epoch, loads_based, new_base, enters, confirms, leaves, scans, ticks, tagged, new_tick, nowhere, HasScanned}
+use Rattle.crq_rule.specs.Kinds.{loads_epoch, loads_based, new_base, enters, confirms, leaves, scans, ticks, tagged, new_tick, HasScanned}
 use Rattle.crq_rule.specs.Rule.{IsWords}
 use Rattle.crq_rule.specs.Moves.{Moves, MovesBy, quiet, TellsEpoch, BeginsRecovery, TellsLow, word_after}
 use Rattle.crq_rule.proofs.Puts.{put_here}
@@ -97,7 +97,7 @@ module _ (key : Start) (p : Caller) where
     refl,
     (ap (λ (q : Caller). q.cut) (sym is) ∙ uncut, ap (λ (q : Caller). q.debts.copy) (sym is) ∙ none),
     record { start = words.start; shows = announced_set key.layout c.words ws j 0 (subst (λ (z : Start). j < z.layout.workers) words.start b) words.shows },
-    ap leaves is ∙ (λ i. record (caller_of c j) { guard = sym (put_here c.guard j Off) i; position = sym (put_here c.position j nowhere) i; walk = sym (put_here c.walk j None) i }),
+    ap leaves is ∙ (λ i. record (caller_of c j) { guard = sym (put_here c.guard j Off) i; position = record { rows = sym (put_here c.rows j []) i; old = sym (put_here c.old j None) i }; walk = sym (put_here c.walk j None) i }),
     tt,
   )
 

@@ -6,17 +6,16 @@ use Rattle.crq_base.specs.declared.words.Link.{Link}
 use Rattle.crq_base.specs.declared.words.Mark.TheVariants.{Del}
 use Rattle.crq_base.specs.Words.{link_word}
 use Rattle.crq_rule.specs.declared.view.Guard.TheVariants.{Off, Entering, On}
-use Rattle.crq_rule.specs.declared.debts.Debts.{Debts}
-use Rattle.crq_rule.specs.declared.view.Position.{Position}
+use Rattle.crq_rule.specs.declared.view.Stand.{Stand}
 use Rattle.crq_rule.specs.declared.view.Walk.{Walk}
 use Rattle.crq_rule.specs.declared.view.Sweep.{Sweep}
 use Rattle.crq_rule.specs.declared.view.Caller.{Caller}
 use Rattle.crq_rule.specs.Lists.{put, without}
 use Rattle.crq_rule.specs.Places.{Words, Place, epoch, announced, head, link as link_place, stamp, twin, time, source, sequence, load, word_of}
-use Rattle.crq_rule.specs.Core.{Core, caller_of}
+use Rattle.crq_rule.specs.Core.{Core, DeadNames, caller_of, owed_by}
 use Rattle.crq_rule.specs.Invariant.{Inv}
 use Rattle.crq_rule.specs.ScarceParts.{pending}
-use Rattle.crq_rule.specs.Kinds.{tagged, new_base, new_tick, nowhere, seen_stamp, base_looked, refused_after}
+use Rattle.crq_rule.specs.Kinds.{tagged, new_base, new_tick, seen_stamp, base_looked, refused_after}
 use Rattle.crq_rule.specs.Ranks.{Cell, at_head, at_row, cell_place, link_at, heads_set, links_set}
 use Rattle.crq_rule.specs.ListKinds.{Content, new_link, no_twin, new_time, new_source, new_sequence, new_load, content_number, content_word, row_place, wrote, link_after, twin_after, event_after, put_entries, cut_debt, unhanded, forgotten, without_stand, unnamed, stands_after, walk_after, taken_on, sweep_on, clean_on, relieved}
 use Rattle.crq_rule.specs.Steps.{Kind, split, join, epoch_load, recovery_load, enter, confirm, leave, scan, tick, tick_fails, retire, look, claim, write, read, walk, link, link_fails, control_load, begin, mark, mark_fails, cut, cut_fails, miss, May, After, place_of, entries_of}
@@ -58,20 +57,20 @@ keeps (cut_fails cell) c j b may inv = inv
 keeps (miss limit) c j b may inv = miss_keeps c j limit b may inv
 
 -- what a walk changes
-abbrev new_position : Core → ℕ → Cell → Bool → Position
-new_position c j cell seeks = let l = link_at c.words.head c.words.link cell in record { rows = stands_after cell seeks l (c.words.event l.row) (c.position j).rows; old = (c.position j).old }
+abbrev new_rows : Core → ℕ → Cell → Bool → List Stand
+new_rows c j cell seeks = let l = link_at c.words.head c.words.link cell in stands_after cell seeks l (c.words.event l.row) (c.rows j)
 
 abbrev new_walk : Core → ℕ → Cell → Bool → Option Walk
 new_walk c j cell seeks = walk_after cell seeks (link_at c.words.head c.words.link cell) (c.walk j)
 
 abbrev new_sweep : Core → ℕ → Cell → Bool → Option Sweep
-new_sweep c j cell seeks = let l = link_at c.words.head c.words.link cell in sweep_on (taken_on seeks (c.found j).control cell (c.position j).rows (c.sweep j)) l (c.words.event l.row) (c.sweep j)
+new_sweep c j cell seeks = let l = link_at c.words.head c.words.link cell in sweep_on (taken_on seeks (c.found j).control cell (c.rows j) (c.sweep j)) l (c.words.event l.row) (c.sweep j)
 
 abbrev new_clean : Core → ℕ → Cell → Bool → List ℕ
-new_clean c j cell seeks = clean_on (taken_on seeks (c.found j).control cell (c.position j).rows (c.sweep j)) (link_at c.words.head c.words.link cell) (c.clean j)
+new_clean c j cell seeks = clean_on (taken_on seeks (c.found j).control cell (c.rows j) (c.sweep j)) (link_at c.words.head c.words.link cell) (c.clean j)
 
-abbrev new_debts : Core → ℕ → Cell → Debts
-new_debts c j cell = let l = link_at c.words.head c.words.link cell in record (c.debts j) { cut = relieved (c.found j).control cell (c.position j).rows l (c.words.event l.row) (c.debts j).cut }
+abbrev new_names : Core → ℕ → Cell → DeadNames
+new_names c j cell = let l = link_at c.words.head c.words.link cell in record (c.named j) { first = relieved (c.found j).control cell (c.rows j) l (c.words.event l.row) (c.named j).first }
 
 -- what the other callers know stays
 pub others_stay : (k : Kind) (c : Core) (j i : ℕ) → i ≢ j → caller_of (After k c j) i ≡ caller_of c i
@@ -90,7 +89,7 @@ others_stay recovery_load c j i ne = λ x. record (caller_of c i) {
 }
 others_stay (enter e) c j i ne = λ x. record (caller_of c i) { guard = put_else c.guard j (Entering e) i ne x }
 others_stay confirm c j i ne = λ x. record (caller_of c i) { epochs = put_else c.epochs j (c.words.epoch ∷ c.epochs j) i ne x; guard = put_else c.guard j (On c.words.epoch) i ne x }
-others_stay leave c j i ne = λ x. record (caller_of c i) { guard = put_else c.guard j Off i ne x; position = put_else c.position j nowhere i ne x; walk = put_else c.walk j None i ne x }
+others_stay leave c j i ne = λ x. record (caller_of c i) { guard = put_else c.guard j Off i ne x; position = record { rows = put_else c.rows j [] i ne x; old = put_else c.old j None i ne x }; walk = put_else c.walk j None i ne x }
 others_stay (scan k) c j i ne = λ x. record (caller_of c i) { tick = put_else c.tick j (record { loaded = (c.tick j).loaded; found = (k, c.words.announced k) ∷ (c.tick j).found }) i ne x }
 others_stay (tick z) c j i ne = λ x. record (caller_of c i) { epochs = put_else c.epochs j ((z + 1) ∷ c.epochs j) i ne x; tick = put_else c.tick j (new_tick 0) i ne x }
 others_stay (tick_fails z) c j i ne = λ x. record (caller_of c i) { epochs = put_else c.epochs j (c.words.epoch ∷ c.epochs j) i ne x; tick = put_else c.tick j (new_tick 0) i ne x }
@@ -104,11 +103,11 @@ others_stay (claim r e) c j i ne = λ x. record (caller_of c i) { hand = put_els
 others_stay (write r x) c j i ne = λ y. record (caller_of c i) { written = put_else c.written j (wrote r (content_number x) (content_word x) (c.written j)) i ne y }
 others_stay (read r p) c j i ne = refl
 others_stay (walk cell seeks) c j i ne = λ x. record (caller_of c i) {
-  position = put_else c.position j (new_position c j cell seeks) i ne x;
+  position = record { rows = put_else c.rows j (new_rows c j cell seeks) i ne x; old = c.old i };
   walk = put_else c.walk j (new_walk c j cell seeks) i ne x;
   sweep = put_else c.sweep j (new_sweep c j cell seeks) i ne x;
   clean = put_else c.clean j (new_clean c j cell seeks) i ne x;
-  debts = put_else c.debts j (new_debts c j cell) i ne x;
+  debts = owed_by (c.settling i) (c.copying i) (put_else c.named j (new_names c j cell) i ne x);
 }
 others_stay (link cell l r e) c j i ne = λ x. record (caller_of c i) {
   own = put_else c.own j (c.own j ++ put_entries j e) i ne x;
@@ -130,14 +129,14 @@ others_stay begin c j i ne = λ x. record (caller_of c i) {
 others_stay (mark r e) c j i ne = λ x. record (caller_of c i) {
   own = put_else c.own j (c.own j ++ Take j e ∷ []) i ne x;
   walk = put_else c.walk j None i ne x;
-  debts = put_else c.debts j (record (c.debts j) { cut = Some (cut_debt c.words.control r e) }) i ne x;
+  debts = owed_by (c.settling i) (c.copying i) (put_else c.named j (record (c.named j) { first = Some (cut_debt c.words.control r e) }) i ne x);
 }
 others_stay (mark_fails r) c j i ne = refl
 others_stay (cut cell y l) c j i ne = λ x. record (caller_of c i) {
   cut = put_else c.cut j (Some (record { row = y; tags = [] })) i ne x;
   walk = put_else c.walk j None i ne x;
-  position = put_else c.position j (record (c.position j) { rows = without_stand y (c.position j).rows }) i ne x;
-  debts = put_else c.debts j (record (c.debts j) { cut = unnamed y (c.debts j).cut }) i ne x;
+  position = record { rows = put_else c.rows j (without_stand y (c.rows j)) i ne x; old = c.old i };
+  debts = owed_by (c.settling i) (c.copying i) (put_else c.named j (record (c.named j) { first = unnamed y (c.named j).first }) i ne x);
 }
 others_stay (cut_fails cell) c j i ne = refl
 others_stay (miss limit) c j i ne = λ x. record (caller_of c i) {

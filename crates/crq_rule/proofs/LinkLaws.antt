@@ -15,12 +15,11 @@ use Rattle.crq_base.specs.Lists.{In, IsOnce}
 use Rattle.crq_rule.specs.declared.view.Guard.{Guard}
 use Rattle.crq_rule.specs.declared.view.Guard.TheVariants.{Off, Entering, On}
 use Rattle.crq_rule.specs.declared.view.CutRow.{CutRow}
-use Rattle.crq_rule.specs.declared.view.Stand.{Stand}
 use Rattle.crq_rule.specs.declared.view.Wrote.{Wrote}
 use Rattle.crq_rule.specs.Lists.{put}
 use Rattle.crq_rule.specs.Places.{IsRow, IsHomeRow, IsHead}
 use Rattle.crq_rule.specs.Core.{Core, caller_of, Holding, in_hand, listed, cut_by, retired}
-use Rattle.crq_rule.specs.Parts.{Spelled, IsEvent, Holders, Stamps, stamp_of, Chains, Leads, Names, IsPath, Reaches, rows_of, standing, Covers, Cover, HasTag, IsOn}
+use Rattle.crq_rule.specs.Parts.{Spelled, IsEvent, Holders, Stamps, stamp_of, Chains, Leads, Names, IsPath, Reaches, Ground, ground_of, footings, Covers, IsGuarded, Cover, HasTag, IsOn}
 use Rattle.crq_rule.specs.ListParts.{ranks, Heads, IsShutHead, Sorted, MarkFits, TwinFits, Marks, IsFinal, Standing, Lanes, row_word, Writing, IsNamed, Naming}
 use Rattle.crq_rule.specs.HistoryParts.{IsLive, Carriers, Walkers}
 use Rattle.crq_rule.specs.Ranks.{rank, head_of, IsOpen, Cell, at_head, at_row, link_at, heads_set, links_set, Rises, after_cell}
@@ -28,6 +27,7 @@ use Rattle.crq_rule.specs.Invariant.{Inv}
 use Rattle.crq_rule.specs.ListKinds.{unhanded, forgotten, put_entries, linked, StandsOn, ComesAfter, MayLink}
 use Rattle.crq_rule.proofs.Puts.{put_here, put_else, put_all}
 use Rattle.crq_rule.proofs.PartLaws.{home_is_row, one_home, sort, of_whom, apart}
+use Rattle.crq_rule.proofs.CoverLaws.{stand_row, row_footing}
 use Rattle.crq_rule.proofs.HistoryLaws.{fresh_put, told_put, pending_put, put_pending, outs_put, not_out, front_of}
 use Rattle.crq_rule.proofs.ScarceLaws.{base_lasts, base_grown, lasts_held, scarce_drop, refusals_grown}
 use Rattle.crq_rule.proofs.SweepLaws.{swept_grown, swept_linked}
@@ -66,10 +66,6 @@ unhanded_once r [] once = tt
 unhanded_once r (x ∷ xs) once = dite (ℕ_discrete x r)
     (λ e. subst (λ b. IsOnce (cond b xs (x ∷ unhanded r xs))) (sym (eq-eqb x r e)) once.1)
     (λ ne. subst (λ b. IsOnce (cond b xs (x ∷ unhanded r xs))) (sym (ne_eqb x r ne)) (λ i. once.0 (in_unhanded r x xs i), unhanded_once r xs once.1))
-
-in_rows : (s : Stand) (ss : List Stand) (xs : List ℕ) → In s ss → In s.row (rows_of ss ++ xs)
-in_rows s [] xs i = absurd i
-in_rows s (t ∷ ts) xs i = ⊎_elim (λ (e : s ≡ t). inl (ap (λ (z : Stand). z.row) e)) (λ (h : In s ts). inr (in_rows s ts xs h)) i
 
 -- Paths
 
@@ -181,18 +177,18 @@ record Linking (c : Core) (j : ℕ) (cell : Cell) (l : Link) (r q : ℕ) (e : Ev
   next : (l.row ≡ 0) ⊎ (ranks c.words.event r < ranks c.words.event l.row)
 
 cell_of : (c : Core) (j : ℕ) (cell : Cell) (r : ℕ) (e : Event) → j < c.start.layout.workers → IsOn (c.guard j) → (link_at c.words.head c.words.link cell).mark ≡ Val → c.words.event r ≡ e
-    → ComesAfter c.words.control (c.position j).rows cell r e → Inv c → let q = head_of c.words.control e in IsHead q × IsOf cell q (c.chain q) × IsBelow (ranks c.words.event) cell r
+    → ComesAfter c.words.control (c.rows j) cell r e → Inv c → let q = head_of c.words.control e in IsHead q × IsOf cell q (c.chain q) × IsBelow (ranks c.words.event) cell r
 cell_of c j (at_head h) r e b on mark event after inv = (subst IsHead (sym after.1) after.0, sym after.1, tt)
 cell_of c j (at_row p) r e b on mark event after inv =
     let f = after.0 in let s = after.1 in let g = on_is (c.guard j) on in
-    let covers : Covers c.start.layout.workers c.words.link c.words.twin c.guard c.position c.debts j g.0 p = record {
+    let covers : Covers (ground_of c) j g.0 p = record {
       inside = b;
       on = g.1;
       at = p;
-      stands = subst (λ z. In z (standing (c.position j) (c.debts j))) s.2 (in_rows s.0 (c.position j).rows _ s.1);
+      stands = subst (λ z. In z (footings c.rows c.old c.copying j)) s.2 (row_footing c.rows c.old c.copying j s.0.row (stand_row (c.rows j) s.0 s.1));
       reaches = record { through = []; path = refl };
     } in
-    let row = inv.lanes.is_row j g.0 p covers in
+    let row = inv.lanes.is_row p (j, g.0, covers) in
     let lists = listed_is (c.holding p) (c.words.link p).mark (inv.marks.mark p row) mark (λ k h. inv.cover.free j g.0 p k covers h) in
     let found = inv.holders.of_chain lists.0 p row lists.1 in
     let holds : c.words.event p ≡ f = subst (λ z. c.words.event z ≡ f) s.2 (inv.standing.holds j s.0 b s.1 ∙ s.3) in
@@ -224,7 +220,7 @@ known c j cell l r e b may is inv =
       is_head = at.0;
       of = at.1;
       below = at.2;
-      next = ⊎_elim inl (λ (h : (f : Event) × StandsOn (c.position j).rows l.row f × (rank e r < rank f l.row)).
+      next = ⊎_elim inl (λ (h : (f : Event) × StandsOn (c.rows j) l.row f × (rank e r < rank f l.row)).
           let s = h.1 in let holds : c.words.event l.row ≡ h.0 = subst (λ z. c.words.event z ≡ h.0) s.2 (inv.standing.holds j s.0 b s.1 ∙ s.3) in
           inr (subst (λ (z : Event × Event). rank z.0 r < rank z.1 l.row) (λ i. (sym event i, sym holds i)) h.2)) may.before;
     }
@@ -243,6 +239,9 @@ module _ (c : Core) (j : ℕ) (cell : Cell) (l : Link) (r : ℕ) (e : Event) whe
 
   abbrev link' : ℕ → Link
   link' = links_set c.words.link cell new
+
+  abbrev ground' : Ground
+  ground' = record (ground_of c) { link = link' }
 
   abbrev less : List ℕ
   less = unhanded r (c.hand j)
@@ -386,19 +385,19 @@ module _ (c : Core) (j : ℕ) (cell : Cell) (l : Link) (r : ℕ) (e : Event) whe
     }
 
     -- what a guard covers now is the row r, or was covered before
-    covers_before : (k g s : ℕ) → Covers c.start.layout.workers link' c.words.twin c.guard c.position c.debts k g s → (s ≡ r) ⊎ Covers c.start.layout.workers c.words.link c.words.twin c.guard c.position c.debts k g s
+    covers_before : (k g s : ℕ) → Covers ground' k g s → (s ≡ r) ⊎ Covers (ground_of c) k g s
     covers_before k g s v = ⊎_elim inl (λ t. inr (record { inside = v.inside; on = v.on; at = v.at; stands = v.stands; reaches = t }))
         (reaches_before cell c.words.head c.words.link c.words.twin r v.at s new refl same_row f.twin_is
         (λ t. inv.cover.free k g r j (record { inside = v.inside; on = v.on; at = v.at; stands = v.stands; reaches = t }) f.held) v.reaches)
 
-    other_covered : (k g s : ℕ) → s ≢ r → Covers c.start.layout.workers link' c.words.twin c.guard c.position c.debts k g s → Covers c.start.layout.workers c.words.link c.words.twin c.guard c.position c.debts k g s
+    other_covered : (k g s : ℕ) → s ≢ r → Covers ground' k g s → Covers (ground_of c) k g s
     other_covered k g s ne v = ⊎_elim (λ z. absurd (ne z)) (λ v. v) (covers_before k g s v)
 
-    cover_after : Cover c.start.layout.workers link' c.words.twin c.guard c.position c.debts c.cut holding'
+    cover_after : Cover ground' c.cut holding'
     cover_after = let n = c.start.layout.workers in let old = inv.cover in record {
-      free = λ k g s i v is. put_all c.holding r (listed q) (λ s h. Covers n link' c.words.twin c.guard c.position c.debts k g s → h ≡ in_hand i → ⊥) (λ _ z. let z : ◌≡◌ {A = ℕ} 1 0 = ap sort z in omega arith)
+      free = λ k g s i v is. put_all c.holding r (listed q) (λ s h. Covers ground' k g s → h ≡ in_hand i → ⊥) (λ _ z. let z : ◌≡◌ {A = ℕ} 1 0 = ap sort z in omega arith)
           (λ s ne v. old.free k g s i (other_covered k g s ne v)) s v is;
-      tags = λ k g s t v has. put_all c.holding r (listed q) (λ s h. Covers n link' c.words.twin c.guard c.position c.debts k g s → HasTag n c.cut c.holding s t ⊎ (h ≡ retired t) → g ≤ t)
+      tags = λ k g s t v has. put_all c.holding r (listed q) (λ s h. Covers ground' k g s → HasTag n c.cut c.holding s t ⊎ (h ≡ retired t) → g ≤ t)
           (λ _ has. absurd (⊎_elim untagged (λ z. let z : ◌≡◌ {A = ℕ} 1 3 = ap sort z in omega arith) has))
           (λ s ne v has. old.tags k g s t (other_covered k g s ne v) (⊎_elim (λ h. h) inl has)) s v (⊎_elim inr (λ h. inl (inr h)) has);
       resting = old.resting;
@@ -413,7 +412,7 @@ module _ (c : Core) (j : ℕ) (cell : Cell) (l : Link) (r : ℕ) (e : Event) whe
     link_last (at_head h) is s final = refl
     link_last (at_row p) is s final = put_else c.words.link p new s (λ (z : s ≡ p). not_final (c.words.link s).mark (ap (λ y. (c.words.link y).mark) z ∙ (ap (λ (y : Link). y.mark) is ∙ f.mark_is)) final)
 
-    standing_after : Standing c.start.layout.workers link' c.words.event c.position
+    standing_after : Standing c.start.layout.workers link' c.words.event c.rows
     standing_after = record {
       holds = inv.standing.holds;
       last = λ k s x b i is. let t = inv.standing.last k s x b i is in (link_last cell f.cell_is s.row (subst (λ (y : Link). IsFinal y.mark) (sym t.0) t.1) ∙ t.0, t.1);
@@ -439,11 +438,14 @@ module _ (c : Core) (j : ℕ) (cell : Cell) (l : Link) (r : ℕ) (e : Event) whe
           same_generation l.row ∙ (inv.sorted.generation q l.row f.is_head listed_next ∙ sym (generation_is cell f.cell_is f.of)),
         )
 
-    lane : (k g s : ℕ) → Covers c.start.layout.workers link' c.words.twin c.guard c.position c.debts k g s → Lane s (link' s)
-    lane k g s v = ⊎_elim
+    guarded_before : (s : ℕ) → IsGuarded ground' s → (s ≡ r) ⊎ IsGuarded (ground_of c) s
+    guarded_before s v = ⊎_elim inl (λ o. inr (v.0, v.1, o)) (covers_before v.0 v.1 s v.2)
+
+    lane : (s : ℕ) → IsGuarded ground' s → Lane s (link' s)
+    lane s v = ⊎_elim
         (λ same. subst (Lane s) (sym same) (⊎_elim
         (λ (z : s ≡ r). subst (λ y. Lane y (c.words.link y)) (sym z) (subst (Lane r) (sym f.link_is) lane_of_new))
-        (λ v some. (inv.lanes.rises k g s v some, inv.lanes.stays k g s v some, same_generation (c.words.link s).row ∙ inv.lanes.generation k g s v some)) (covers_before k g s v)))
+        (λ v some. (inv.lanes.rises s v some, inv.lanes.stays s v some, same_generation (c.words.link s).row ∙ inv.lanes.generation s v some)) (guarded_before s v)))
         (λ (h : (link' s ≡ new) × (ranks c.words.event s < ranks c.words.event r) × In s (c.chain q)). subst (Lane s) (sym h.0) (λ some. (
           h.1,
           ap (head_of c.words.control) f.event_is ∙ sym (inv.sorted.belongs q s f.is_head h.2),
@@ -451,12 +453,12 @@ module _ (c : Core) (j : ℕ) (cell : Cell) (l : Link) (r : ℕ) (e : Event) whe
         )))
         (link_either cell f.of f.below s)
 
-    lanes_after : Lanes c.start.layout c.words.control link' c.words.twin c.words.event c.guard c.position c.debts
+    lanes_after : Lanes c.start.layout c.words.control ground' c.words.event
     lanes_after = record {
-      is_row = λ k g s v. ⊎_elim (λ z. subst (IsRow c.start.layout) (sym z) f.row) (inv.lanes.is_row k g s) (covers_before k g s v);
-      rises = λ k g s v some. (lane k g s v some).0;
-      stays = λ k g s v some. (lane k g s v some).1;
-      generation = λ k g s v some. (lane k g s v some).2;
+      is_row = λ s v. ⊎_elim (λ z. subst (IsRow c.start.layout) (sym z) f.row) (inv.lanes.is_row s) (guarded_before s v);
+      rises = λ s v some. (lane s v some).0;
+      stays = λ s v some. (lane s v some).1;
+      generation = λ s v some. (lane s v some).2;
     }
 
     writing_after : Writing c.start.layout.workers link' c.words.twin c.words.event hand' (put c.written j (forgotten r (c.written j)))
@@ -472,9 +474,9 @@ module _ (c : Core) (j : ℕ) (cell : Cell) (l : Link) (r : ℕ) (e : Event) whe
         still : (k : ℕ) (x : Wrote) → k < c.start.layout.workers → In x (c.written k) → row_word (link' x.row) (c.words.twin x.row) (c.words.event x.row) x.place ≡ x.word
         still k x b i = subst (λ y. row_word y (c.words.twin x.row) (c.words.event x.row) x.place ≡ x.word) (sym (link_of_hand k x.row (inv.holders.held k x.row b (inv.writing.in_hand_is k x b i)).1)) (inv.writing.stands k x b i)
 
-    naming_after : Naming c.start.layout c.words.control link' c.words.event c.debts holding'
+    naming_after : Naming c.start.layout c.words.control link' c.words.event c.named holding'
     naming_after = record {
-      named = λ s h. put_all c.holding r (listed q) (λ s x. IsRow c.start.layout s → x ≡ listed h → (link' s).mark ≡ Del → (k : ℕ) × (k < c.start.layout.workers) × (IsNamed (c.debts k).cut s (c.words.event s) ⊎ IsNamed (c.debts k).second_cut s (c.words.event s)))
+      named = λ s h. put_all c.holding r (listed q) (λ s x. IsRow c.start.layout s → x ≡ listed h → (link' s).mark ≡ Del → (k : ℕ) × (k < c.start.layout.workers) × (IsNamed (c.named k).first s (c.words.event s) ⊎ IsNamed (c.named k).second s (c.words.event s)))
           (λ _ _ is. absurd (val_del (sym f.mark_is ∙ (ap (λ (y : Link). y.mark) (sym f.link_is) ∙ (sym (same_mark r) ∙ is)))))
           (λ s _ b at is. inv.naming.named s h b at (sym (same_mark s) ∙ is)) s;
       place = inv.naming.place;
@@ -505,7 +507,7 @@ module _ (c : Core) (j : ℕ) (cell : Cell) (l : Link) (r : ℕ) (e : Event) whe
           other : (s : ℕ) → IsLive c.start.layout c.words.link c.holding s → c.words.event s ≡ e → ⊥
           other s live is = none (subst (Contains (puts c.history)) is (inv.carriers.pending s live).put)
 
-    walkers_after : Walkers c.start.layout c.words.control (c.history ++ put_entries j e) c.begun link' c.words.twin c.words.event holding' c.position c.walk
+    walkers_after : Walkers c.start.layout c.words.control (c.history ++ put_entries j e) c.begun link' c.words.twin c.words.event holding' c.rows c.walk
     walkers_after = let old = inv.walkers in record {
       opened = old.opened;
       at_stand = old.at_stand;

@@ -11,6 +11,7 @@ use Rattle.crq_rule.specs.declared.view.Guard.TheVariants.{Off, On}
 use Rattle.crq_rule.specs.declared.view.Walk.{Walk}
 use Rattle.crq_rule.specs.Core.{in_hand, listed}
 use Rattle.crq_rule.specs.Ranks.{first_head_of, IsOpen}
+use Rattle.crq_rule.specs.Parts.{ground_of}
 use Rattle.crq_rule.specs.ListParts.{Heads, Sorted, Marks, Standing, Lanes, Writing, Naming, IsOpenHead, IsShutHead}
 use Rattle.crq_rule.specs.HistoryParts.{Carriers, Told, Walkers, IsLive}
 use Rattle.crq_rule.specs.Opening.{opening_core, opening_head, open_head, shut_head}
@@ -52,21 +53,21 @@ module _ (s : Start) (first : IsFirst s.first) where
   pub opening_marks : Marks s.layout (opening_core s).words.link (opening_core s).words.twin (opening_core s).holding
   opening_marks = record { mark = λ _ _. tt; twin_is = λ _ _. tt }
 
-  pub opening_standing : Standing s.layout.workers (opening_core s).words.link (opening_core s).words.event (opening_core s).position
+  pub opening_standing : Standing s.layout.workers (opening_core s).words.link (opening_core s).words.event (opening_core s).rows
   opening_standing = record { holds = λ _ _ _ i. absurd i; last = λ _ _ _ _ i _. absurd i }
 
-  pub opening_lanes : Lanes s.layout (opening_core s).words.control (opening_core s).words.link (opening_core s).words.twin (opening_core s).words.event (opening_core s).guard (opening_core s).position (opening_core s).debts
+  pub opening_lanes : Lanes s.layout (opening_core s).words.control (ground_of (opening_core s)) (opening_core s).words.event
   opening_lanes = record {
-    is_row = λ k g r v. absurd (off_on g v.on);
-    rises = λ k g r v _. absurd (off_on g v.on);
-    stays = λ k g r v _. absurd (off_on g v.on);
-    generation = λ k g r v _. absurd (off_on g v.on);
+    is_row = λ r v. absurd (off_on v.1 v.2.on);
+    rises = λ r v _. absurd (off_on v.1 v.2.on);
+    stays = λ r v _. absurd (off_on v.1 v.2.on);
+    generation = λ r v _. absurd (off_on v.1 v.2.on);
   }
 
   pub opening_writing : Writing s.layout.workers (opening_core s).words.link (opening_core s).words.twin (opening_core s).words.event (opening_core s).hand (opening_core s).written
   opening_writing = record { placed = λ _ _ _ i. absurd i; in_hand_is = λ _ _ _ i. absurd i; stands = λ _ _ _ i. absurd i }
 
-  pub opening_naming : Naming s.layout (opening_core s).words.control (opening_core s).words.link (opening_core s).words.event (opening_core s).debts (opening_core s).holding
+  pub opening_naming : Naming s.layout (opening_core s).words.control (opening_core s).words.link (opening_core s).words.event (opening_core s).named (opening_core s).holding
   opening_naming = record { named = λ r q _ at _. absurd (hand_listed _ q at); place = λ k d _ at. absurd (no_debt d at) }
 
   none_live : (r : ℕ) → IsLive s.layout (opening_core s).words.link (opening_core s).holding r → ⊥
@@ -89,5 +90,5 @@ module _ (s : Start) (first : IsFirst s.first) where
     began = λ j _ e. absurd (no_begin e.0 e.1 e.2);
   }
 
-  pub opening_walkers : Walkers s.layout (opening_core s).words.control (opening_core s).history (opening_core s).begun (opening_core s).words.link (opening_core s).words.twin (opening_core s).words.event (opening_core s).holding (opening_core s).position (opening_core s).walk
+  pub opening_walkers : Walkers s.layout (opening_core s).words.control (opening_core s).history (opening_core s).begun (opening_core s).words.link (opening_core s).words.twin (opening_core s).words.event (opening_core s).holding (opening_core s).rows (opening_core s).walk
   opening_walkers = record { opened = λ k w _ at. absurd (no_walk w at); at_stand = λ k w _ at. absurd (no_walk w at); left = λ k w _ _ _ _ at _ _ _ _ _. absurd (no_walk w at) }

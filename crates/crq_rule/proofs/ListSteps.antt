@@ -16,8 +16,8 @@ use Rattle.crq_rule.specs.declared.layout.Start.{Start}
 use Rattle.crq_rule.specs.declared.view.Stand.{Stand}
 use Rattle.crq_rule.specs.declared.view.Caller.{Caller}
 use Rattle.crq_rule.specs.Places.{index, control, link, IsPlace, IsRow, word_of}
-use Rattle.crq_rule.specs.Core.{Core, Holding, caller_of, in_hand, listed, cut_by, retired}
-use Rattle.crq_rule.specs.Parts.{IsOn, Leads, Covers, standing, rows_of_old, rows_of_copy}
+use Rattle.crq_rule.specs.Core.{Core, Holding, caller_of, owed_by, in_hand, listed, cut_by, retired}
+use Rattle.crq_rule.specs.Parts.{ground_of, IsOn, Leads, IsGuarded}
 use Rattle.crq_rule.specs.ListParts.{row_word, MarkFits}
 use Rattle.crq_rule.specs.Invariant.{Inv}
 use Rattle.crq_rule.specs.Ranks.{rank, head_of, IsOpen, Cell, at_head, at_row, cell_place, link_at, heads_set, links_set}
@@ -27,8 +27,9 @@ use Rattle.crq_rule.specs.Rule.{IsWords}
 use Rattle.crq_rule.specs.Moves.{MovesBy, By, Walked, WalksOn, IsWalkable, FoundControl, wins, quiet}
 use Rattle.crq_base.proofs.WordLaws.{link_one}
 use Rattle.crq_base.specs.Lists.{In}
-use Rattle.crq_rule.proofs.Puts.{put_here, stand_in}
+use Rattle.crq_rule.proofs.Puts.{put_here}
 use Rattle.crq_rule.proofs.Placing.{shows_set}
+use Rattle.crq_rule.proofs.CoverLaws.{guarded_by, names_covered}
 use Rattle.crq_rule.proofs.GuardSteps.{same_words}
 use Rattle.crq_rule.proofs.Lawfuls.{stand_covered}
 use Rattle.crq_rule.proofs.Keeps.{words_stay, rest_stays}
@@ -92,22 +93,22 @@ module _ (key : Start) (p : Caller) where
   )
 
   -- a cell that may be walked has a place
-  cell_is : (cell : Cell) (c : Core) (ws : List ℕ) → j < c.start.layout.workers → Inv c → IsWords key c ws → MayWalk (c.position j).rows cell → IsPlace key.layout (cell_place cell)
+  cell_is : (cell : Cell) (c : Core) (ws : List ℕ) → j < c.start.layout.workers → Inv c → IsWords key c ws → MayWalk (c.rows j) cell → IsPlace key.layout (cell_place cell)
   cell_is (at_head q) c ws b inv words may = may
   cell_is (at_row r) c ws b inv words may = subst (λ (z : Start). IsRow z.layout r) words.start (subst (λ r. IsRow c.start.layout r) may.1.2 (stood c b inv may.1.0 may.1.1))
     where
-      stood : (c : Core) → j < c.start.layout.workers → Inv c → (s : Stand) → In s (c.position j).rows → IsRow c.start.layout s.row
-      stood c b inv s i = let v = stand_covered c j s b i inv in inv.lanes.is_row j v.0 s.row v.1
+      stood : (c : Core) → j < c.start.layout.workers → Inv c → (s : Stand) → In s (c.rows j) → IsRow c.start.layout s.row
+      stood c b inv s i = inv.lanes.is_row s.row (guarded_by j (stand_covered c j s b i inv))
 
-  cell_link : (cell : Cell) (c : Core) → j < c.start.layout.workers → Inv c → MayWalk (c.position j).rows cell → IsLink (link_at c.words.head c.words.link cell)
+  cell_link : (cell : Cell) (c : Core) → j < c.start.layout.workers → Inv c → MayWalk (c.rows j) cell → IsLink (link_at c.words.head c.words.link cell)
   cell_link (at_head q) c b inv may = inv.spelled.heads q may
-  cell_link (at_row r) c b inv may = subst (λ r. IsLink (c.words.link r)) may.1.2 (let v = stand_covered c j may.1.0 b may.1.1 inv in inv.spelled.links may.1.0.row (inv.lanes.is_row j v.0 may.1.0.row v.1))
+  cell_link (at_row r) c b inv may = subst (λ r. IsLink (c.words.link r)) may.1.2 (inv.spelled.links may.1.0.row (inv.lanes.is_row may.1.0.row (guarded_by j (stand_covered c j may.1.0 b may.1.1 inv))))
 
   same_event : (f e : Event) → f ≡ e → e ≡ f
   same_event f e q = sym q
 
   -- the row that a walked cell names
-  named : (cell : Cell) (c : Core) → j < c.start.layout.workers → Inv c → MayWalk (c.position j).rows cell → let l = link_at c.words.head c.words.link cell in 0 < l.row
+  named : (cell : Cell) (c : Core) → j < c.start.layout.workers → Inv c → MayWalk (c.rows j) cell → let l = link_at c.words.head c.words.link cell in 0 < l.row
       → IsRow c.start.layout l.row × WalksOn cell l (c.words.event l.row) (caller_of c j)
   named (at_head q) c b inv may some = let i = first_in (c.chain q) (inv.chains.leads q may) in
       ((inv.holders.in_chain q (c.words.head q).row may i).0, λ x is _. subst (λ z. head_of z (c.words.event (c.words.head q).row) ≡ q) (sym (inv.reading.read_control j x b is)) (inv.sorted.belongs q (c.words.head q).row may i))
@@ -116,19 +117,17 @@ module _ (key : Start) (p : Caller) where
       first_in [] l = absurd (omega arith)
       first_in (r ∷ rs) l = inl l.0
   named (at_row r) c b inv may some = let s = may.1.0 in let v = stand_covered c j s b may.1.1 inv in let row : s.row ≡ r = may.1.2 in
-      let from : Covers c.start.layout.workers c.words.link c.words.twin c.guard c.position c.debts j v.0 r = subst (Covers c.start.layout.workers c.words.link c.words.twin c.guard c.position c.debts j v.0) row v.1 in
-      let on : Covers c.start.layout.workers c.words.link c.words.twin c.guard c.position c.debts j v.0 (c.words.link r).row
-      = record { inside = b; on = v.1.on; at = r; stands = subst (λ z. In z (standing (c.position j) (c.debts j))) row (stand_in (c.position j).rows (rows_of_old (c.position j).old ++ rows_of_copy (c.debts j).copy) s may.1.1); reaches = record { through = (c.words.link r).row ∷ []; path = ((some, inl refl), refl) } } in (
-        inv.lanes.is_row j v.0 (c.words.link r).row on,
+      let from : IsGuarded (ground_of c) r = subst (IsGuarded (ground_of c)) row (guarded_by j v) in (
+        inv.lanes.is_row (c.words.link r).row (from.0, from.1, names_covered (ground_of c) from.0 from.1 r (c.words.link r).row from.2 (some, inl refl)),
         λ f is _. let holds : c.words.event r ≡ f = subst (λ (z : ℕ × Event). c.words.event z.0 ≡ z.1) (λ i. (is.2 i, is.3 i)) (inv.standing.holds j is.0 b is.1) in (
-          subst (λ e. rank e r < rank (c.words.event (c.words.link r).row) (c.words.link r).row) holds (inv.lanes.rises j v.0 r from some),
-          λ x ctl. let z = inv.reading.read_control j x b ctl in subst (λ y. head_of y (c.words.event (c.words.link r).row) ≡ head_of y f) (sym z) (inv.lanes.stays j v.0 r from some ∙ ap (head_of c.words.control) holds),
+          subst (λ e. rank e r < rank (c.words.event (c.words.link r).row) (c.words.link r).row) holds (inv.lanes.rises r from some),
+          λ x ctl. let z = inv.reading.read_control j x b ctl in subst (λ y. head_of y (c.words.event (c.words.link r).row) ≡ head_of y f) (sym z) (inv.lanes.stays r from some ∙ ap (head_of c.words.control) holds),
         ),
       )
 
-  walkable : (cell : Cell) (c : Core) → j < c.start.layout.workers → Inv c → MayWalk (c.position j).rows cell → IsWalkable cell (link_at c.words.head c.words.link cell) (caller_of c j)
+  walkable : (cell : Cell) (c : Core) → j < c.start.layout.workers → Inv c → MayWalk (c.rows j) cell → IsWalkable cell (link_at c.words.head c.words.link cell) (caller_of c j)
   walkable (at_head q) c b inv may = λ x is opened. let z = inv.reading.read_control j x b is in let h = inv.heads.opened q may (subst (λ y. IsOpen y q) z opened) in (h.0, h.1 ∙ ap (λ (y : Control). y.generation) (sym z))
-  walkable (at_row r) c b inv may = let s = may.1.0 in let v = stand_covered c j s b may.1.1 inv in let row = inv.lanes.is_row j v.0 s.row v.1 in
+  walkable (at_row r) c b inv may = let s = may.1.0 in let v = stand_covered c j s b may.1.1 inv in let row = inv.lanes.is_row s.row (guarded_by j v) in
       subst (λ r. ((c.words.link r).mark ≡ Val) ⊎ ((c.words.link r).mark ≡ Del)) may.1.2 (by_holder (c.holding s.row) (λ i is. inv.cover.free j v.0 s.row i v.1 is) (inv.marks.mark s.row row))
     where
       by_holder : {m : Mark} (h : Holding) → ((i : ℕ) → h ≡ in_hand i → ⊥) → MarkFits h m → (m ≡ Val) ⊎ (m ≡ Del)
@@ -139,7 +138,7 @@ module _ (key : Start) (p : Caller) where
 
   pub walk_moves : (cell : Cell) (seeks : Bool) → IsOn p.guard → MayWalk p.position.rows cell → MaySeek p.own p.walk cell seeks → MovesBy WalkKind key p (index key.layout (cell_place cell)) (λ w. w) (Walked cell seeks)
   walk_moves cell seeks on may seek c ws inv words b is = let l = link_at c.words.head c.words.link cell in let e = c.words.event l.row in
-      let may' : MayWalk (c.position j).rows cell = subst (λ (q : Caller). MayWalk q.position.rows cell) is may in
+      let may' : MayWalk (c.rows j) cell = subst (λ (q : Caller). MayWalk q.position.rows cell) is may in
       let place = cell_is cell c ws b inv words may' in let at = words.shows.each (cell_place cell) place in (
         walk cell seeks,
         refl,
@@ -151,11 +150,11 @@ module _ (key : Start) (p : Caller) where
           is_link = cell_link cell c b inv may';
           word = refl;
           after = λ i. record (caller_of c j) {
-            position = sym (put_here c.position j (record { rows = stands_after cell seeks l e (c.position j).rows; old = (c.position j).old })) i;
+            position = record { rows = sym (put_here c.rows j (stands_after cell seeks l e (c.rows j))) i; old = c.old j };
             walk = sym (put_here c.walk j (walk_after cell seeks l (c.walk j))) i;
-            sweep = sym (put_here c.sweep j (sweep_on (taken_on seeks (c.found j).control cell (c.position j).rows (c.sweep j)) l e (c.sweep j))) i;
-            clean = sym (put_here c.clean j (clean_on (taken_on seeks (c.found j).control cell (c.position j).rows (c.sweep j)) l (c.clean j))) i;
-            debts = sym (put_here c.debts j (record (c.debts j) { cut = relieved (c.found j).control cell (c.position j).rows l e (c.debts j).cut })) i;
+            sweep = sym (put_here c.sweep j (sweep_on (taken_on seeks (c.found j).control cell (c.rows j) (c.sweep j)) l e (c.sweep j))) i;
+            clean = sym (put_here c.clean j (clean_on (taken_on seeks (c.found j).control cell (c.rows j) (c.sweep j)) l (c.clean j))) i;
+            debts = owed_by (c.settling j) (c.copying j) (sym (put_here c.named j (record (c.named j) { first = relieved (c.found j).control cell (c.rows j) l e (c.named j).first })) i);
           };
           row = λ some. let n = named cell c b inv may' some in (n.0, inv.spelled.events l.row n.0);
           next = next_of cell c b inv may';
@@ -163,7 +162,7 @@ module _ (key : Start) (p : Caller) where
         },
       )
     where
-      next_of : (cell : Cell) (c : Core) → j < c.start.layout.workers → (inv : Inv c) → (may : MayWalk (c.position j).rows cell) → WalksOn cell (link_at c.words.head c.words.link cell) (c.words.event (link_at c.words.head c.words.link cell).row) (caller_of c j)
+      next_of : (cell : Cell) (c : Core) → j < c.start.layout.workers → (inv : Inv c) → (may : MayWalk (c.rows j) cell) → WalksOn cell (link_at c.words.head c.words.link cell) (c.words.event (link_at c.words.head c.words.link cell).row) (caller_of c j)
       next_of (at_head q) c b inv may = λ x is some. (named (at_head q) c b inv may some).1 x is some
       next_of (at_row r) c b inv may = λ f is some. (named (at_row r) c b inv may some).1 f is some
 
@@ -190,7 +189,7 @@ module _ (key : Start) (p : Caller) where
   )
 
   -- the cell of a link: its place, and its word
-  linked_cell : (cell : Cell) (x : Control) (c : Core) (ws : List ℕ) (r : ℕ) (e : Event) → j < c.start.layout.workers → Inv c → IsWords key c ws → ComesAfter x (c.position j).rows cell r e → MayWalk (c.position j).rows cell
+  linked_cell : (cell : Cell) (x : Control) (c : Core) (ws : List ℕ) (r : ℕ) (e : Event) → j < c.start.layout.workers → Inv c → IsWords key c ws → ComesAfter x (c.rows j) cell r e → MayWalk (c.rows j) cell
   linked_cell (at_head q) x c ws r e b inv words after = after.0
   linked_cell (at_row s) x c ws r e b inv words after = (after.0, after.1)
 
@@ -229,8 +228,8 @@ module _ (key : Start) (p : Caller) where
       (λ i. record (caller_of c j) {
         cut = sym (put_here c.cut j (Some (record { row = y; tags = [] }))) i;
         walk = sym (put_here c.walk j None) i;
-        position = sym (put_here c.position j (record (c.position j) { rows = without_stand y (c.position j).rows })) i;
-        debts = sym (put_here c.debts j (record (c.debts j) { cut = unnamed y (c.debts j).cut })) i;
+        position = record { rows = sym (put_here c.rows j (without_stand y (c.rows j))) i; old = c.old j };
+        debts = owed_by (c.settling j) (c.copying j) (sym (put_here c.named j (record (c.named j) { first = unnamed y (c.named j).first })) i);
       }))
       (λ apart. lost CutKind (cut_fails cell) w (link_word l) (link_word new) (cuts y) refl (λ _. tt) (λ _. refl) c ws words is apart)
 
@@ -239,7 +238,7 @@ module _ (key : Start) (p : Caller) where
   mark_moves x r e l bits val may c ws inv words b is = let new : Link = record l { mark = Del } in let w = index key.layout (link r) in
       let same : x ≡ c.words.control = inv.reading.read_control j x b (ap (λ (q : Caller). q.found.control) (sym is) ∙ may.control) in
       let may' : MayMark c.words.control r e (caller_of c j) = subst (λ (z : Control × Caller). MayMark z.0 r e z.1) (λ i. (same i, is i)) may in
-      let on : MayWalk (c.position j).rows (at_row r) = (e, may'.on) in
+      let on : MayWalk (c.rows j) (at_row r) = (e, may'.on) in
       let place = cell_is (at_row r) c ws b inv words on in let at = words.shows.each (link r) place in
       dite (ℕ_discrete (get_or ws w 0) (link_word l))
       (λ hit. let found : c.words.link r ≡ l = link_one _ _ (cell_link (at_row r) c b inv on) bits (sym at ∙ hit) in let k = mark r e in
@@ -248,7 +247,7 @@ module _ (key : Start) (p : Caller) where
       (λ i. record (caller_of c j) {
         own = sym (put_here c.own j (c.own j ++ TakeEntry j e ∷ [])) i;
         walk = sym (put_here c.walk j None) i;
-        debts = (ap (λ z. record (c.debts j) { cut = Some (cut_debt z r e) }) same ∙ sym (put_here c.debts j (record (c.debts j) { cut = Some (cut_debt c.words.control r e) }))) i;
+        debts = owed_by (c.settling j) (c.copying j) ((ap (λ z. record (c.named j) { first = Some (cut_debt z r e) }) same ∙ sym (put_here c.named j (record (c.named j) { first = Some (cut_debt c.words.control r e) }))) i);
       }))
       (λ apart. lost MarkKind (mark_fails r) w (link_word l) (link_word new) (marks x r e) refl (λ _. tt) (λ _. refl) c ws words is apart)
 

@@ -14,17 +14,15 @@ use Rattle.crq_base.proofs.HistoryLaws.{outs-append, puts-append}
 use Rattle.crq_base.proofs.Deeds.{alone}
 use Rattle.crq_base.specs.Lists.{In}
 use Rattle.crq_rule.specs.declared.debts.CutDebt.{CutDebt}
-use Rattle.crq_rule.specs.declared.debts.Debts.{Debts}
 use Rattle.crq_rule.specs.declared.layout.Layout.{Layout}
 use Rattle.crq_rule.specs.declared.view.Guard.{Guard}
 use Rattle.crq_rule.specs.declared.view.CutRow.{CutRow}
-use Rattle.crq_rule.specs.declared.view.Position.{Position}
 use Rattle.crq_rule.specs.declared.view.Stand.{Stand}
 use Rattle.crq_rule.specs.declared.view.Wrote.{Wrote}
 use Rattle.crq_rule.specs.Lists.{put}
 use Rattle.crq_rule.specs.Places.{IsRow}
-use Rattle.crq_rule.specs.Core.{Core, Holding, in_hand, listed, cut_by, retired, caller_of}
-use Rattle.crq_rule.specs.Parts.{IsEvent, Leads, Chains, IsPath, Reaches, Covers, Cover, rows_of, rows_of_old, rows_of_copy}
+use Rattle.crq_rule.specs.Core.{Core, DeadNames, Holding, in_hand, listed, cut_by, retired, caller_of}
+use Rattle.crq_rule.specs.Parts.{Ground, ground_of, IsEvent, IsGuarded, Leads, Chains, IsPath, Reaches, Covers, Cover, rows_of}
 use Rattle.crq_rule.specs.ListParts.{ranks, Sorted, Marks, MarkFits, Standing, IsFinal, Lanes, Writing, row_word, Naming, IsNamed}
 use Rattle.crq_rule.specs.HistoryParts.{IsLive, Carriers, StandsFrom}
 use Rattle.crq_rule.specs.Ranks.{head_of}
@@ -32,11 +30,12 @@ use Rattle.crq_rule.specs.Invariant.{Inv}
 use Rattle.crq_rule.specs.ListKinds.{MayMark, cut_debt, marked}
 use Rattle.crq_rule.proofs.Puts.{put_here, put_else, put_all}
 use Rattle.crq_rule.proofs.PartLaws.{apart}
+use Rattle.crq_rule.proofs.CoverLaws.{guarded_by, stand_row}
 use Rattle.crq_rule.proofs.HistoryLaws.{told_other, out_later}
 use Rattle.crq_rule.proofs.CallLaws.{walkers_entry}
 use Rattle.crq_rule.proofs.ScarceLaws.{scarce_grown, refusals_grown}
 use Rattle.crq_rule.proofs.SweepLaws.{swept_grown, del_val, present_listed}
-use Rattle.crq_rule.proofs.SearchLaws.{stand_covered, stand_row, left_beyond, beyond_key}
+use Rattle.crq_rule.proofs.SearchLaws.{stand_covered, left_beyond, beyond_key}
 
 take_begin : (j k : ℕ) (e : Event) → Take j e ≡ Begin k → ⊥
 take_begin j k e q = cc
@@ -67,14 +66,13 @@ module _ (link link' : ℕ → Link) (same : (s : ℕ) → (link' s).row ≡ (li
   pub reaches_same : (twin : ℕ → ℕ) (a b : ℕ) → Reaches link' twin a b → Reaches link twin a b
   reaches_same twin a b h = record { through = h.through; path = path_same twin a b h.through h.path }
 
-  pub covers_same : (n : ℕ) (twin : ℕ → ℕ) (guard : ℕ → Guard) (position : ℕ → Position) (debts debts' : ℕ → Debts) → ((k : ℕ) → (debts' k).copy ≡ (debts k).copy) → (k g r : ℕ)
-      → Covers n link' twin guard position debts' k g r → Covers n link twin guard position debts k g r
-  covers_same n twin guard position debts debts' copies k g r v = record {
+  pub covers_same : (ground : Ground) → ground.link ≡ link → (k g r : ℕ) → Covers (record ground { link = link' }) k g r → Covers ground k g r
+  covers_same ground is k g r v = record {
     inside = v.inside;
     on = v.on;
     at = v.at;
-    stands = subst (λ z. In v.at (rows_of (position k).rows ++ (rows_of_old (position k).old ++ rows_of_copy z))) (copies k) v.stands;
-    reaches = reaches_same twin v.at r v.reaches;
+    stands = v.stands;
+    reaches = subst (λ z. Reaches z ground.twin v.at r) (sym is) (reaches_same ground.twin v.at r v.reaches);
   }
 
 -- Histories with a take
@@ -123,8 +121,8 @@ module _ (l : Layout) (control : Control) (link : ℕ → Link) (twin : ℕ → 
   marks_dead : Marks l link twin holding → Marks l (dead link r) twin holding
   marks_dead old = record { mark = put_all link r (record (link r) { mark = Del }) (λ s m. IsRow l s → MarkFits (holding s) m.mark) (λ _. dead_fits (holding r)) (λ s _. old.mark s); twin_is = old.twin_is }
 
-  standing_dead : (n : ℕ) (position : ℕ → Position) → (link r).mark ≡ Val → Standing n link event position → Standing n (dead link r) event position
-  standing_dead n position val old = record {
+  standing_dead : (n : ℕ) (rows : ℕ → List Stand) → (link r).mark ≡ Val → Standing n link event rows → Standing n (dead link r) event rows
+  standing_dead n rows val old = record {
     holds = old.holds;
     last = λ k s m b i is. let was = old.last k s m b i is in
         (put_else link r (record (link r) { mark = Del }) s.row (λ e. final_val (link r) m (ap link (sym e) ∙ was.0) val was.1) ∙ was.0, was.1);
@@ -137,46 +135,50 @@ module _ (l : Layout) (control : Control) (link : ℕ → Link) (twin : ℕ → 
     stands = λ k x b i. ap (λ m. row_word m (twin x.row) (event x.row) x.place) (put_else link r (record (link r) { mark = Del }) x.row (out k x.row b (old.in_hand_is k x b i))) ∙ old.stands k x b i;
   }
 
-  -- where the debts of copies stay
-  module _ (guard : ℕ → Guard) (position : ℕ → Position) (debts debts' : ℕ → Debts) (copies : (k : ℕ) → (debts' k).copy ≡ (debts k).copy) where
-    was : (n k g s : ℕ) → Covers n (dead link r) twin guard position debts' k g s → Covers n link twin guard position debts k g s
-    was n = covers_same link (dead link r) (dead_row link r) n twin guard position debts debts' copies
+  module _ (guard : ℕ → Guard) (footing : ℕ → List ℕ) where
+    abbrev ground : Ground
+    ground = record { workers = l.workers; link = link; twin = twin; guard = guard; footing = footing }
 
-    cover_dead : (n : ℕ) (cut : ℕ → Option CutRow) → Cover n link twin guard position debts cut holding → Cover n (dead link r) twin guard position debts' cut holding
-    cover_dead n cut old = record {
-      free = λ k g s j v. old.free k g s j (was n k g s v);
-      tags = λ k g s t v. old.tags k g s t (was n k g s v);
-      resting = λ k b off. subst (λ z. rows_of (position k).rows ++ (rows_of_old (position k).old ++ rows_of_copy z) ≡ []) (sym (copies k)) (old.resting k b off);
-    }
+    abbrev ground' : Ground
+    ground' = record ground { link = dead link r }
 
-    lanes_dead : Lanes l control link twin event guard position debts → Lanes l control (dead link r) twin event guard position debts'
+    was : (k g s : ℕ) → Covers ground' k g s → Covers ground k g s
+    was = covers_same link (dead link r) (dead_row link r) ground refl
+
+    guarded : (s : ℕ) → IsGuarded ground' s → IsGuarded ground s
+    guarded s v = (v.0, v.1, was v.0 v.1 s v.2)
+
+    cover_dead : (cut : ℕ → Option CutRow) → Cover ground cut holding → Cover ground' cut holding
+    cover_dead cut old = record { free = λ k g s j v. old.free k g s j (was k g s v); tags = λ k g s t v. old.tags k g s t (was k g s v); resting = old.resting }
+
+    lanes_dead : Lanes l control ground event → Lanes l control ground' event
     lanes_dead old = record {
-      is_row = λ k g s v. old.is_row k g s (was l.workers k g s v);
-      rises = λ k g s v. subst (λ z. 0 < z → ranks event s < ranks event z) (sym (dead_row link r s)) (old.rises k g s (was l.workers k g s v));
-      stays = λ k g s v. subst (λ z. 0 < z → head_of control (event z) ≡ head_of control (event s)) (sym (dead_row link r s)) (old.stays k g s (was l.workers k g s v));
-      generation = λ k g s v. subst (λ z. 0 < z → (dead link r z).generation ≡ (dead link r s).generation) (sym (dead_row link r s))
-          (λ some. dead_generation link r (link s).row ∙ (old.generation k g s (was l.workers k g s v) some ∙ sym (dead_generation link r s)));
+      is_row = λ s v. old.is_row s (guarded s v);
+      rises = λ s v. subst (λ z. 0 < z → ranks event s < ranks event z) (sym (dead_row link r s)) (old.rises s (guarded s v));
+      stays = λ s v. subst (λ z. 0 < z → head_of control (event z) ≡ head_of control (event s)) (sym (dead_row link r s)) (old.stays s (guarded s v));
+      generation = λ s v. subst (λ z. 0 < z → (dead link r z).generation ≡ (dead link r s).generation) (sym (dead_row link r s))
+          (λ some. dead_generation link r (link s).row ∙ (old.generation s (guarded s v) some ∙ sym (dead_generation link r s)));
     }
 
   -- the caller j, which named no dead row, names this one
-  naming_dead : (j : ℕ) (e : Event) (debts : ℕ → Debts) → j < l.workers → (debts j).cut ≡ None → event r ≡ e → IsRow l r → IsEvent e → Naming l control link event debts holding
-      → Naming l control (dead link r) event (put debts j (record (debts j) { cut = Some (cut_debt control r e) })) holding
-  naming_dead j e debts b free is row fits old = record {
+  naming_dead : (j : ℕ) (e : Event) (names : ℕ → DeadNames) → j < l.workers → (names j).first ≡ None → event r ≡ e → IsRow l r → IsEvent e → Naming l control link event names holding
+      → Naming l control (dead link r) event (put names j (record (names j) { first = Some (cut_debt control r e) })) holding
+  naming_dead j e names b free is row fits old = record {
     named = λ s q c at. put_all link r (record (link r) { mark = Del }) (λ s m. IsRow l s → holding s ≡ listed q → m.mark ≡ Del → Named s)
-        (λ _ _ _. (j, b, inl (subst (λ (d : Debts). IsNamed d.cut r (event r)) (sym (put_here debts j new)) (refl, sym is))))
+        (λ _ _ _. (j, b, inl (subst (λ (d : DeadNames). IsNamed d.first r (event r)) (sym (put_here names j new)) (refl, sym is))))
         (λ s _ c at del. let n = old.named s q c at del in (n.0, n.1, stays n.0 s n.2)) s c at;
-    place = λ k d. put_all debts j new (λ k x. k < l.workers → x.cut ≡ Some d → (d.head ≡ head_of control d.event) × IsRow l d.row × IsEvent d.event)
+    place = λ k d. put_all names j new (λ k x. k < l.workers → x.first ≡ Some d → (d.head ≡ head_of control d.event) × IsRow l d.row × IsEvent d.event)
         (λ _ q. subst (λ (z : CutDebt). (z.head ≡ head_of control z.event) × IsRow l z.row × IsEvent z.event) (some_debt (cut_debt control r e) d q) (refl, row, fits)) (λ k _. old.place k d) k;
   }
     where
-      new : Debts
-      new = record (debts j) { cut = Some (cut_debt control r e) }
+      new : DeadNames
+      new = record (names j) { first = Some (cut_debt control r e) }
 
       Named : ℕ → Type 0
-      Named s = (k : ℕ) × (k < l.workers) × (IsNamed (put debts j new k).cut s (event s) ⊎ IsNamed (put debts j new k).second_cut s (event s))
+      Named s = (k : ℕ) × (k < l.workers) × (IsNamed (put names j new k).first s (event s) ⊎ IsNamed (put names j new k).second s (event s))
 
-      stays : (k s : ℕ) → IsNamed (debts k).cut s (event s) ⊎ IsNamed (debts k).second_cut s (event s) → IsNamed (put debts j new k).cut s (event s) ⊎ IsNamed (put debts j new k).second_cut s (event s)
-      stays k s = put_all debts j new (λ k x. IsNamed (debts k).cut s (event s) ⊎ IsNamed (debts k).second_cut s (event s) → IsNamed x.cut s (event s) ⊎ IsNamed x.second_cut s (event s))
+      stays : (k s : ℕ) → IsNamed (names k).first s (event s) ⊎ IsNamed (names k).second s (event s) → IsNamed (put names j new k).first s (event s) ⊎ IsNamed (put names j new k).second s (event s)
+      stays k s = put_all names j new (λ k x. IsNamed (names k).first s (event s) ⊎ IsNamed (names k).second s (event s) → IsNamed x.first s (event s) ⊎ IsNamed x.second s (event s))
           (⊎_elim (λ n. absurd (subst (λ o. IsNamed o s (event s)) free n)) inr) (λ k _ n. n) k
 
   -- another row that is live stays so, and no row comes to be live
@@ -243,14 +245,14 @@ mark_keeps c j r e b may val inv = let l = c.start.layout in let x = c.words.con
   cutting = inv.cutting;
   stamps = inv.stamps;
   chains = chains_dead l x k t v h r _ _ inv.chains;
-  cover = cover_dead l x k t v h r _ _ c.debts _ copies _ _ inv.cover;
+  cover = cover_dead l x k t v h r _ _ _ inv.cover;
   heads = inv.heads;
   sorted = sorted_dead l x k t v h r _ _ inv.sorted;
   marks = marks_dead l x k t v h r inv.marks;
   standing = standing_dead l x k t v h r _ _ val inv.standing;
-  lanes = lanes_dead l x k t v h r _ _ c.debts _ copies inv.lanes;
+  lanes = lanes_dead l x k t v h r _ _ inv.lanes;
   writing = writing_dead l x k t v h r _ _ _ (λ k s i at. apart c.holding r s (listed held.0) (in_hand k) held.1 (inv.holders.held k s i at).1 (omega arith)) inv.writing;
-  naming = naming_dead l x k t v h r j e c.debts b may.free is row (subst IsEvent is (inv.spelled.events r row)) inv.naming;
+  naming = naming_dead l x k t v h r j e c.named b may.free is row (subst IsEvent is (inv.spelled.events r row)) inv.naming;
   carriers = carriers_dead l x k t v h r _ j e is live inv.carriers;
   told = told_other _ _ _ _ _ j (Take j e) b (take_legal c j r e b may pending is inv) refl refl (λ k. take_begin j k e) inv.told;
   walkers = walkers_entry _ _ _ _ c.begun _ _ _ _ _ _ _ j (Take j e) inv.told.begun_low (λ _ _. refl) (stands_dead l x k t v h r c.history j e is) inv.walkers;
@@ -259,17 +261,17 @@ mark_keeps c j r e b may val inv = let l = c.start.layout in let x = c.words.con
   swept = swept_grown _ _ _ _ _ _ _ (λ k. no_begin j e k) inv.swept;
 }
   where
-    at : (s : Stand) × In s (c.position j).rows × (s.row ≡ r) × (s.event ≡ e)
+    at : (s : Stand) × In s (c.rows j) × (s.row ≡ r) × (s.event ≡ e)
     at = may.on
 
     is : c.words.event r ≡ e
     is = ap c.words.event (sym at.2) ∙ (inv.standing.holds j at.0 b at.1 ∙ at.3)
 
-    covered : (g : ℕ) × Covers c.start.layout.workers c.words.link c.words.twin c.guard c.position c.debts j g r
-    covered = stand_covered c inv j r b (subst (λ z. In z (rows_of (c.position j).rows)) at.2 (stand_row (c.position j).rows at.0 at.1))
+    covered : (g : ℕ) × Covers (ground_of c) j g r
+    covered = stand_covered c inv j r b (subst (λ z. In z (rows_of (c.rows j))) at.2 (stand_row (c.rows j) at.0 at.1))
 
     row : IsRow c.start.layout r
-    row = inv.lanes.is_row j covered.0 r covered.1
+    row = inv.lanes.is_row r (guarded_by j covered)
 
     held : (q : ℕ) × (c.holding r ≡ listed q)
     held = present_listed (c.holding r) (c.words.link r).mark val (λ i. inv.cover.free j covered.0 r i covered.1) (inv.marks.mark r row)
@@ -279,6 +281,3 @@ mark_keeps c j r e b may val inv = let l = c.start.layout in let x = c.words.con
 
     pending : IsPending c.history e
     pending = subst (IsPending c.history) is (inv.carriers.pending r live)
-
-    copies : (k : ℕ) → (put c.debts j (record (c.debts j) { cut = Some (cut_debt c.words.control r e) }) k).copy ≡ (c.debts k).copy
-    copies = put_all c.debts j (record (c.debts j) { cut = Some (cut_debt c.words.control r e) }) (λ k d. d.copy ≡ (c.debts k).copy) refl (λ _ _. refl)

@@ -3,9 +3,7 @@ use Rattle.std.proofs.Common.{◌≡◌, ◌≢◌, ◌⊎◌, ⊎_elim, inl, in
 use mathlib.Core.Logic.{dite}
 use native.Mathlib.Decide.{ℕ_discrete}
 use Rattle.crq_base.specs.Lists.{In, IsOnce}
-use Rattle.crq_rule.specs.declared.view.Stand.{Stand}
 use Rattle.crq_rule.specs.Lists.{put, without}
-use Rattle.crq_rule.specs.Parts.{rows_of}
 
 module _ {A : Type 0} where
   pub put_here : (f : ℕ → A) (i : ℕ) (a : A) → put f i a i ≡ a
@@ -47,8 +45,3 @@ in_without r (y ∷ ys) x h = dite (ℕ_discrete y.0 r)
     (λ e. let t = in_without r ys x (subst (λ b. In x (cond b (without r ys) (y ∷ without r ys))) (eq-eqb y.0 r e) h) in (inr t.0, t.1))
     (λ ne. ⊎_elim (λ (e : x ≡ y). (inl e, λ z. ne (sym (ap (λ (p : ℕ × ℕ). p.0) e) ∙ z))) (λ i. let t = in_without r ys x i in (inr t.0, t.1))
     (subst (λ b. In x (cond b (without r ys) (y ∷ without r ys))) (ne_eqb y.0 r ne) h))
-
--- the row of a stand is among the rows on which a caller stands
-pub stand_in : (ss : List Stand) (more : List ℕ) (s : Stand) → In s ss → In s.row (rows_of ss ++ more)
-stand_in [] more s i = absurd i
-stand_in (t ∷ ss) more s i = ⊎_elim (λ (e : s ≡ t). inl (ap (λ (s : Stand). s.row) e)) (λ i. inr (stand_in ss more s i)) i

@@ -4,7 +4,7 @@ use Rattle.crq_base.specs.Lists.{In}
 use Rattle.crq_rule.specs.Places.{IsHomeRow}
 use Rattle.crq_rule.specs.Core.{Core, in_hand, cut_by, retired}
 use Rattle.crq_rule.specs.ListParts.{MarkFits, TwinFits}
-use Rattle.crq_rule.specs.Parts.{Covers}
+use Rattle.crq_rule.specs.Parts.{ground_of, Covers}
 use Rattle.crq_rule.specs.ScarceParts.{IsLate}
 use Rattle.crq_rule.specs.Invariant.{Inv}
 use Rattle.crq_rule.specs.Kinds.{retired_at, looked, claimed, base_looked, refused_after, MayRetire, IsRipe}
@@ -24,7 +24,7 @@ retire_keeps c j r t b may inv = let x = may.0 in let at = inv.holders.is_cut j 
     (holders_retire _ _ _ _ _ j r t x b may.1 may.2 inv.holders)
     (cutting_cut _ _ _ j None (λ y _ is. absurd (none_some y is)) (λ _ _ y _ is. absurd (none_some y is)) inv.cutting)
     (stamps_retire _ _ _ _ _ r t (λ e. let z : 2 ≡ 3 = sym (ap sort held) ∙ e in absurd (omega arith)) (inv.reading.tags j t x b may.1 may.3) inv.stamps)
-    (cover_retire _ _ _ _ _ _ _ _ j r t (inr (j, x, b, may.1, may.2, may.3)) inv.cover)
+    (cover_retire _ _ _ j r t (inr (j, x, b, may.1, may.2, may.3)) inv.cover)
     (marks_held _ _ _ r (retired t) _ (λ row. (subst (λ h. MarkFits h (c.words.link r).mark) held (inv.marks.mark r row), subst (λ h. TwinFits h (c.words.twin r)) held (inv.marks.twin_is r row))) inv.marks)
     inv.writing
     (naming_held _ _ _ r (retired t) _ _ _ (λ z. omega arith) inv.naming)
@@ -50,9 +50,9 @@ look_keeps c j r b home inv = frame_rows c _ _ _ _ _ _ _ inv inv.reading inv.hol
 
 -- A row that a caller may claim is covered by no guard
 pub claimable_uncovered : (c : Core) (j r e : ℕ) → j < c.start.layout.workers → In e (c.epochs j) → IsRipe (c.ripening j) r e → Inv c
-    → (k g : ℕ) → Covers c.start.layout.workers c.words.link c.words.twin c.guard c.position c.debts k g r → ⊥
+    → (k g : ℕ) → Covers (ground_of c) k g r → ⊥
 claimable_uncovered c j r e b read ripe inv k g v = let low = inv.reading.read j e b read in let late = ripe.2 in let held = (inv.stamps.ripe j r ripe.0 b ripe.1).1 in
-    uncovered _ _ _ _ _ _ _ _ c.words.epoch k g r ripe.0 (λ k g b is. (on_low c inv k g b is).1) (inl held) (omega arith) inv.cover v
+    uncovered _ _ _ c.words.epoch k g r ripe.0 (λ k g b is. (on_low c inv k g b is).1) (inl held) (omega arith) inv.cover v
 
 pub claim_keeps : (c : Core) (j r e : ℕ) → j < c.start.layout.workers → In e (c.epochs j) → IsRipe (c.ripening j) r e → Inv c → Inv (claimed c j r)
 claim_keeps c j r e b read ripe inv = let at = inv.stamps.ripe j r ripe.0 b ripe.1 in
@@ -60,7 +60,7 @@ claim_keeps c j r e b read ripe inv = let at = inv.stamps.ripe j r ripe.0 b ripe
     (holders_claim _ _ _ _ _ j r ripe.0 b at.0 at.1 inv.holders)
     inv.cutting
     (stamps_claim _ _ _ _ _ j r b at.0 inv.stamps)
-    (cover_claim _ _ _ _ _ _ _ _ j r (claimable_uncovered c j r e b read ripe inv) inv.cover)
+    (cover_claim _ _ _ j r (claimable_uncovered c j r e b read ripe inv) inv.cover)
     (marks_held _ _ _ r (in_hand j) _ (λ _. (tt, tt)) inv.marks)
     (writing_more _ _ _ _ _ _ j r inv.writing)
     (naming_held _ _ _ r (in_hand j) _ _ _ (λ z. omega arith) inv.naming)

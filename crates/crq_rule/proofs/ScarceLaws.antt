@@ -11,14 +11,13 @@ use Rattle.crq_base.specs.declared.words.Mark.TheVariants.{Val}
 use Rattle.crq_base.specs.Lists.{In}
 use Rattle.crq_base.specs.Refusals.{AreCounted}
 use Rattle.crq_rule.specs.declared.debts.CutDebt.{CutDebt}
-use Rattle.crq_rule.specs.declared.debts.Debts.{Debts}
 use Rattle.crq_rule.specs.declared.layout.Layout.{Layout}
 use Rattle.crq_rule.specs.declared.view.Guard.{Guard}
 use Rattle.crq_rule.specs.declared.view.Guard.TheVariants.{Off, Entering, On}
 use Rattle.crq_rule.specs.declared.view.Base.{Base}
 use Rattle.crq_rule.specs.Lists.{put}
 use Rattle.crq_rule.specs.Places.{IsRow, IsHomeRow}
-use Rattle.crq_rule.specs.Core.{Core, caller_of, Holding, in_hand, listed, cut_by, retired}
+use Rattle.crq_rule.specs.Core.{Core, DeadNames, caller_of, Holding, in_hand, listed, cut_by, retired}
 use Rattle.crq_rule.specs.Parts.{GuardIs, OnSince, IsOn, stamp_of}
 use Rattle.crq_rule.specs.ListParts.{MarkFits, IsNamed}
 use Rattle.crq_rule.specs.HistoryParts.{IsLive}
@@ -140,21 +139,21 @@ row_owed None = 0
 row_owed (Some d) = d.row
 
 -- the rows that callers below n owe to cut
-owed_rows : (ℕ → Debts) → ℕ → List ℕ
-owed_rows debts zero = []
-owed_rows debts (suc n) = row_owed (debts n).cut ∷ row_owed (debts n).second_cut ∷ owed_rows debts n
+owed_rows : (ℕ → DeadNames) → ℕ → List ℕ
+owed_rows names zero = []
+owed_rows names (suc n) = row_owed (names n).first ∷ row_owed (names n).second ∷ owed_rows names n
 
-owed_length : (debts : ℕ → Debts) (n : ℕ) → length (owed_rows debts n) ≡ 2 * n
+owed_length : (names : ℕ → DeadNames) (n : ℕ) → length (owed_rows names n) ≡ 2 * n
 unfolding owed_rows
-owed_length debts zero = refl
-owed_length debts (suc n) = let r = owed_length debts n in omega arith
+owed_length names zero = refl
+owed_length names (suc n) = let r = owed_length names n in omega arith
 
-in_owed : (debts : ℕ → Debts) (n k r : ℕ) → k < n → (row_owed (debts k).cut ≡ r) ⊎ (row_owed (debts k).second_cut ≡ r) → In r (owed_rows debts n)
+in_owed : (names : ℕ → DeadNames) (n k r : ℕ) → k < n → (row_owed (names k).first ≡ r) ⊎ (row_owed (names k).second ≡ r) → In r (owed_rows names n)
 unfolding owed_rows
-in_owed debts zero k r b is = absurd (omega arith)
-in_owed debts (suc n) k r b is = dite (ℕ_discrete k n)
-    (λ (e : k ≡ n). ⊎_elim (λ q. inl (sym q ∙ ap (λ k. row_owed (debts k).cut) e)) (λ q. inr (inl (sym q ∙ ap (λ k. row_owed (debts k).second_cut) e))) is)
-    (λ ne. inr (inr (in_owed debts n k r (omega arith) is)))
+in_owed names zero k r b is = absurd (omega arith)
+in_owed names (suc n) k r b is = dite (ℕ_discrete k n)
+    (λ (e : k ≡ n). ⊎_elim (λ q. inl (sym q ∙ ap (λ k. row_owed (names k).first) e)) (λ q. inr (inl (sym q ∙ ap (λ k. row_owed (names k).second) e))) is)
+    (λ ne. inr (inr (in_owed names n k r (omega arith) is)))
 
 named_row : (o : Option CutDebt) (r : ℕ) (e : Event) → IsNamed o r e → row_owed o ≡ r
 unfolding row_owed
@@ -183,8 +182,8 @@ carrier c inv e i = (inv.carriers.carried e (in_pending c.history e i)).0
 -- In any state no more home rows are late for the present epoch than there are slots
 pub slots_hold : (c : Core) (k : ℕ) → k < c.start.layout.workers → Inv c → IsScarce c.start.layout c.guard c.holding k c.words.epoch (slots c.start.layout (pending c.history))
 slots_hold c k b inv = record {
-  rows = carrying c.words.twin (pending c.history) (carrier c inv) ++ owed_rows c.debts c.start.layout.workers;
-  few = let one = length-append (carrying c.words.twin (pending c.history) (carrier c inv)) (owed_rows c.debts c.start.layout.workers) in let two = carrying_length c.words.twin (pending c.history) (carrier c inv) in let three = owed_length c.debts c.start.layout.workers in omega arith;
+  rows = carrying c.words.twin (pending c.history) (carrier c inv) ++ owed_rows c.named c.start.layout.workers;
+  few = let one = length-append (carrying c.words.twin (pending c.history) (carrier c inv)) (owed_rows c.named c.start.layout.workers) in let two = carrying_length c.words.twin (pending c.history) (carrier c inv) in let three = owed_length c.named c.start.layout.workers in omega arith;
   all = λ r home late. let row = home_is_row c.start.layout k r b home in has_slot r row (c.holding r) refl late;
 }
   where
@@ -201,12 +200,12 @@ slots_hold c k b inv = record {
         in_carrying c.words.twin (pending c.history) (carrier c inv) r (c.words.event r) (pending_in c.history (c.words.event r) (inv.carriers.pending r live))
         (λ x i same. let t = inv.carriers.carried x (in_pending c.history x i) in inv.carriers.one t.0 r t.1 live (t.2 ∙ sym same))
 
-    has_slot : (r : ℕ) → IsRow c.start.layout r → (h : Holding) → c.holding r ≡ h → IsLate c.guard c.words.epoch h → In r (carrying c.words.twin (pending c.history) (carrier c inv) ++ owed_rows c.debts c.start.layout.workers)
+    has_slot : (r : ℕ) → IsRow c.start.layout r → (h : Holding) → c.holding r ≡ h → IsLate c.guard c.words.epoch h → In r (carrying c.words.twin (pending c.history) (carrier c inv) ++ owed_rows c.named c.start.layout.workers)
     has_slot r row (in_hand i) is late = absurd late
     has_slot r row (listed q) is late = ⊎_elim
         (λ val. in_front _ _ r (has_carrier r q row is val))
-        (λ del. let n = inv.naming.named r q row is del in in_back (carrying c.words.twin (pending c.history) (carrier c inv)) _ r (in_owed c.debts c.start.layout.workers n.0 r n.1
-        (⊎_elim (λ x. inl (named_row (c.debts n.0).cut r _ x)) (λ x. inr (named_row (c.debts n.0).second_cut r _ x)) n.2)))
+        (λ del. let n = inv.naming.named r q row is del in in_back (carrying c.words.twin (pending c.history) (carrier c inv)) _ r (in_owed c.named c.start.layout.workers n.0 r n.1
+        (⊎_elim (λ x. inl (named_row (c.named n.0).first r _ x)) (λ x. inr (named_row (c.named n.0).second r _ x)) n.2)))
         (subst (λ h. MarkFits h (c.words.link r).mark) is (inv.marks.mark r row))
     has_slot r row (cut_by i) is late = let o = inv.holders.of_cut i r row is in absurd (not_later (c.guard i) (inv.cutting.on i o.1.0 o.0 o.1.1) (inv.guards.each i o.0) late)
       where

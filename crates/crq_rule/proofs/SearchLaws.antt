@@ -1,5 +1,5 @@
 -- What a take that walks a list leaves behind: no event that comes before the row at which it is.
-use Rattle.std.proofs.Common.{◌≡◌, ⊎_elim, inl, inr, ℕ, ◌+◌, ◌*◌, ◌/◌, ◌%◌, ◌^◌, ◌<◌, ◌≤◌, true, List, [], ◌∷◌, ◌++◌, length, Some, sym, refl, ap, subst, arith, le_refl}
+use Rattle.std.proofs.Common.{◌≡◌, ⊎_elim, ℕ, ◌+◌, ◌*◌, ◌/◌, ◌%◌, ◌^◌, ◌<◌, ◌≤◌, true, List, [], ◌∷◌, ◌++◌, length, Some, sym, refl, subst, arith, le_refl}
 use Rattle.std.specs.List.{Contains}
 use Rattle.std.specs.Ordering.{nat_cmp, ordering_then, is_lt, MatchOrdering}
 use Rattle.std.specs.declared.cmp.Ordering.{Ordering}
@@ -7,23 +7,18 @@ use Rattle.std.specs.declared.cmp.Ordering.TheVariants.{Less, Equal, Greater}
 use Rattle.std.proofs.lemmas.Cmp.{ranked}
 use Rattle.crq_base.specs.declared.event.Event.{Event}
 use Rattle.crq_base.specs.declared.entry.Entry.{Entry}
-use Rattle.crq_base.specs.declared.words.Link.{Link}
 use Rattle.crq_base.specs.declared.words.Control.{Control}
 use Rattle.crq_base.specs.Histories.{settleds, outs, IsEarlier, IsLegal}
 use Rattle.crq_base.proofs.HistoryLaws.{legal_front}
 use Rattle.crq_base.specs.Lists.{In}
-use Rattle.crq_rule.specs.declared.debts.Debts.{Debts}
-use Rattle.crq_rule.specs.declared.view.Guard.{Guard}
-use Rattle.crq_rule.specs.declared.view.Guard.TheVariants.{Off, Entering, On}
-use Rattle.crq_rule.specs.declared.view.Position.{Position}
-use Rattle.crq_rule.specs.declared.view.Stand.{Stand}
 use Rattle.crq_rule.specs.declared.view.Walk.{Walk}
 use Rattle.crq_rule.specs.Places.{IsRow}
 use Rattle.crq_rule.specs.Core.{Core, Holding, in_hand, listed, cut_by, retired}
-use Rattle.crq_rule.specs.Parts.{IsEvent, IsOn, Names, IsPath, Covers, standing, rows_of, rows_of_old, rows_of_copy}
+use Rattle.crq_rule.specs.Parts.{ground_of, IsEvent, IsPath, Covers, rows_of}
 use Rattle.crq_rule.specs.ListParts.{ranks, TwinFits}
 use Rattle.crq_rule.specs.Ranks.{rank, head_of, IsOpen}
 use Rattle.crq_rule.specs.Invariant.{Inv}
+use Rattle.crq_rule.proofs.CoverLaws.{row_footing, names_covered, footing_covered}
 use Rattle.crq_rule.proofs.HistoryLaws.{settled_put}
 
 -- Ranks
@@ -57,41 +52,9 @@ one_head x e q none opened = let low = opened.0 in let high : q < x.generation %
 
 -- Covered rows
 
--- a path, with one step more
-path_more : (link : ℕ → Link) (twin : ℕ → ℕ) (a b d : ℕ) (xs : List ℕ) → IsPath link twin a xs b → Names link twin b d → IsPath link twin a (xs ++ d ∷ []) d
-path_more link twin a b d [] p n = (subst (λ z. Names link twin z d) (sym p) n, refl)
-path_more link twin a b d (x ∷ xs) p n = (p.0, path_more link twin x b d xs p.1 n)
-
--- what a covered row names is covered
-pub covers_next : (n : ℕ) (link : ℕ → Link) (twin : ℕ → ℕ) (guard : ℕ → Guard) (position : ℕ → Position) (debts : ℕ → Debts) (k g a b : ℕ) → Names link twin a b
-    → Covers n link twin guard position debts k g a → Covers n link twin guard position debts k g b
-covers_next n link twin guard position debts k g a b names v = record {
-  inside = v.inside;
-  on = v.on;
-  at = v.at;
-  stands = v.stands;
-  reaches = record { through = v.reaches.through ++ b ∷ []; path = path_more link twin v.at a b v.reaches.through v.reaches.path names };
-}
-
--- the guard of a caller that stands on a row is on
-guard_on : (g : Guard) → ((IsOn g → ⊥) → ⊥) → (x : ℕ) × (g ≡ On x)
-guard_on Off h = absurd (h (λ n. n))
-guard_on (Entering x) h = absurd (h (λ n. n))
-guard_on (On x) h = (x, refl)
-
-pub in_rows : (r : ℕ) (p : Position) (d : Debts) → In r (rows_of p.rows) → In r (standing p d)
-in_rows r p d i = go (rows_of p.rows) i
-  where
-    go : (xs : List ℕ) → In r xs → In r (xs ++ (rows_of_old p.old ++ rows_of_copy d.copy))
-    go [] i = absurd i
-    go (x ∷ xs) i = ⊎_elim inl (λ t. inr (go xs t)) i
-
 -- a row on which a caller stands is covered by its guard
-pub stand_covered : (c : Core) → Inv c → (j r : ℕ) → j < c.start.layout.workers → In r (rows_of (c.position j).rows)
-    → (g : ℕ) × Covers c.start.layout.workers c.words.link c.words.twin c.guard c.position c.debts j g r
-stand_covered c inv j r b i = let at = in_rows r (c.position j) (c.debts j) i in
-    let on = guard_on (c.guard j) (λ off. subst (In r) (inv.cover.resting j b off) at) in
-    (on.0, record { inside = b; on = on.1; at = r; stands = at; reaches = record { through = []; path = refl } })
+pub stand_covered : (c : Core) → Inv c → (j r : ℕ) → j < c.start.layout.workers → In r (rows_of (c.rows j)) → (g : ℕ) × Covers (ground_of c) j g r
+stand_covered c inv j r b i = footing_covered (ground_of c) c.cut c.holding inv.cover j r b (row_footing c.rows c.old c.copying j r i)
 
 -- a row that nobody has in hand has no twin
 no_twin : (h : Holding) (t : ℕ) → ((j : ℕ) → h ≡ in_hand j → ⊥) → TwinFits h t → t ≡ 0
@@ -101,13 +64,13 @@ no_twin (cut_by j) t out fits = fits
 no_twin (retired s) t out fits = fits
 
 -- ranks rise on the way from a covered row
-pub path_rises : (c : Core) → Inv c → (k g a b : ℕ) (xs : List ℕ) → Covers c.start.layout.workers c.words.link c.words.twin c.guard c.position c.debts k g a
+pub path_rises : (c : Core) → Inv c → (k g a b : ℕ) (xs : List ℕ) → Covers (ground_of c) k g a
     → IsPath c.words.link c.words.twin a xs b → ranks c.words.event a ≤ ranks c.words.event b
 path_rises c inv k g a b [] v p = subst (λ z. ranks c.words.event a ≤ ranks c.words.event z) p (le_refl _)
-path_rises c inv k g a b (x ∷ xs) v p = let later = path_rises c inv k g x b xs (covers_next _ _ _ _ _ _ k g a x p.0 v) p.1 in ⊎_elim
-    (λ (is : (c.words.link a).row ≡ x). let first = subst (λ z. 0 < z → ranks c.words.event a < ranks c.words.event z) is (inv.lanes.rises k g a v) p.0.0 in omega arith)
+path_rises c inv k g a b (x ∷ xs) v p = let later = path_rises c inv k g x b xs (names_covered (ground_of c) k g a x v p.0) p.1 in ⊎_elim
+    (λ (is : (c.words.link a).row ≡ x). let first = subst (λ z. 0 < z → ranks c.words.event a < ranks c.words.event z) is (inv.lanes.rises a (k, g, v)) p.0.0 in omega arith)
     (λ (is : c.words.twin a ≡ x). let some = p.0.0 in
-    let none = no_twin (c.holding a) (c.words.twin a) (λ j. inv.cover.free k g a j v) (inv.marks.twin_is a (inv.lanes.is_row k g a v)) in absurd (omega arith))
+    let none = no_twin (c.holding a) (c.words.twin a) (λ j. inv.cover.free k g a j v) (inv.marks.twin_is a (inv.lanes.is_row a (k, g, v))) in absurd (omega arith))
     p.0.1
 
 -- Walks
@@ -149,8 +112,3 @@ beyond_time c inv at e f is beyond = let fits = beyond_fits c inv at f beyond in
 pub beyond_key : (c : Core) → Inv c → (at : ℕ) (e f : Event) → c.words.event at ≡ e → IsBeyond c at f → IsEarlier f e → ⊥
 beyond_key c inv at e f is beyond less = let fits = beyond_fits c inv at f beyond in let high = beyond_rank c at e f is beyond in
     let low = earlier_rank f e beyond.row at fits.0 fits.1 less in omega arith
-
--- the row of a stand
-pub stand_row : (ss : List Stand) (s : Stand) → In s ss → In s.row (rows_of ss)
-stand_row [] s i = absurd i
-stand_row (x ∷ ss) s i = ⊎_elim (λ e. inl (ap (λ (z : Stand). z.row) e)) (λ t. inr (stand_row ss s t)) i

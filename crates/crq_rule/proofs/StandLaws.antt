@@ -4,61 +4,62 @@ use Rattle.crq_base.specs.declared.event.Event.{Event}
 use Rattle.crq_base.specs.declared.entry.Entry.{Entry}
 use Rattle.crq_base.specs.declared.words.Link.{Link}
 use Rattle.crq_base.specs.declared.words.Control.{Control}
-use Rattle.crq_rule.specs.declared.debts.Debts.{Debts}
 use Rattle.crq_rule.specs.declared.layout.Layout.{Layout}
 use Rattle.crq_rule.specs.declared.view.Guard.{Guard}
-use Rattle.crq_rule.specs.declared.view.Position.{Position}
+use Rattle.crq_rule.specs.declared.view.Stand.{Stand}
 use Rattle.crq_rule.specs.declared.view.Wrote.{Wrote}
 use Rattle.crq_rule.specs.declared.view.Walk.{Walk}
 use Rattle.crq_rule.specs.Lists.{put}
 use Rattle.crq_rule.specs.Places.{IsRow, IsHead}
-use Rattle.crq_rule.specs.Core.{Holding, in_hand, listed}
-use Rattle.crq_rule.specs.Parts.{Covers, standing, rows_of}
+use Rattle.crq_rule.specs.Core.{Holding, DeadNames, listed}
+use Rattle.crq_rule.specs.Parts.{Covers, Ground, IsGuarded, rows_of}
 use Rattle.crq_rule.specs.ListParts.{IsFinal, Marks, MarkFits, TwinFits, Standing, Lanes, Writing, Naming}
 use Rattle.crq_rule.specs.HistoryParts.{Carriers, Walkers, IsLive, StandsFrom}
 use Rattle.crq_rule.specs.Ranks.{head_of, IsOpen}
-use Rattle.crq_rule.specs.Kinds.{nowhere}
 use Rattle.crq_base.specs.Histories.{puts, outs}
 use Rattle.crq_base.specs.Lists.{In}
 use Rattle.std.specs.Prelude.{Contains}
 use Rattle.crq_rule.proofs.Puts.{put_else, put_all, snoc_in}
 use Rattle.crq_rule.proofs.PartLaws.{sort}
-use Rattle.crq_rule.proofs.CoverLaws.{covered_guard, covered_nowhere}
+use Rattle.crq_rule.proofs.CoverLaws.{covered_guard, covered_less}
 
-module _ (l : Layout) (control : Control) (link : ℕ → Link) (twin : ℕ → ℕ) (event : ℕ → Event) (guard : ℕ → Guard) (position : ℕ → Position) (debts : ℕ → Debts) where
+module _ (l : Layout) (control : Control) (ground : Ground) (event : ℕ → Event) where
   -- lanes, where what is covered was covered before
-  pub lanes_before : (guard' : ℕ → Guard) (position' : ℕ → Position) (debts' : ℕ → Debts) → ((k g r : ℕ) → Covers l.workers link twin guard' position' debts' k g r → Covers l.workers link twin guard position debts k g r)
-      → Lanes l control link twin event guard position debts → Lanes l control link twin event guard' position' debts'
-  lanes_before guard' position' debts' before old = record {
-    is_row = λ k g r v. old.is_row k g r (before k g r v);
-    rises = λ k g r v. old.rises k g r (before k g r v);
-    stays = λ k g r v. old.stays k g r (before k g r v);
-    generation = λ k g r v. old.generation k g r (before k g r v);
+  pub lanes_before : (guard' : ℕ → Guard) (footing' : ℕ → List ℕ) → ((k g r : ℕ) → Covers (record ground { guard = guard'; footing = footing' }) k g r → Covers ground k g r)
+      → Lanes l control ground event → Lanes l control (record ground { guard = guard'; footing = footing' }) event
+  lanes_before guard' footing' before old = record {
+    is_row = λ r v. old.is_row r (was r v);
+    rises = λ r v. old.rises r (was r v);
+    stays = λ r v. old.stays r (was r v);
+    generation = λ r v. old.generation r (was r v);
   }
+    where
+      was : (r : ℕ) → IsGuarded (record ground { guard = guard'; footing = footing' }) r → IsGuarded ground r
+      was r v = (v.0, v.1, before v.0 v.1 r v.2)
 
-  pub lanes_guard : (j : ℕ) (g : Guard) → (j < l.workers → standing (position j) (debts j) ≡ []) → Lanes l control link twin event guard position debts → Lanes l control link twin event (put guard j g) position debts
-  lanes_guard j g none = lanes_before (put guard j g) position debts (covered_guard l.workers link twin guard position debts (λ _. None) (λ _. in_hand 0) j g none)
+  pub lanes_guard : (j : ℕ) (g : Guard) → (j < ground.workers → ground.footing j ≡ []) → Lanes l control ground event → Lanes l control (record ground { guard = put ground.guard j g }) event
+  lanes_guard j g none = lanes_before (put ground.guard j g) ground.footing (covered_guard ground j g none)
 
-  pub lanes_nowhere : (j : ℕ) → standing nowhere (debts j) ≡ [] → Lanes l control link twin event guard position debts → Lanes l control link twin event guard (put position j nowhere) debts
-  lanes_nowhere j none = lanes_before guard (put position j nowhere) debts (covered_nowhere l.workers link twin guard position debts (λ _. None) (λ _. in_hand 0) j none)
+  pub lanes_less : (footing : ℕ → List ℕ) → ((k a : ℕ) → In a (footing k) → In a (ground.footing k)) → Lanes l control ground event → Lanes l control (record ground { footing = footing }) event
+  lanes_less footing less = lanes_before ground.guard footing (covered_less ground footing less)
 
 -- a caller comes to stand nowhere
-pub standing_nowhere : (n : ℕ) (link : ℕ → Link) (event : ℕ → Event) (position : ℕ → Position) (j : ℕ) → Standing n link event position → Standing n link event (put position j nowhere)
-standing_nowhere n link event position j old = record {
-  holds = λ k s. put_all position j nowhere (λ k p. k < n → In s p.rows → event s.row ≡ s.event) (λ _ i. absurd i) (λ k _. old.holds k s) k;
-  last = λ k s l. put_all position j nowhere (λ k p. k < n → In s p.rows → s.last ≡ Some l → (link s.row ≡ l) × IsFinal l.mark) (λ _ i _. absurd i) (λ k _. old.last k s l) k;
+pub standing_nowhere : (n : ℕ) (link : ℕ → Link) (event : ℕ → Event) (rows : ℕ → List Stand) (j : ℕ) → Standing n link event rows → Standing n link event (put rows j [])
+standing_nowhere n link event rows j old = record {
+  holds = λ k s. put_all rows j [] (λ k ss. k < n → In s ss → event s.row ≡ s.event) (λ _ i. absurd i) (λ k _. old.holds k s) k;
+  last = λ k s l. put_all rows j [] (λ k ss. k < n → In s ss → s.last ≡ Some l → (link s.row ≡ l) × IsFinal l.mark) (λ _ i _. absurd i) (λ k _. old.last k s l) k;
 }
 
 none_walk : (w : Walk) → None ≡ Some w → ⊥
 none_walk w e = cc
 
-module _ (l : Layout) (control : Control) (history : List Entry) (begun : ℕ → ℕ) (link : ℕ → Link) (twin : ℕ → ℕ) (event : ℕ → Event) (holding : ℕ → Holding) (position : ℕ → Position) (walk : ℕ → Option Walk) where
+module _ (l : Layout) (control : Control) (history : List Entry) (begun : ℕ → ℕ) (link : ℕ → Link) (twin : ℕ → ℕ) (event : ℕ → Event) (holding : ℕ → Holding) (rows : ℕ → List Stand) (walk : ℕ → Option Walk) where
   -- a caller gives up its walk, and moves
-  pub walkers_none : (j : ℕ) (p : Position) → Walkers l control history begun link twin event holding position walk → Walkers l control history begun link twin event holding (put position j p) (put walk j None)
-  walkers_none j p old = record {
+  pub walkers_none : (j : ℕ) (ss : List Stand) → Walkers l control history begun link twin event holding rows walk → Walkers l control history begun link twin event holding (put rows j ss) (put walk j None)
+  walkers_none j ss old = record {
     opened = λ k w. put_all walk j None (λ k o. k < l.workers → o ≡ Some w → IsHead w.head × IsOpen control w.head) (λ _ e. absurd (none_walk w e)) (λ k _. old.opened k w) k;
-    at_stand = λ k w. put_all walk j None (λ k o. k < l.workers → o ≡ Some w → (w.at ≡ 0) ⊎ In w.at (rows_of (put position j p k).rows)) (λ _ e. absurd (none_walk w e))
-        (λ k ne b e. subst (λ (q : Position). (w.at ≡ 0) ⊎ In w.at (rows_of q.rows)) (sym (put_else position j p k ne)) (old.at_stand k w b e)) k;
+    at_stand = λ k w. put_all walk j None (λ k o. k < l.workers → o ≡ Some w → (w.at ≡ 0) ⊎ In w.at (rows_of (put rows j ss k))) (λ _ e. absurd (none_walk w e))
+        (λ k ne b e. subst (λ ss. (w.at ≡ 0) ⊎ In w.at (rows_of ss)) (sym (put_else rows j ss k ne)) (old.at_stand k w b e)) k;
     left = λ k w front back e. put_all walk j None (λ k o. k < l.workers → o ≡ Some w → history ≡ front ++ back → length front ≡ begun k → head_of control e ≡ w.head → Contains (puts front) e → (Contains (outs history) e → ⊥) → StandsFrom l link twin event holding w.at e) (λ _ q. absurd (none_walk w q)) (λ k _. old.left k w front back e) k;
   }
 
@@ -82,8 +83,8 @@ module _ (l : Layout) (link : ℕ → Link) (holding : ℕ → Holding) (r : ℕ
     twin_is = put_all holding r h (λ s g. IsRow l s → TwinFits g (twin s)) (λ b. (fits b).1) (λ s _. old.twin_is s);
   }
 
-  pub naming_held : (control : Control) (event : ℕ → Event) (debts : ℕ → Debts) → sort h ≢ 1 → Naming l control link event debts holding → Naming l control link event debts (put holding r h)
-  naming_held control event debts is old = record { named = λ s q b e. old.named s q b (listed_was is s q e); place = old.place }
+  pub naming_held : (control : Control) (event : ℕ → Event) (names : ℕ → DeadNames) → sort h ≢ 1 → Naming l control link event names holding → Naming l control link event names (put holding r h)
+  naming_held control event names is old = record { named = λ s q b e. old.named s q b (listed_was is s q e); place = old.place }
 
   pub carriers_held : (history : List Entry) (event : ℕ → Event) → sort (holding r) ≢ 1 → sort h ≢ 1 → Carriers l history link event holding → Carriers l history link event (put holding r h)
   carriers_held history event was is old = record {
@@ -92,9 +93,9 @@ module _ (l : Layout) (link : ℕ → Link) (holding : ℕ → Holding) (r : ℕ
     one = λ s t v w. old.one s t (live_was is s v) (live_was is t w);
   }
 
-  pub walkers_held : (control : Control) (history : List Entry) (begun : ℕ → ℕ) (twin : ℕ → ℕ) (event : ℕ → Event) (position : ℕ → Position) (walk : ℕ → Option Walk) → sort (holding r) ≢ 1 → sort h ≢ 1
-      → Walkers l control history begun link twin event holding position walk → Walkers l control history begun link twin event (put holding r h) position walk
-  walkers_held control history begun twin event position walk was is old = record {
+  pub walkers_held : (control : Control) (history : List Entry) (begun : ℕ → ℕ) (twin : ℕ → ℕ) (event : ℕ → Event) (rows : ℕ → List Stand) (walk : ℕ → Option Walk) → sort (holding r) ≢ 1 → sort h ≢ 1
+      → Walkers l control history begun link twin event holding rows walk → Walkers l control history begun link twin event (put holding r h) rows walk
+  walkers_held control history begun twin event rows walk was is old = record {
     opened = old.opened;
     at_stand = old.at_stand;
     left = λ k w front back e b q f n m p o. let s = old.left k w front back e b q f n m p o in record { row = s.row; some_row = s.some_row; live = live_stays was is s.row s.live; holds = s.holds; reached = s.reached };

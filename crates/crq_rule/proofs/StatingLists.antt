@@ -13,17 +13,17 @@ use Rattle.crq_base.proofs.HistoryLaws.{began_one}
 use Rattle.crq_base.proofs.Verdicts.{contains_or}
 use Rattle.crq_base.specs.Lists.{In}
 use Rattle.crq_rule.specs.declared.debts.CutDebt.{CutDebt}
-use Rattle.crq_rule.specs.declared.debts.Debts.{Debts}
 use Rattle.crq_rule.specs.declared.view.Walk.{Walk}
 use Rattle.crq_rule.specs.Places.{IsRow, IsHead}
-use Rattle.crq_rule.specs.Core.{Core, Holding, in_hand, listed, cut_by, retired}
-use Rattle.crq_rule.specs.Parts.{IsEvent, Leads}
+use Rattle.crq_rule.specs.Core.{Core, DeadNames, Holding, in_hand, listed, cut_by, retired}
+use Rattle.crq_rule.specs.Parts.{ground_of, IsEvent, Leads}
 use Rattle.crq_rule.specs.Ranks.{rank, head_of, Rises}
 use Rattle.crq_rule.specs.ListParts.{ranks, MarkFits, TwinFits, IsNamed}
 use Rattle.crq_rule.specs.HistoryParts.{StandsFrom}
 use Rattle.crq_rule.specs.Invariant.{Inv}
 use Rattle.crq_rule.specs.Stated.{IsCovered, Precedes, Ascends, IsListOf, LeadsOn, IsInHand, OwesCut, ListsHold, CarriersHold, HistoryHolds, IsWalking, WalkersHold}
-use Rattle.crq_rule.proofs.SearchLaws.{covers_next, stand_covered}
+use Rattle.crq_rule.proofs.CoverLaws.{names_covered}
+use Rattle.crq_rule.proofs.SearchLaws.{stand_covered}
 
 -- Order
 
@@ -45,8 +45,8 @@ rank_precedes e f r s fits fits' low low' less = go (nat_cmp e.time f.time) (nat
 
 -- 5. Lists
 
-owes : (d : Debts) (r : ℕ) (e : Event) → IsNamed d.cut r e ⊎ IsNamed d.second_cut r e → OwesCut d r e
-owes d r e named = ⊎_elim (λ (n : IsNamed d.cut r e). let o = one d.cut n in (o.0, inl o.1, o.2, o.3)) (λ (n : IsNamed d.second_cut r e). let o = one d.second_cut n in (o.0, inr o.1, o.2, o.3)) named
+owes : (d : DeadNames) (r : ℕ) (e : Event) → IsNamed d.first r e ⊎ IsNamed d.second r e → OwesCut d r e
+owes d r e named = ⊎_elim (λ (n : IsNamed d.first r e). let o = one d.first n in (o.0, inl o.1, o.2, o.3)) (λ (n : IsNamed d.second r e). let o = one d.second n in (o.0, inr o.1, o.2, o.3)) named
   where
     one : (o : Option CutDebt) → IsNamed o r e → (x : CutDebt) × (o ≡ Some x) × (x.row ≡ r) × (x.event ≡ e)
     one None n = absurd n
@@ -81,9 +81,9 @@ module _ (c : Core) (inv : Inv c) where
 
   leads_on : (k g r : ℕ) → IsCovered c k g r → 0 < (c.words.link r).row → LeadsOn c r (c.words.link r).row
   leads_on k g r v some = record {
-    precedes = row_precedes r (c.words.link r).row (inv.lanes.is_row k g r v) (inv.lanes.is_row k g (c.words.link r).row (covers_next _ _ _ _ _ _ k g r (c.words.link r).row (some, inl refl) v)) (inv.lanes.rises k g r v some);
-    same_list = inv.lanes.stays k g r v some;
-    generation = inv.lanes.generation k g r v some;
+    precedes = row_precedes r (c.words.link r).row (inv.lanes.is_row r (k, g, v)) (inv.lanes.is_row (c.words.link r).row (k, g, names_covered (ground_of c) k g r (c.words.link r).row v (some, inl refl))) (inv.lanes.rises r (k, g, v) some);
+    same_list = inv.lanes.stays r (k, g, v) some;
+    generation = inv.lanes.generation r (k, g, v) some;
   }
 
   of_list : (r : ℕ) (h : Holding) → IsRow c.start.layout r → c.holding r ≡ h → MarkFits h (c.words.link r).mark → (c.words.link r).mark ≡ Val → (IsInHand c r → ⊥) → (q : ℕ) × IsHead q × In r (c.chain q)
@@ -105,13 +105,13 @@ module _ (c : Core) (inv : Inv c) where
   lists_hold = record {
     opened = λ q b o. (inv.heads.opened q b o, list_of q b);
     shut = λ q b o. let s = inv.heads.shut q b o in (s, no_rows q (c.chain q) b (λ r i. (inv.holders.in_chain q r b i).0) s.1 (inv.chains.leads q b));
-    covered = λ k g r v. (inv.lanes.is_row k g r v, leads_on k g r v);
+    covered = λ k g r v. (inv.lanes.is_row r (k, g, v), leads_on k g r v);
     marked = λ r q b is. fits r (listed q) b is;
     present = λ r b. of_list r (c.holding r) b refl (inv.marks.mark r b);
     cut = λ r j b is. fits r (cut_by j) b is;
     retired = λ r t b is. fits r (retired t) b is;
     twins = λ r b. no_twin r (c.holding r) refl (inv.marks.twin_is r b);
-    named = λ r q b is dead. let n = inv.naming.named r q b is dead in (n.0, n.1, owes (c.debts n.0) r (c.words.event r) n.2);
+    named = λ r q b is dead. let n = inv.naming.named r q b is dead in (n.0, n.1, owes (c.named n.0) r (c.words.event r) n.2);
   }
 
   -- 6. Carriers

@@ -29,6 +29,7 @@ use Rattle.crq_rule.proofs.Puts.{put_all}
 use Rattle.crq_rule.proofs.HistoryLaws.{not_out}
 use Rattle.crq_rule.proofs.ChainLaws.{in_cell}
 use Rattle.crq_rule.proofs.Pendings.{split_entry, both}
+use Rattle.crq_rule.proofs.CoverLaws.{guarded_by}
 use Rattle.crq_rule.proofs.Lawfuls.{stand_covered}
 
 pub none_sweep : (s : Sweep) → None ≡ Some s → ⊥
@@ -166,10 +167,10 @@ module _ (c : Core) (j : ℕ) (b : j < c.start.layout.workers) (inv : Inv c) whe
   behind_head : (q : ℕ) → Behind q (c.words.head q)
   behind_head q r head home i w = first_least c.words.link (ranks c.words.event) (c.words.head q).row 0 r (c.chain q) (inv.chains.leads q head) (inv.sorted.rises q head) (λ s t. rows_some q s head t) i
 
-  behind_row : (p : ℕ) (s : Sweep) → c.sweep j ≡ Some s → Passing (c.found j).control p (c.position j).rows s → (c.words.link p).mark ≡ Val → Behind s.head (c.words.link p)
+  behind_row : (p : ℕ) (s : Sweep) → c.sweep j ≡ Some s → Passing (c.found j).control p (c.rows j) s → (c.words.link p).mark ≡ Val → Behind s.head (c.words.link p)
   behind_row p s is t val r head home i w = let v = stand_covered c j t.stand b t.stands inv in let x = c.words.control in
       let holds : c.words.event p ≡ t.stand.event = ap c.words.event (sym t.row) ∙ inv.standing.holds j t.stand b t.stands in
-      let row : IsRow c.start.layout p = subst (IsRow c.start.layout) t.row (inv.lanes.is_row j v.0 t.stand.row v.1) in
+      let row : IsRow c.start.layout p = subst (IsRow c.start.layout) t.row (inv.lanes.is_row t.stand.row (guarded_by j v)) in
       let at = present_listed (c.holding p) (c.words.link p).mark val (λ k held. inv.cover.free j v.0 t.stand.row k v.1 (ap c.holding t.row ∙ held)) (inv.marks.mark p row) in
       let in_list = inv.holders.of_chain at.0 p row at.1 in let control : t.control ≡ x = inv.reading.read_control j t.control b t.found in
       let list : at.0 ≡ s.head = sym (inv.sorted.belongs at.0 p in_list.0 in_list.1) ∙ ((λ k. head_of (sym control k) (holds k)) ∙ t.head) in
@@ -201,32 +202,32 @@ module _ (c : Core) (j : ℕ) (b : j < c.start.layout.workers) (inv : Inv c) whe
         clean_is = λ p r i. inv.swept.clean_is j p r b i;
       }
 
-  sweeps_after : (cell : Cell) → Sweeps (sweep_on (swept_head (c.found j).control cell (c.position j).rows (c.sweep j)) (link_at c.words.head c.words.link cell) (c.words.event (link_at c.words.head c.words.link cell).row) (c.sweep j))
-      (clean_on (swept_head (c.found j).control cell (c.position j).rows (c.sweep j)) (link_at c.words.head c.words.link cell) (c.clean j))
+  sweeps_after : (cell : Cell) → Sweeps (sweep_on (swept_head (c.found j).control cell (c.rows j) (c.sweep j)) (link_at c.words.head c.words.link cell) (c.words.event (link_at c.words.head c.words.link cell).row) (c.sweep j))
+      (clean_on (swept_head (c.found j).control cell (c.rows j) (c.sweep j)) (link_at c.words.head c.words.link cell) (c.clean j))
   sweeps_after (at_head q) = sweeps_taken q (c.words.head q) (λ _. behind_head q)
   sweeps_after (at_row p) = by (c.sweep j) refl
     where
       l : Link
       l = c.words.link p
 
-      if_passing : (s : Sweep) → c.sweep j ≡ Some s → (t : Bool) → is_passing (c.found j).control p (c.position j).rows s ≡ t
+      if_passing : (s : Sweep) → c.sweep j ≡ Some s → (t : Bool) → is_passing (c.found j).control p (c.rows j) s ≡ t
           → Sweeps (sweep_on (cond t (Some s.head) None) (c.words.link p) (c.words.event (c.words.link p).row) (c.sweep j)) (clean_on (cond t (Some s.head) None) (c.words.link p) (c.clean j))
-      if_passing s is true at = sweeps_taken s.head (c.words.link p) (λ val. behind_row p s is (passes (c.found j).control p (c.position j).rows s at) val)
+      if_passing s is true at = sweeps_taken s.head (c.words.link p) (λ val. behind_row p s is (passes (c.found j).control p (c.rows j) s at) val)
       if_passing s is false at = sweeps_old
 
-      by : (o : Option Sweep) → c.sweep j ≡ o → Sweeps (sweep_on (swept_head (c.found j).control (at_row p) (c.position j).rows o) (c.words.link p) (c.words.event (c.words.link p).row) (c.sweep j))
-          (clean_on (swept_head (c.found j).control (at_row p) (c.position j).rows o) (c.words.link p) (c.clean j))
+      by : (o : Option Sweep) → c.sweep j ≡ o → Sweeps (sweep_on (swept_head (c.found j).control (at_row p) (c.rows j) o) (c.words.link p) (c.words.event (c.words.link p).row) (c.sweep j))
+          (clean_on (swept_head (c.found j).control (at_row p) (c.rows j) o) (c.words.link p) (c.clean j))
       by None is = sweeps_old
-      by (Some s) is = if_passing s is (is_passing (c.found j).control p (c.position j).rows s) refl
+      by (Some s) is = if_passing s is (is_passing (c.found j).control p (c.rows j) s) refl
 
-  sweeps_both : (cell : Cell) (seeks : Bool) → Sweeps (sweep_on (taken_on seeks (c.found j).control cell (c.position j).rows (c.sweep j)) (link_at c.words.head c.words.link cell) (c.words.event (link_at c.words.head c.words.link cell).row) (c.sweep j))
-      (clean_on (taken_on seeks (c.found j).control cell (c.position j).rows (c.sweep j)) (link_at c.words.head c.words.link cell) (c.clean j))
+  sweeps_both : (cell : Cell) (seeks : Bool) → Sweeps (sweep_on (taken_on seeks (c.found j).control cell (c.rows j) (c.sweep j)) (link_at c.words.head c.words.link cell) (c.words.event (link_at c.words.head c.words.link cell).row) (c.sweep j))
+      (clean_on (taken_on seeks (c.found j).control cell (c.rows j) (c.sweep j)) (link_at c.words.head c.words.link cell) (c.clean j))
   sweeps_both cell true = sweeps_old
   sweeps_both cell false = sweeps_after cell
 
   pub swept_walked : (cell : Cell) (seeks : Bool) → Swept c.start.layout c.history c.words.event c.chain
-      (put c.sweep j (sweep_on (taken_on seeks (c.found j).control cell (c.position j).rows (c.sweep j)) (link_at c.words.head c.words.link cell) (c.words.event (link_at c.words.head c.words.link cell).row) (c.sweep j)))
-      (put c.clean j (clean_on (taken_on seeks (c.found j).control cell (c.position j).rows (c.sweep j)) (link_at c.words.head c.words.link cell) (c.clean j)))
+      (put c.sweep j (sweep_on (taken_on seeks (c.found j).control cell (c.rows j) (c.sweep j)) (link_at c.words.head c.words.link cell) (c.words.event (link_at c.words.head c.words.link cell).row) (c.sweep j)))
+      (put c.clean j (clean_on (taken_on seeks (c.found j).control cell (c.rows j) (c.sweep j)) (link_at c.words.head c.words.link cell) (c.clean j)))
   swept_walked cell seeks = let now = sweeps_both cell seeks in record {
     left = λ k r s inside is head home i w. put_all c.sweep j _ (λ k o. k < c.start.layout.workers → o ≡ Some s → IsHomeRow c.start.layout k r → WasOut c.history k (c.words.event r) → s.rank ≤ ranks c.words.event r)
         (λ _ is home w. now.left r s is head home i w) (λ k _ inside is home w. inv.swept.left k r s inside is head home i w) k inside is home w;

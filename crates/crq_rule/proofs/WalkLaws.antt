@@ -15,17 +15,15 @@ use Rattle.crq_base.specs.declared.words.Mark.TheVariants.{Val, Inv as Invalid, 
 use Rattle.crq_base.specs.declared.words.Control.{Control}
 use Rattle.crq_base.specs.Lists.{In}
 use Rattle.crq_rule.specs.declared.debts.CutDebt.{CutDebt}
-use Rattle.crq_rule.specs.declared.debts.Debts.{Debts}
 use Rattle.crq_rule.specs.declared.view.Guard.{Guard}
 use Rattle.crq_rule.specs.declared.view.Guard.TheVariants.{Off, Entering, On}
 use Rattle.crq_rule.specs.declared.view.CutRow.{CutRow}
-use Rattle.crq_rule.specs.declared.view.Position.{Position}
 use Rattle.crq_rule.specs.declared.view.Stand.{Stand}
 use Rattle.crq_rule.specs.declared.view.Walk.{Walk}
 use Rattle.crq_rule.specs.Lists.{put}
 use Rattle.crq_rule.specs.Places.{IsRow, IsHead}
-use Rattle.crq_rule.specs.Core.{Core, Holding, in_hand, listed, cut_by, retired}
-use Rattle.crq_rule.specs.Parts.{IsEvent, Covers, HasTag, IsOn, Names, IsPath, Reaches, standing, rows_of, rows_of_old, rows_of_copy}
+use Rattle.crq_rule.specs.Core.{Core, DeadNames, Holding, in_hand, listed, cut_by, retired}
+use Rattle.crq_rule.specs.Parts.{ground_of, IsEvent, Covers, IsGuarded, HasTag, IsOn, Names, IsPath, Reaches, rows_of, rows_of_old, rows_of_copy}
 use Rattle.crq_rule.specs.ListParts.{ranks, MarkFits, TwinFits, IsFinal, IsNamed}
 use Rattle.crq_rule.specs.HistoryParts.{StandsFrom}
 use Rattle.crq_rule.specs.Invariant.{Inv}
@@ -34,11 +32,8 @@ use Rattle.crq_rule.specs.ListKinds.{is_final, is_passed, is_val, stands_after, 
 use Rattle.crq_rule.proofs.SweepLaws.{val_is, swept_walked}
 use Rattle.crq_rule.proofs.Puts.{put_here, put_else, put_all}
 use Rattle.crq_rule.proofs.PartLaws.{sort}
+use Rattle.crq_rule.proofs.CoverLaws.{row_footing}
 use Rattle.crq_rule.proofs.Standings.{least, first_in, next_above, adjacent, longer, reached, path_in, in_join, join_in, rows_in, next_in, stood, row_stood, row_stays, row_next}
-
--- the guard of caller k, which found g, covers the row r
-abbrev pub IsCovered : Core → ℕ → ℕ → ℕ → Type 0
-IsCovered c k g r = Covers c.start.layout.workers c.words.link c.words.twin c.guard c.position c.debts k g r
 
 -- the row is in a list
 abbrev pub IsListed : Core → ℕ → Type 0
@@ -51,11 +46,11 @@ cell_link c cell = link_at c.words.head c.words.link cell
 abbrev cell_event : Core → Cell → Event
 cell_event c cell = c.words.event (cell_link c cell).row
 
-abbrev new_position : Core → ℕ → Cell → Bool → Position
-new_position c j cell seeks = record { rows = stands_after cell seeks (cell_link c cell) (cell_event c cell) (c.position j).rows; old = (c.position j).old }
+abbrev new_rows : Core → ℕ → Cell → Bool → List Stand
+new_rows c j cell seeks = stands_after cell seeks (cell_link c cell) (cell_event c cell) (c.rows j)
 
-abbrev new_debts : Core → ℕ → Cell → Debts
-new_debts c j cell = record (c.debts j) { cut = relieved (c.found j).control cell (c.position j).rows (cell_link c cell) (cell_event c cell) (c.debts j).cut }
+abbrev new_names : Core → ℕ → Cell → DeadNames
+new_names c j cell = record (c.named j) { first = relieved (c.found j).control cell (c.rows j) (cell_link c cell) (cell_event c cell) (c.named j).first }
 
 abbrev new_walk : Core → ℕ → Cell → Bool → Option Walk
 new_walk c j cell seeks = walk_after cell seeks (cell_link c cell) (c.walk j)
@@ -93,30 +88,30 @@ module _ (c : Core) (inv : Inv c) where
       let d : sort (c.holding r) ≡ 2 = subst (λ z. sort (c.holding z) ≡ 2) is.4 (ap sort (inv.holders.is_cut is.0 is.1 is.2 is.3).1) in omega arith) has
 
   -- a covered row has no twin, and one that is present is listed
-  covered_twin : (k g r : ℕ) → IsCovered c k g r → c.words.twin r ≡ 0
-  covered_twin k g r v = go (c.holding r) refl (inv.marks.twin_is r (inv.lanes.is_row k g r v))
+  covered_twin : (r : ℕ) → IsGuarded (ground_of c) r → c.words.twin r ≡ 0
+  covered_twin r v = go (c.holding r) refl (inv.marks.twin_is r (inv.lanes.is_row r v))
     where
       go : (h : Holding) → c.holding r ≡ h → TwinFits h (c.words.twin r) → c.words.twin r ≡ 0
-      go (in_hand i) e f = absurd (inv.cover.free k g r i v e)
+      go (in_hand i) e f = absurd (inv.cover.free v.0 v.1 r i v.2 e)
       go (listed q) e f = f
       go (cut_by i) e f = f
       go (retired t) e f = f
 
-  covered_present : (k g r : ℕ) → IsCovered c k g r → (c.words.link r).mark ≡ Val → IsListed c r
-  covered_present k g r v val = go (c.holding r) refl (inv.marks.mark r row)
+  covered_present : (r : ℕ) → IsGuarded (ground_of c) r → (c.words.link r).mark ≡ Val → IsListed c r
+  covered_present r v val = go (c.holding r) refl (inv.marks.mark r row)
     where
       row : IsRow c.start.layout r
-      row = inv.lanes.is_row k g r v
+      row = inv.lanes.is_row r v
 
       go : (h : Holding) → c.holding r ≡ h → MarkFits h (c.words.link r).mark → IsListed c r
-      go (in_hand i) e f = absurd (inv.cover.free k g r i v e)
+      go (in_hand i) e f = absurd (inv.cover.free v.0 v.1 r i v.2 e)
       go (listed q) e f = let o = inv.holders.of_chain q r row e in (q, o.0, o.1)
       go (cut_by i) e f = absurd (val_del (sym val ∙ f))
       go (retired t) e f = absurd (val_del (sym val ∙ f))
 
   -- what the cell's link leads to is led to from a row that the caller stands on, or listed
-  from_cell : (j : ℕ) (cell : Cell) (r : ℕ) → MayWalk (c.position j).rows cell → 0 < (cell_link c cell).row
-      → Reaches c.words.link c.words.twin (cell_link c cell).row r → ((a : ℕ) × In a (rows_of (c.position j).rows) × Reaches c.words.link c.words.twin a r) ⊎ IsListed c r
+  from_cell : (j : ℕ) (cell : Cell) (r : ℕ) → MayWalk (c.rows j) cell → 0 < (cell_link c cell).row
+      → Reaches c.words.link c.words.twin (cell_link c cell).row r → ((a : ℕ) × In a (rows_of (c.rows j)) × Reaches c.words.link c.words.twin a r) ⊎ IsListed c r
   from_cell j (at_head q) r may some reaches = inr (
     q,
     may,
@@ -125,34 +120,32 @@ module _ (c : Core) (inv : Inv c) where
   )
   from_cell j (at_row p) r may some reaches = inl (
     p,
-    subst (λ z. In z (rows_of (c.position j).rows)) may.1.2 (rows_in (c.position j).rows may.1.0 may.1.1),
+    subst (λ z. In z (rows_of (c.rows j))) may.1.2 (rows_in (c.rows j) may.1.0 may.1.1),
     longer c.words.link c.words.twin p (c.words.link p).row r (some, inl refl) reaches,
   )
 
 module _ (c : Core) (j : ℕ) (cell : Cell) (seeks : Bool) where
-  -- what the caller stands on after the walk
-  stands_j : (k : ℕ) → k ≡ j → standing ((walked_from c j cell seeks).position k) ((walked_from c j cell seeks).debts k)
-      ≡ rows_of (new_position c j cell seeks).rows ++ (rows_of_old (c.position j).old ++ rows_of_copy (c.debts j).copy)
-  stands_j k e = let n = walked_from c j cell seeks in
-      ap (λ z. standing (n.position z) (n.debts z)) e ∙ (λ i. standing (put_here c.position j (new_position c j cell seeks) i) (put_here c.debts j (new_debts c j cell) i))
+  -- what the callers stand on after the walk
+  stands_j : (k : ℕ) → k ≡ j → (ground_of (walked_from c j cell seeks)).footing k ≡ rows_of (new_rows c j cell seeks) ++ (rows_of_old (c.old j) ++ rows_of_copy (c.copying j))
+  stands_j k e = ap (ground_of (walked_from c j cell seeks)).footing e ∙ ap (λ ss. rows_of ss ++ (rows_of_old (c.old j) ++ rows_of_copy (c.copying j))) (put_here c.rows j (new_rows c j cell seeks))
 
-  stands_else : (k : ℕ) → k ≢ j → standing ((walked_from c j cell seeks).position k) ((walked_from c j cell seeks).debts k) ≡ standing (c.position k) (c.debts k)
-  stands_else k ne = λ i. standing (put_else c.position j (new_position c j cell seeks) k ne i) (put_else c.debts j (new_debts c j cell) k ne i)
+  stands_else : (k : ℕ) → k ≢ j → (ground_of (walked_from c j cell seeks)).footing k ≡ (ground_of c).footing k
+  stands_else k ne = ap (λ ss. rows_of ss ++ (rows_of_old (c.old k) ++ rows_of_copy (c.copying k))) (put_else c.rows j (new_rows c j cell seeks) k ne)
 
   -- what is covered after the walk was covered before it, or is listed
-  before : MayWalk (c.position j).rows cell → Inv c → (k g r : ℕ) → IsCovered (walked_from c j cell seeks) k g r → IsCovered c k g r ⊎ IsListed c r
+  before : MayWalk (c.rows j) cell → Inv c → (k g r : ℕ) → Covers (ground_of (walked_from c j cell seeks)) k g r → Covers (ground_of c) k g r ⊎ IsListed c r
   before may inv k g r v = dite (ℕ_discrete k j)
       (λ (e : k ≡ j).
-      let same : (a : ℕ) → In a (standing (c.position j) (c.debts j)) → Reaches c.words.link c.words.twin a r → IsCovered c k g r =
-      λ a i to. record { inside = v.inside; on = v.on; at = a; stands = subst (λ z. In a (standing (c.position z) (c.debts z))) (sym e) i; reaches = to } in
-      let rest = rows_of_old (c.position j).old ++ rows_of_copy (c.debts j).copy in
-      let rows = rows_of (c.position j).rows in
+      let same : (a : ℕ) → In a ((ground_of c).footing j) → Reaches c.words.link c.words.twin a r → Covers (ground_of c) k g r =
+      λ a i to. record { inside = v.inside; on = v.on; at = a; stands = subst (λ z. In a ((ground_of c).footing z)) (sym e) i; reaches = to } in
+      let rest = rows_of_old (c.old j) ++ rows_of_copy (c.copying j) in
+      let rows = rows_of (c.rows j) in
       ⊎_elim
       (λ h. ⊎_elim (λ i. inl (same v.at (join_in rows rest v.at (inl i)) v.reaches))
       (λ h. ⊎_elim (λ t. inl (same t.0 (join_in rows rest t.0 (inl t.1)) t.2)) inr (from_cell c inv j cell r may h.0 (subst (λ z. Reaches c.words.link c.words.twin z r) (sym h.1) v.reaches)))
-      (row_stood cell seeks (cell_link c cell) (cell_event c cell) (c.position j).rows v.at h))
+      (row_stood cell seeks (cell_link c cell) (cell_event c cell) (c.rows j) v.at h))
       (λ h. inl (same v.at (join_in rows rest v.at (inr h)) v.reaches))
-      (in_join (rows_of (new_position c j cell seeks).rows) rest v.at (subst (λ z. In v.at z) (stands_j k e) v.stands)))
+      (in_join (rows_of (new_rows c j cell seeks)) rest v.at (subst (λ z. In v.at z) (stands_j k e) v.stands)))
       (λ ne. inl (record { inside = v.inside; on = v.on; at = v.at; stands = subst (λ z. In v.at z) (stands_else k ne) v.stands; reaches = v.reaches }))
 
 on_is : (g : Guard) → IsOn g → (x : ℕ) × (g ≡ On x)
@@ -193,14 +186,8 @@ relieved_some x cell ss l e (Some a) d is = cond_both (is_past x cell ss l e a) 
 
 module _ (c : Core) (j g : ℕ) (b : j < c.start.layout.workers) (on : c.guard j ≡ On g) (inv : Inv c) where
   -- the rows that the caller stands on are covered
-  covered_at : (r : ℕ) → In r (rows_of (c.position j).rows) → IsCovered c j g r
-  covered_at r i = record {
-    inside = b;
-    on = on;
-    at = r;
-    stands = join_in (rows_of (c.position j).rows) (rows_of_old (c.position j).old ++ rows_of_copy (c.debts j).copy) r (inl i);
-    reaches = record { through = []; path = refl };
-  }
+  covered_at : (r : ℕ) → In r (rows_of (c.rows j)) → IsGuarded (ground_of c) r
+  covered_at r i = (j, g, record { inside = b; on = on; at = r; stands = row_footing c.rows c.old c.copying j r i; reaches = record { through = []; path = refl } })
 
   -- where the row after the cell isn't above the row r, the walk isn't past it
   not_past : (q r : ℕ) (l : Link) (d : CutDebt) → IsHead q → In l.row (c.chain q) → ranks c.words.event l.row ≤ ranks c.words.event r → rank d.event d.row ≡ ranks c.words.event r
@@ -211,20 +198,20 @@ module _ (c : Core) (j g : ℕ) (b : j < c.start.layout.workers) (on : c.guard j
       (or_cases (eqb l.row 0) (ltb (rank d.event d.row) (rank (c.words.event l.row) l.row)) t)
 
   -- a dead row that is listed stays owed
-  still_owed : (cell : Cell) (d : CutDebt) (q r : ℕ) → MayWalk (c.position j).rows cell → d.head ≡ head_of c.words.control d.event → IsHead q → In r (c.chain q) → (c.words.link r).mark ≡ Del → d.row ≡ r → d.event ≡ c.words.event r
-      → is_past (c.found j).control cell (c.position j).rows (cell_link c cell) (cell_event c cell) d ≡ true → ⊥
+  still_owed : (cell : Cell) (d : CutDebt) (q r : ℕ) → MayWalk (c.rows j) cell → d.head ≡ head_of c.words.control d.event → IsHead q → In r (c.chain q) → (c.words.link r).mark ≡ Del → d.row ≡ r → d.event ≡ c.words.event r
+      → is_past (c.found j).control cell (c.rows j) (cell_link c cell) (cell_event c cell) d ≡ true → ⊥
   still_owed (at_head p) d q r may place h i del row event past = let l = c.words.head p in
       let t = (and_parts (is_val l.mark) (eqb d.head p && (eqb l.row 0 || ltb (rank d.event d.row) (rank (c.words.event l.row) l.row))) past).1 in
       let u = and_parts (eqb d.head p) (eqb l.row 0 || ltb (rank d.event d.row) (rank (c.words.event l.row) l.row)) t in
       let same : q ≡ p = sym (inv.sorted.belongs q r h i) ∙ (ap (head_of c.words.control) (sym event) ∙ (sym place ∙ eqb-true d.head p u.0)) in
       let m = least c.words.link (ranks c.words.event) l.row 0 r (c.chain p) (inv.chains.leads p may) (inv.sorted.rises p may) (subst (λ z. In r (c.chain z)) same i) in
       not_past p r l d may m.0 m.1 (λ k. rank (event k) (row k)) u.1
-  still_owed (at_row p) d q r may place h i del row event past = let l = c.words.link p in let x = (c.found j).control in let ss = (c.position j).rows in
+  still_owed (at_row p) d q r may place h i del row event past = let l = c.words.link p in let x = (c.found j).control in let ss = (c.rows j) in
       let t = and_parts (is_val l.mark) (is_beyond x (at_row p) ss d && (eqb l.row 0 || ltb (rank d.event d.row) (rank (c.words.event l.row) l.row))) past in
       let u = and_parts (is_beyond x (at_row p) ss d) (eqb l.row 0 || ltb (rank d.event d.row) (rank (c.words.event l.row) l.row)) t.1 in
       let s = beyond_is x p ss d u.0 in
       let val = val_is l.mark t.0 in
-      let in_list = covered_present c inv j g p (covered_at p (subst (λ z. In z (rows_of ss)) s.2.2 (rows_in ss s.2.0 s.2.1))) val in
+      let in_list = covered_present c inv p (covered_at p (subst (λ z. In z (rows_of ss)) s.2.2 (rows_in ss s.2.0 s.2.1))) val in
       let holds : c.words.event p ≡ s.2.0.event = ap c.words.event (sym s.2.2) ∙ inv.standing.holds j s.2.0 b s.2.1 in
       let control : s.0 ≡ c.words.control = inv.reading.read_control j s.0 b s.1 in
       let same : in_list.0 ≡ q = sym (inv.sorted.belongs in_list.0 p in_list.1 in_list.2) ∙ ((λ k. head_of (sym control k) (holds k)) ∙ (s.2.3 ∙ (place ∙ (ap (head_of c.words.control) event ∙ inv.sorted.belongs q r h i)))) in
@@ -274,7 +261,7 @@ module _ (c : Core) (j g : ℕ) (b : j < c.start.layout.workers) (on : c.guard j
   }
 
   -- a walk that stays at its row, or goes past it
-  at_next : (r : ℕ) (rows : List ℕ) (x : Walk) → c.walk j ≡ Some x → x.at ≡ r → In r (rows_of (c.position j).rows) → In r rows → ((c.words.link r).row ≡ 0) ⊎ In (c.words.link r).row rows
+  at_next : (r : ℕ) (rows : List ℕ) (x : Walk) → c.walk j ≡ Some x → x.at ≡ r → In r (rows_of (c.rows j)) → In r rows → ((c.words.link r).row ≡ 0) ⊎ In (c.words.link r).row rows
       → WalkFits c j rows (cond (is_passed (c.words.link r).mark) (record x { at = (c.words.link r).row }) x)
   at_next r rows x is at i stays next = let l = c.words.link r in cond_both (is_passed l.mark) (record x { at = l.row }) x (WalkFits c j rows)
       (λ passed. record {
@@ -282,27 +269,27 @@ module _ (c : Core) (j g : ℕ) (b : j < c.start.layout.workers) (on : c.guard j
         at_stand = next;
         left = λ front back e parts len of put kept. let f = inv.walkers.left j x front back e b is parts len of put kept in
             let ne : r ≢ f.row = λ same. false≢true (sym (ap (λ z. is_passed (c.words.link z).mark) same ∙ ap is_passed f.live.2) ∙ passed) in
-            let to = first_step c.words.link c.words.twin r f.row f.reached.through ne (covered_twin c inv j g r (covered_at c j g b on inv r i)) (subst (λ z. IsPath c.words.link c.words.twin z f.reached.through f.row) at f.reached.path) in
+            let to = first_step c.words.link c.words.twin r f.row f.reached.through ne (covered_twin c inv r (covered_at c j g b on inv r i)) (subst (λ z. IsPath c.words.link c.words.twin z f.reached.through f.row) at f.reached.path) in
             record { row = f.row; some_row = to.0; live = f.live; holds = f.holds; reached = to.1 };
       })
       (λ _. record { opened = inv.walkers.opened j x b is; at_stand = inr (subst (λ z. In z rows) (sym at) stays); left = λ front back e. inv.walkers.left j x front back e b is })
 
   -- each walk that there is after the step
-  walk_fits : (cell : Cell) (seeks : Bool) (w : Walk) → MayWalk (c.position j).rows cell → MaySeek (c.own j) (c.walk j) cell seeks → walk_after cell seeks (cell_link c cell) (c.walk j) ≡ Some w
-      → WalkFits c j (rows_of (new_position c j cell seeks).rows) w
+  walk_fits : (cell : Cell) (seeks : Bool) (w : Walk) → MayWalk (c.rows j) cell → MaySeek (c.own j) (c.walk j) cell seeks → walk_after cell seeks (cell_link c cell) (c.walk j) ≡ Some w
+      → WalkFits c j (rows_of (new_rows c j cell seeks)) w
   walk_fits (at_head q) seeks w may seek is = let l = c.words.head q in let rows = rows_of (next_stand l (c.words.event l.row)) in
       cond_both (seeks && is_val l.mark) (Some (record { head = q; at = l.row })) None (λ o. o ≡ Some w → WalkFits c j rows w)
       (λ yes e. subst (WalkFits c j rows) (same_Some (record { head = q; at = l.row }) w e) (at_first q may (val_is l.mark (and_parts seeks (is_val l.mark) yes).1)))
       (λ _ n. absurd (none-some w n)) is
   walk_fits (at_row r) false w may seek is = absurd (none-some w is)
-  walk_fits (at_row r) true w may seek is = let l = c.words.link r in let e = c.words.event l.row in let ss = (c.position j).rows in
+  walk_fits (at_row r) true w may seek is = let l = c.words.link r in let e = c.words.event l.row in let ss = (c.rows j) in
       let i = subst (λ z. In z (rows_of ss)) may.1.2 (rows_in ss may.1.0 may.1.1) in
       let x = seek.0 in
       subst (WalkFits c j (rows_of (stands_after (at_row r) true l e ss))) (same_Some (cond (is_passed l.mark) (record x { at = l.row }) x) w (sym (ap (walked l) seek.1) ∙ is))
       (at_next r (rows_of (stands_after (at_row r) true l e ss)) x seek.1 seek.2 i (row_stays r true l e ss i) (row_next r true l e ss))
 
 -- A walk keeps the invariant
-pub walk_keeps : (c : Core) (j : ℕ) (cell : Cell) (seeks : Bool) → j < c.start.layout.workers → IsOn (c.guard j) → MayWalk (c.position j).rows cell → MaySeek (c.own j) (c.walk j) cell seeks → Inv c → Inv (walked_from c j cell seeks)
+pub walk_keeps : (c : Core) (j : ℕ) (cell : Cell) (seeks : Bool) → j < c.start.layout.workers → IsOn (c.guard j) → MayWalk (c.rows j) cell → MaySeek (c.own j) (c.walk j) cell seeks → Inv c → Inv (walked_from c j cell seeks)
 walk_keeps c j cell seeks b is_on may seek inv = record {
   spelled = inv.spelled;
   reading = inv.reading;
@@ -320,40 +307,40 @@ walk_keeps c j cell seeks b is_on may seek inv = record {
   sorted = inv.sorted;
   marks = inv.marks;
   standing = record {
-    holds = λ k s. put_all c.position j (new_position c j cell seeks) (λ k p. k < c.start.layout.workers → In s p.rows → c.words.event s.row ≡ s.event)
+    holds = λ k s. put_all c.rows j (new_rows c j cell seeks) (λ k ss. k < c.start.layout.workers → In s ss → c.words.event s.row ≡ s.event)
         (λ d i. ⊎_elim (inv.standing.holds j s d) (⊎_elim
         (λ h. subst (λ (z : Stand). c.words.event z.row ≡ z.event) (sym h.1) refl)
         (λ h. subst (λ (z : Stand). c.words.event z.row ≡ z.event) (sym h.3) (inv.standing.holds j h.0 d h.1)))
-        (stood cell seeks (cell_link c cell) (cell_event c cell) (c.position j).rows s i))
+        (stood cell seeks (cell_link c cell) (cell_event c cell) (c.rows j) s i))
         (λ k _. inv.standing.holds k s) k;
-    last = λ k s m. put_all c.position j (new_position c j cell seeks) (λ k p. k < c.start.layout.workers → In s p.rows → s.last ≡ Some m → (c.words.link s.row ≡ m) × IsFinal m.mark)
+    last = λ k s m. put_all c.rows j (new_rows c j cell seeks) (λ k ss. k < c.start.layout.workers → In s ss → s.last ≡ Some m → (c.words.link s.row ≡ m) × IsFinal m.mark)
         (λ d i is. ⊎_elim (λ h. inv.standing.last j s m d h is) (⊎_elim
         (λ h. absurd (none-some m (sym (ap (λ (z : Stand). z.last) h.1) ∙ is)))
         (λ h. let same : cell_link c cell ≡ m = same_Some (cell_link c cell) m (sym (ap (λ (z : Stand). z.last) h.3) ∙ is) in
         (ap (λ (z : Stand). c.words.link z.row) h.3 ∙ (sym (ap (link_at c.words.head c.words.link) h.2) ∙ same), subst (λ z. IsFinal z.mark) same (final_is (cell_link c cell).mark h.4))))
-        (stood cell seeks (cell_link c cell) (cell_event c cell) (c.position j).rows s i))
+        (stood cell seeks (cell_link c cell) (cell_event c cell) (c.rows j) s i))
         (λ k _. inv.standing.last k s m) k;
   };
   lanes = record {
-    is_row = λ k x r v. ⊎_elim (inv.lanes.is_row k x r) (λ h. (inv.holders.in_chain h.0 r h.1 h.2).0) (old k x r v);
-    rises = λ k x r v some. ⊎_elim (λ o. inv.lanes.rises k x r o some) (λ h. (chain_next c inv h.0 r h.1 h.2 some).1) (old k x r v);
-    stays = λ k x r v some. ⊎_elim (λ o. inv.lanes.stays k x r o some)
-        (λ h. inv.sorted.belongs h.0 (c.words.link r).row h.1 (chain_next c inv h.0 r h.1 h.2 some).0 ∙ sym (inv.sorted.belongs h.0 r h.1 h.2)) (old k x r v);
-    generation = λ k x r v some. ⊎_elim (λ o. inv.lanes.generation k x r o some)
-        (λ h. inv.sorted.generation h.0 (c.words.link r).row h.1 (chain_next c inv h.0 r h.1 h.2 some).0 ∙ sym (inv.sorted.generation h.0 r h.1 h.2)) (old k x r v);
+    is_row = λ r v. ⊎_elim (inv.lanes.is_row r) (λ h. (inv.holders.in_chain h.0 r h.1 h.2).0) (guarded r v);
+    rises = λ r v some. ⊎_elim (λ o. inv.lanes.rises r o some) (λ h. (chain_next c inv h.0 r h.1 h.2 some).1) (guarded r v);
+    stays = λ r v some. ⊎_elim (λ o. inv.lanes.stays r o some)
+        (λ h. inv.sorted.belongs h.0 (c.words.link r).row h.1 (chain_next c inv h.0 r h.1 h.2 some).0 ∙ sym (inv.sorted.belongs h.0 r h.1 h.2)) (guarded r v);
+    generation = λ r v some. ⊎_elim (λ o. inv.lanes.generation r o some)
+        (λ h. inv.sorted.generation h.0 (c.words.link r).row h.1 (chain_next c inv h.0 r h.1 h.2 some).0 ∙ sym (inv.sorted.generation h.0 r h.1 h.2)) (guarded r v);
   };
   writing = inv.writing;
   naming = record {
     named = λ r q row held del. let o = inv.naming.named r q row held del in let in_list = inv.holders.of_chain q r row held in (
       o.0,
       o.1,
-      put_all c.debts j (new_debts c j cell) (λ k t. k < c.start.layout.workers → IsNamed (c.debts k).cut r (c.words.event r) ⊎ IsNamed (c.debts k).second_cut r (c.words.event r) → IsNamed t.cut r (c.words.event r) ⊎ IsNamed t.second_cut r (c.words.event r))
-          (λ d h. ⊎_elim (λ named. inl (relieved_named (c.found j).control cell (c.position j).rows (cell_link c cell) (cell_event c cell) (c.debts j).cut r (c.words.event r)
+      put_all c.named j (new_names c j cell) (λ k t. k < c.start.layout.workers → IsNamed (c.named k).first r (c.words.event r) ⊎ IsNamed (c.named k).second r (c.words.event r) → IsNamed t.first r (c.words.event r) ⊎ IsNamed t.second r (c.words.event r))
+          (λ d h. ⊎_elim (λ named. inl (relieved_named (c.found j).control cell (c.rows j) (cell_link c cell) (cell_event c cell) (c.named j).first r (c.words.event r)
           (λ x is same same' past. still_owed c j on.0 b on.1 inv cell x q r may (inv.naming.place j x d is).0 in_list.0 in_list.1 del same same' past) named)) inr h)
           (λ k _ _ h. h) o.0 o.1 o.2,
     );
-    place = λ k x. put_all c.debts j (new_debts c j cell) (λ k t. k < c.start.layout.workers → t.cut ≡ Some x → (x.head ≡ head_of c.words.control x.event) × IsRow c.start.layout x.row × IsEvent x.event)
-        (λ d is. inv.naming.place j x d (relieved_some (c.found j).control cell (c.position j).rows (cell_link c cell) (cell_event c cell) (c.debts j).cut x is)) (λ k _. inv.naming.place k x) k;
+    place = λ k x. put_all c.named j (new_names c j cell) (λ k t. k < c.start.layout.workers → t.first ≡ Some x → (x.head ≡ head_of c.words.control x.event) × IsRow c.start.layout x.row × IsEvent x.event)
+        (λ d is. inv.naming.place j x d (relieved_some (c.found j).control cell (c.rows j) (cell_link c cell) (cell_event c cell) (c.named j).first x is)) (λ k _. inv.naming.place k x) k;
   };
   carriers = inv.carriers;
   told = inv.told;
@@ -362,9 +349,9 @@ walk_keeps c j cell seeks b is_on may seek inv = record {
   swept = swept_walked c j b inv cell seeks;
   walkers = record {
     opened = λ k w. put_all c.walk j (new_walk c j cell seeks) (λ k o. k < c.start.layout.workers → o ≡ Some w → IsHead w.head × IsOpen c.words.control w.head) (λ _ is. (fits w is).opened) (λ k _. inv.walkers.opened k w) k;
-    at_stand = λ k w. put_all c.walk j (new_walk c j cell seeks) (λ k o. k < c.start.layout.workers → o ≡ Some w → (w.at ≡ 0) ⊎ In w.at (rows_of (put c.position j (new_position c j cell seeks) k).rows))
-        (λ _ is. subst (λ p. (w.at ≡ 0) ⊎ In w.at (rows_of p.rows)) (sym (put_here c.position j (new_position c j cell seeks))) (fits w is).at_stand)
-        (λ k ne d is. subst (λ p. (w.at ≡ 0) ⊎ In w.at (rows_of p.rows)) (sym (put_else c.position j (new_position c j cell seeks) k ne)) (inv.walkers.at_stand k w d is)) k;
+    at_stand = λ k w. put_all c.walk j (new_walk c j cell seeks) (λ k o. k < c.start.layout.workers → o ≡ Some w → (w.at ≡ 0) ⊎ In w.at (rows_of (put c.rows j (new_rows c j cell seeks) k)))
+        (λ _ is. subst (λ ss. (w.at ≡ 0) ⊎ In w.at (rows_of ss)) (sym (put_here c.rows j (new_rows c j cell seeks))) (fits w is).at_stand)
+        (λ k ne d is. subst (λ ss. (w.at ≡ 0) ⊎ In w.at (rows_of ss)) (sym (put_else c.rows j (new_rows c j cell seeks) k ne)) (inv.walkers.at_stand k w d is)) k;
     left = λ k w front back e. put_all c.walk j (new_walk c j cell seeks) (λ k o. k < c.start.layout.workers → o ≡ Some w → c.history ≡ front ++ back → length front ≡ c.begun k → head_of c.words.control e ≡ w.head → Contains (puts front) e → (Contains (outs c.history) e → ⊥)
         → StandsFrom c.start.layout c.words.link c.words.twin c.words.event c.holding w.at e)
         (λ _ is. (fits w is).left front back e) (λ k _. inv.walkers.left k w front back e) k;
@@ -374,8 +361,11 @@ walk_keeps c j cell seeks b is_on may seek inv = record {
     on : (g : ℕ) × (c.guard j ≡ On g)
     on = on_is (c.guard j) is_on
 
-    old : (k x r : ℕ) → IsCovered (walked_from c j cell seeks) k x r → IsCovered c k x r ⊎ IsListed c r
+    old : (k x r : ℕ) → Covers (ground_of (walked_from c j cell seeks)) k x r → Covers (ground_of c) k x r ⊎ IsListed c r
     old k x r v = before c j cell seeks may inv k x r v
 
-    fits : (w : Walk) → new_walk c j cell seeks ≡ Some w → WalkFits c j (rows_of (new_position c j cell seeks).rows) w
+    guarded : (r : ℕ) → IsGuarded (ground_of (walked_from c j cell seeks)) r → IsGuarded (ground_of c) r ⊎ IsListed c r
+    guarded r v = ⊎_elim (λ o. inl (v.0, v.1, o)) inr (old v.0 v.1 r v.2)
+
+    fits : (w : Walk) → new_walk c j cell seeks ≡ Some w → WalkFits c j (rows_of (new_rows c j cell seeks)) w
     fits w is = walk_fits c j on.0 b on.1 inv cell seeks w may seek is

@@ -1,5 +1,5 @@
 -- The parts are no empty talk: a state with a listed row that holds a pending event and that a guard covers, a cut row that has a tag, and a retired row meets the invariant.
-use Rattle.std.proofs.Common.{◌≡◌, ◌≢◌, ⊎_elim, inl, inr, ℕ, ◌-◌, ◌*◌, ◌/◌, ◌<◌, ◌≤◌, List, [], ◌∷◌, length, Option, Some, None, sym, refl, ap, ◌∙◌, subst, arith}
+use Rattle.std.proofs.Common.{◌++◌, ◌≡◌, ◌≢◌, ⊎_elim, inl, inr, ℕ, ◌-◌, ◌*◌, ◌/◌, ◌<◌, ◌≤◌, List, [], ◌∷◌, length, Option, Some, None, sym, refl, ap, ◌∙◌, subst, arith}
 use mathlib.Core.Logic.{dite}
 use native.Mathlib.Decide.{ℕ_discrete}
 use Rattle.crq_base.specs.declared.event.Event.{Event}
@@ -19,17 +19,15 @@ use Rattle.crq_rule.specs.declared.layout.Layout.{Layout}
 use Rattle.crq_rule.specs.declared.layout.Start.{Start}
 use Rattle.crq_rule.specs.declared.view.Guard.TheVariants.{On}
 use Rattle.crq_rule.specs.declared.view.CutRow.{CutRow}
-use Rattle.crq_rule.specs.declared.view.Position.{Position}
 use Rattle.crq_rule.specs.declared.view.Stand.{Stand}
 use Rattle.crq_rule.specs.Lists.{put}
 use Rattle.crq_rule.specs.Places.{IsRow, IsHomeRow, IsHead}
 use Rattle.crq_rule.specs.Core.{Core, Holding, in_hand, listed, cut_by, retired}
-use Rattle.crq_rule.specs.Parts.{Holders, Stamps, Leads, IsPath, standing, stamp_of}
+use Rattle.crq_rule.specs.Parts.{Holders, Stamps, Leads, IsPath, ground_of, rows_of, stamp_of}
 use Rattle.crq_rule.specs.Ranks.{rank, head_of, IsOpen, Rises}
 use Rattle.crq_rule.specs.ListParts.{Heads, Sorted, Marks, Standing, Lanes, Naming, IsOpenHead, IsShutHead, MarkFits, TwinFits, IsFinal, ranks}
 use Rattle.crq_rule.specs.HistoryParts.{Carriers, Told, EndsInBegin}
 use Rattle.crq_rule.specs.Invariant.{Inv}
-use Rattle.crq_rule.specs.Kinds.{nowhere}
 use Rattle.crq_rule.specs.Rule.{rows_from}
 use Rattle.crq_rule.specs.Opening.{opening_core, opening_words, opening_head, home_of}
 use Rattle.crq_rule.specs.Stated.{Witness, IsCovered}
@@ -87,8 +85,8 @@ own = put (λ _. []) 0 entries
 abbrev stand : Stand
 stand = record { row = 1; event = event; last = None }
 
-abbrev at_row : Position
-at_row = record { rows = stand ∷ []; old = None }
+abbrev stands_at : ℕ → List Stand
+stands_at = put (λ _. []) 0 (stand ∷ [])
 
 abbrev at_home : ℕ → Holding
 at_home r = in_hand (home_of layout r)
@@ -121,7 +119,7 @@ core = record (opening_core start) {
   hand = hand;
   guard = λ _. On 0;
   cut = cut;
-  position = put (λ _. nowhere) 0 at_row;
+  rows = stands_at;
 }
 
 is_one : holding 1 ≡ listed q
@@ -181,7 +179,7 @@ reached a r (x ∷ xs) path = let above = path.0.0 in let none = last a in absur
 
 -- the one row that is covered
 covered_one : (k g r : ℕ) → IsCovered core k g r → r ≡ 1
-covered_one k g r v = put_all (λ _. nowhere) 0 at_row (λ k p. In v.at (standing p (core.debts k)) → r ≡ 1)
+covered_one k g r v = put_all (λ _. []) 0 (stand ∷ []) (λ k ss. In v.at (rows_of ss ++ []) → r ≡ 1)
     (λ i. ⊎_elim (λ (e : v.at ≡ 1). sym (reached v.at r v.reaches.through v.reaches.path) ∙ e) (λ n. absurd n) i) (λ _ _ n. absurd n) k v.stands
 
 -- and the one that is listed
@@ -219,25 +217,25 @@ sorted = record {
       (λ _ _ _ n. absurd n) p;
 }
 
-stands : Standing 2 links core.words.event core.position
+stands : Standing 2 links core.words.event stands_at
 stands = record {
-  holds = λ k s. put_all (λ _. nowhere) 0 at_row (λ k p. k < 2 → In s p.rows → event ≡ s.event) (λ _ i. ⊎_elim (λ (e : s ≡ stand). sym (ap (λ (z : Stand). z.event) e)) (λ n. absurd n) i) (λ _ _ _ n. absurd n) k;
-  last = λ k s l. put_all (λ _. nowhere) 0 at_row (λ k p. k < 2 → In s p.rows → s.last ≡ Some l → (links s.row ≡ l) × IsFinal l.mark)
+  holds = λ k s. put_all (λ _. []) 0 (stand ∷ []) (λ k ss. k < 2 → In s ss → event ≡ s.event) (λ _ i. ⊎_elim (λ (e : s ≡ stand). sym (ap (λ (z : Stand). z.event) e)) (λ n. absurd n) i) (λ _ _ _ n. absurd n) k;
+  last = λ k s l. put_all (λ _. []) 0 (stand ∷ []) (λ k ss. k < 2 → In s ss → s.last ≡ Some l → (links s.row ≡ l) × IsFinal l.mark)
       (λ _ i e. ⊎_elim (λ (z : s ≡ stand). absurd (no_last l (sym (ap (λ (z : Stand). z.last) z) ∙ e))) (λ n. absurd n) i) (λ _ _ _ n. absurd n) k;
 }
   where
     no_last : (l : Link) → None ≡ Some l → ⊥
     no_last l e = cc
 
-lanes : Lanes layout core.words.control links core.words.twin core.words.event core.guard core.position core.debts
+lanes : Lanes layout core.words.control (ground_of core) core.words.event
 lanes = record {
-  is_row = λ k g r v. subst (IsRow layout) (sym (covered_one k g r v)) (omega arith, omega arith);
-  rises = λ k g r v above. let none = last r in absurd (omega arith);
-  stays = λ k g r v above. let none = last r in absurd (omega arith);
-  generation = λ k g r v above. let none = last r in absurd (omega arith);
+  is_row = λ r v. subst (IsRow layout) (sym (covered_one v.0 v.1 r v.2)) (omega arith, omega arith);
+  rises = λ r v above. let none = last r in absurd (omega arith);
+  stays = λ r v above. let none = last r in absurd (omega arith);
+  generation = λ r v above. let none = last r in absurd (omega arith);
 }
 
-naming : Naming layout core.words.control links core.words.event core.debts holding
+naming : Naming layout core.words.control links core.words.event core.named holding
 naming = record {
   named = λ r p _ at dead. absurd (val_del (sym (ap (λ (l : Link). l.mark) present_one) ∙ (ap (λ z. (links z).mark) (sym (listed_only r p at)) ∙ dead)));
   place = λ k d b at. old.naming.place k d b at;
@@ -348,7 +346,7 @@ witness = record {
   e' = 0;
   row = (omega arith, omega arith);
   is_listed = is_one;
-  is_covered = record { inside = omega arith; on = refl; at = 1; stands = subst (λ (p : Position). In 1 (standing p (core.debts 0))) (sym (put_here (λ _. nowhere) 0 at_row)) (inl refl); reaches = record { through = []; path = refl } };
+  is_covered = record { inside = omega arith; on = refl; at = 1; stands = subst (λ ss. In 1 (rows_of ss ++ [])) (sym (put_here (λ _. []) 0 (stand ∷ []))) (inl refl); reaches = record { through = []; path = refl } };
   row' = (omega arith, omega arith);
   is_cut = is_two;
   is_tagged = inr (1, cut_row, omega arith, put_here (λ _. None) 1 (Some cut_row), refl, inl refl);

@@ -1,5 +1,5 @@
 -- Writing into a row in hand keeps the invariant: no guard covers the row, so all that is known of covered and listed rows stays.
-use Rattle.std.proofs.Common.{◌≡◌, ◌≢◌, ◌⊎◌, ⊎_elim, inl, inr, ℕ, zero, suc, ◌<◌, ◌≤◌, cond, ◌&&◌, eqb, Bool, true, false, List, [], ◌∷◌, ◌++◌, Option, Some, sym, refl, ap, ◌∙◌, subst, arith, eq-eqb}
+use Rattle.std.proofs.Common.{◌≡◌, ◌≢◌, ◌⊎◌, ⊎_elim, inl, inr, ℕ, zero, suc, ◌<◌, ◌≤◌, cond, ◌&&◌, eqb, Bool, true, false, List, [], ◌∷◌, Some, sym, refl, ap, ◌∙◌, subst, arith, eq-eqb}
 use mathlib.Core.Logic.{dite}
 use native.Mathlib.Decide.{ℕ_discrete}
 use Rattle.crq_base.specs.declared.event.Event.{Event}
@@ -8,18 +8,15 @@ use Rattle.crq_base.specs.declared.words.Mark.TheVariants.{Del}
 use Rattle.crq_base.specs.Words.{IsLink}
 use Rattle.crq_base.specs.Histories.{IsPending}
 use Rattle.crq_base.specs.Lists.{In}
-use Rattle.crq_rule.specs.declared.debts.Debts.{Debts}
 use Rattle.crq_rule.specs.declared.view.Guard.{Guard}
-use Rattle.crq_rule.specs.declared.view.Guard.TheVariants.{Off, Entering, On}
-use Rattle.crq_rule.specs.declared.view.CutRow.{CutRow}
-use Rattle.crq_rule.specs.declared.view.Position.{Position}
+use Rattle.crq_rule.specs.declared.view.Guard.TheVariants.{On}
 use Rattle.crq_rule.specs.declared.view.Stand.{Stand}
 use Rattle.crq_rule.specs.declared.view.Walk.{Walk}
 use Rattle.crq_rule.specs.declared.view.Wrote.{Wrote}
 use Rattle.crq_rule.specs.Lists.{put}
 use Rattle.crq_rule.specs.Places.{IsRow, IsHead}
-use Rattle.crq_rule.specs.Core.{Core, Holding, in_hand, listed}
-use Rattle.crq_rule.specs.Parts.{IsEvent, IsOn, Leads, Names, IsPath, Reaches, Covers, Cover, rows_of, standing}
+use Rattle.crq_rule.specs.Core.{Core, in_hand, listed}
+use Rattle.crq_rule.specs.Parts.{Ground, ground_of, footings, IsEvent, IsGuarded, Leads, Names, IsPath, Reaches, Covers, rows_of}
 use Rattle.crq_rule.specs.Ranks.{rank, head_of, Rises}
 use Rattle.crq_rule.specs.ListParts.{ranks, MarkFits, TwinFits, IsNamed, row_word}
 use Rattle.crq_rule.specs.HistoryParts.{IsLive}
@@ -28,43 +25,7 @@ use Rattle.crq_rule.specs.ListKinds.{Content, new_link, no_twin, new_time, new_s
 use Rattle.crq_rule.proofs.SweepLaws.{swept_events}
 use Rattle.crq_rule.proofs.Puts.{put_here, put_else, put_all}
 use Rattle.crq_rule.proofs.PartLaws.{sort, of_whom}
-
--- Covered rows
-
-on_or_not : (g : Guard) → ((x : ℕ) × (g ≡ On x)) ⊎ (IsOn g → ⊥)
-on_or_not Off = inr (λ n. n)
-on_or_not (Entering x) = inr (λ n. n)
-on_or_not (On x) = inl (x, refl)
-
-pub in_front : (xs ys : List ℕ) (a : ℕ) → In a xs → In a (xs ++ ys)
-in_front [] ys a i = absurd i
-in_front (x ∷ xs) ys a i = ⊎_elim inl (λ t. inr (in_front xs ys a t)) i
-
-pub row_of_stand : (ss : List Stand) (s : Stand) → In s ss → In s.row (rows_of ss)
-row_of_stand [] s i = absurd i
-row_of_stand (x ∷ xs) s i = ⊎_elim (λ e. inl (ap (λ (z : Stand). z.row) e)) (λ t. inr (row_of_stand xs s t)) i
-
--- a path of one more row
-pub path_on : (link : ℕ → Link) (twin : ℕ → ℕ) (a r s : ℕ) (xs : List ℕ) → IsPath link twin a xs r → Names link twin r s → IsPath link twin a (xs ++ s ∷ []) s
-path_on link twin a r s [] path names = (subst (λ z. Names link twin z s) (sym path) names, refl)
-path_on link twin a r s (x ∷ xs) path names = (path.0, path_on link twin x r s xs path.1 names)
-
-module _ (n : ℕ) (link : ℕ → Link) (twin : ℕ → ℕ) (guard : ℕ → Guard) (position : ℕ → Position) (debts : ℕ → Debts) where
-  -- what a covered row names is covered
-  pub named_covered : (k g r s : ℕ) → Covers n link twin guard position debts k g r → Names link twin r s → Covers n link twin guard position debts k g s
-  named_covered k g r s v names = record {
-    inside = v.inside;
-    on = v.on;
-    at = v.at;
-    stands = v.stands;
-    reaches = record { through = v.reaches.through ++ s ∷ []; path = path_on link twin v.at r s v.reaches.through v.reaches.path names };
-  }
-
-  -- a caller's guard covers each row that the caller stands on
-  pub stand_covered : (cut : ℕ → Option CutRow) (holding : ℕ → Holding) → Cover n link twin guard position debts cut holding → (k a : ℕ) → k < n → In a (standing (position k) (debts k)) → (g : ℕ) × Covers n link twin guard position debts k g a
-  stand_covered cut holding cover k a b i = ⊎_elim
-      (λ g. (g.0, record { inside = b; on = g.1; at = a; stands = i; reaches = record { through = []; path = refl } }))
-      (λ off. absurd (subst (In a) (cover.resting k b off) i)) (on_or_not (guard k))
+use Rattle.crq_rule.proofs.CoverLaws.{stand_row, row_footing, names_covered, footing_covered}
 
 -- Links and twins that change at the row r alone
 
@@ -86,27 +47,29 @@ module _ (link link' : ℕ → Link) (twin twin' : ℕ → ℕ) (r : ℕ) (same 
   path_stays a b (x ∷ xs) out path = let names = names_on a x (out a (record { through = []; path = refl })) path.0 in
       (names, path_stays x b xs (λ s t. out s (record { through = x ∷ t.through; path = (path.0, t.path) })) path.1)
 
-  -- what the new ones cover was covered, where r wasn't
-  pub covers_same : (n : ℕ) (guard : ℕ → Guard) (position : ℕ → Position) (debts : ℕ → Debts) (k g s : ℕ) → ((x : ℕ) → Covers n link twin guard position debts k g x → x ≢ r)
-      → Covers n link' twin' guard position debts k g s → Covers n link twin guard position debts k g s
-  covers_same n guard position debts k g s out v = record {
-    inside = v.inside;
-    on = v.on;
-    at = v.at;
-    stands = v.stands;
-    reaches = record {
-      through = v.reaches.through;
-      path = path_back v.at s v.reaches.through (λ x t. out x (record { inside = v.inside; on = v.on; at = v.at; stands = v.stands; reaches = t })) v.reaches.path;
-    };
-  }
+  module _ (workers : ℕ) (guard : ℕ → Guard) (footing : ℕ → List ℕ) where
+    abbrev ground : Ground
+    ground = record { workers = workers; link = link; twin = twin; guard = guard; footing = footing }
 
-  -- what is reached from a covered row is reached by the new ones
-  pub reaches_same : (n : ℕ) (guard : ℕ → Guard) (position : ℕ → Position) (debts : ℕ → Debts) (k g a b : ℕ) → ((x : ℕ) → Covers n link twin guard position debts k g x → x ≢ r)
-      → k < n → guard k ≡ On g → In a (standing (position k) (debts k)) → Reaches link twin a b → Reaches link' twin' a b
-  reaches_same n guard position debts k g a b out inside on i t = record {
-    through = t.through;
-    path = path_stays a b t.through (λ s u. out s (record { inside = inside; on = on; at = a; stands = i; reaches = u })) t.path;
-  }
+    -- what the new ones cover was covered, where r wasn't
+    pub covers_same : (k g s : ℕ) → ((x : ℕ) → Covers ground k g x → x ≢ r) → Covers (record ground { link = link'; twin = twin' }) k g s → Covers ground k g s
+    covers_same k g s out v = record {
+      inside = v.inside;
+      on = v.on;
+      at = v.at;
+      stands = v.stands;
+      reaches = record {
+        through = v.reaches.through;
+        path = path_back v.at s v.reaches.through (λ x t. out x (record { inside = v.inside; on = v.on; at = v.at; stands = v.stands; reaches = t })) v.reaches.path;
+      };
+    }
+
+    -- what is reached from a row on which a caller stands is reached by the new ones
+    pub reaches_same : (k g a b : ℕ) → ((x : ℕ) → Covers ground k g x → x ≢ r) → k < workers → guard k ≡ On g → In a (footing k) → Reaches link twin a b → Reaches link' twin' a b
+    reaches_same k g a b out inside on i t = record {
+      through = t.through;
+      path = path_stays a b t.through (λ s u. out s (record { inside = inside; on = on; at = a; stands = i; reaches = u })) t.path;
+    }
 
   -- a list without r
   pub leads_same : (a : ℕ) (xs : List ℕ) → ((s : ℕ) → In s xs → s ≢ r) → Leads link a xs → Leads link' a xs
@@ -210,21 +173,24 @@ module _ (c : Core) (j r : ℕ) (x : Content) (b : j < c.start.layout.workers) (
   chained_else : (q s : ℕ) → IsHead q → In s (c.chain q) → s ≢ r
   chained_else q s d i = listed_else s q (inv.holders.in_chain q s d i).1
 
-  covered_else : (k g s : ℕ) → Covers c.start.layout.workers c.words.link c.words.twin c.guard c.position c.debts k g s → s ≢ r
+  covered_else : (k g s : ℕ) → Covers (ground_of c) k g s → s ≢ r
   covered_else k g s v e = inv.cover.free k g s j v (ap c.holding e ∙ held)
 
-  covers_old : (k g s : ℕ) → Covers c.start.layout.workers link twin c.guard c.position c.debts k g s → Covers c.start.layout.workers c.words.link c.words.twin c.guard c.position c.debts k g s
-  covers_old k g s v = covers_same c.words.link link c.words.twin twin r links_else twins_else c.start.layout.workers c.guard c.position c.debts k g s (λ y. covered_else k g y) v
+  covers_old : (k g s : ℕ) → Covers (record (ground_of c) { link = link; twin = twin }) k g s → Covers (ground_of c) k g s
+  covers_old k g s v = covers_same c.words.link link c.words.twin twin r links_else twins_else c.start.layout.workers c.guard (footings c.rows c.old c.copying) k g s (λ y. covered_else k g y) v
 
-  on_stand : (k a : ℕ) → k < c.start.layout.workers → In a (rows_of (c.position k).rows) → (g : ℕ) × Covers c.start.layout.workers c.words.link c.words.twin c.guard c.position c.debts k g a
-  on_stand k a d i = stand_covered _ _ _ _ _ _ _ _ inv.cover k a d (in_front (rows_of (c.position k).rows) _ a i)
+  on_stand : (k a : ℕ) → k < c.start.layout.workers → In a (rows_of (c.rows k)) → (g : ℕ) × Covers (ground_of c) k g a
+  on_stand k a d i = footing_covered (ground_of c) c.cut c.holding inv.cover k a d (row_footing c.rows c.old c.copying k a i)
 
-  stand_else : (k : ℕ) (s : Stand) → k < c.start.layout.workers → In s (c.position k).rows → s.row ≢ r
-  stand_else k s d i = let v = on_stand k s.row d (row_of_stand (c.position k).rows s i) in covered_else k v.0 s.row v.1
+  stand_else : (k : ℕ) (s : Stand) → k < c.start.layout.workers → In s (c.rows k) → s.row ≢ r
+  stand_else k s d i = let v = on_stand k s.row d (stand_row (c.rows k) s i) in covered_else k v.0 s.row v.1
 
   -- the row that the link of a covered row names
-  next_else : (k g s : ℕ) → Covers c.start.layout.workers c.words.link c.words.twin c.guard c.position c.debts k g s → 0 < (c.words.link s).row → (c.words.link s).row ≢ r
-  next_else k g s v above = covered_else k g (c.words.link s).row (named_covered _ _ _ _ _ _ k g s (c.words.link s).row v (above, inl refl))
+  next_else : (k g s : ℕ) → Covers (ground_of c) k g s → 0 < (c.words.link s).row → (c.words.link s).row ≢ r
+  next_else k g s v above = covered_else k g (c.words.link s).row (names_covered (ground_of c) k g s (c.words.link s).row v (above, inl refl))
+
+  guarded_old : (s : ℕ) → IsGuarded (record (ground_of c) { link = link; twin = twin }) s → IsGuarded (ground_of c) s
+  guarded_old s v = (v.0, v.1, covers_old v.0 v.1 s v.2)
 
   live_old : (s : ℕ) → IsLive c.start.layout link c.holding s → IsLive c.start.layout c.words.link c.holding s
   live_old s live = (live.0, live.1, ap (λ (l : Link). l.mark) (sym (links_else s (listed_else s live.1.0 live.1.1))) ∙ live.2)
@@ -278,14 +244,14 @@ module _ (c : Core) (j r : ℕ) (x : Content) (b : j < c.start.layout.workers) (
       last = λ k s l d i e. let h = inv.standing.last k s l d i e in (links_else s.row (stand_else k s d i) ∙ h.0, h.1);
     };
     lanes = record {
-      is_row = λ k g s v. inv.lanes.is_row k g s (covers_old k g s v);
-      rises = λ k g s v. let o = covers_old k g s v in subst (λ (l : Link). 0 < l.row → ranks event s < ranks event l.row) (sym (links_else s (covered_else k g s o)))
-          (λ above. subst (λ (e : Event). rank e s < ranks event (c.words.link s).row) (sym (events_else s (covered_else k g s o)))
-          (subst (λ (e : Event). ranks c.words.event s < rank e (c.words.link s).row) (sym (events_else (c.words.link s).row (next_else k g s o above))) (inv.lanes.rises k g s o above)));
-      stays = λ k g s v. let o = covers_old k g s v in subst (λ (l : Link). 0 < l.row → head_of c.words.control (event l.row) ≡ head_of c.words.control (event s)) (sym (links_else s (covered_else k g s o)))
-          (λ above. ap (head_of c.words.control) (events_else (c.words.link s).row (next_else k g s o above)) ∙ (inv.lanes.stays k g s o above ∙ ap (head_of c.words.control) (sym (events_else s (covered_else k g s o)))));
-      generation = λ k g s v. let o = covers_old k g s v in subst (λ (l : Link). 0 < l.row → (link l.row).generation ≡ l.generation) (sym (links_else s (covered_else k g s o)))
-          (λ above. ap (λ (l : Link). l.generation) (links_else (c.words.link s).row (next_else k g s o above)) ∙ inv.lanes.generation k g s o above);
+      is_row = λ s v. inv.lanes.is_row s (guarded_old s v);
+      rises = λ s v. let o = guarded_old s v in subst (λ (l : Link). 0 < l.row → ranks event s < ranks event l.row) (sym (links_else s (covered_else o.0 o.1 s o.2)))
+          (λ above. subst (λ (e : Event). rank e s < ranks event (c.words.link s).row) (sym (events_else s (covered_else o.0 o.1 s o.2)))
+          (subst (λ (e : Event). ranks c.words.event s < rank e (c.words.link s).row) (sym (events_else (c.words.link s).row (next_else o.0 o.1 s o.2 above))) (inv.lanes.rises s o above)));
+      stays = λ s v. let o = guarded_old s v in subst (λ (l : Link). 0 < l.row → head_of c.words.control (event l.row) ≡ head_of c.words.control (event s)) (sym (links_else s (covered_else o.0 o.1 s o.2)))
+          (λ above. ap (head_of c.words.control) (events_else (c.words.link s).row (next_else o.0 o.1 s o.2 above)) ∙ (inv.lanes.stays s o above ∙ ap (head_of c.words.control) (sym (events_else s (covered_else o.0 o.1 s o.2)))));
+      generation = λ s v. let o = guarded_old s v in subst (λ (l : Link). 0 < l.row → (link l.row).generation ≡ l.generation) (sym (links_else s (covered_else o.0 o.1 s o.2)))
+          (λ above. ap (λ (l : Link). l.generation) (links_else (c.words.link s).row (next_else o.0 o.1 s o.2 above)) ∙ inv.lanes.generation s o above);
     };
     writing = record {
       placed = λ k y. put_all c.written j new_words (λ k ys. k < c.start.layout.workers → In y ys → y.place < 6) (λ _ i. (wrote_in y i).1) (λ k _. inv.writing.placed k y) k;
@@ -294,8 +260,8 @@ module _ (c : Core) (j r : ℕ) (x : Content) (b : j < c.start.layout.workers) (
           (λ k ne d i. word_old k y d i (λ e _. ne (ap of_whom (sym (inv.holders.held k r d (subst (λ z. In z (c.hand k)) e (inv.writing.in_hand_is k y d i))).1 ∙ held)))) k;
     };
     naming = record {
-      named = λ s q d at. subst (λ (l : Link). l.mark ≡ Del → (k : ℕ) × (k < c.start.layout.workers) × (IsNamed (c.debts k).cut s (event s) ⊎ IsNamed (c.debts k).second_cut s (event s))) (sym (links_else s (listed_else s q at)))
-          (subst (λ (e : Event). (c.words.link s).mark ≡ Del → (k : ℕ) × (k < c.start.layout.workers) × (IsNamed (c.debts k).cut s e ⊎ IsNamed (c.debts k).second_cut s e)) (sym (events_else s (listed_else s q at))) (inv.naming.named s q d at));
+      named = λ s q d at. subst (λ (l : Link). l.mark ≡ Del → (k : ℕ) × (k < c.start.layout.workers) × (IsNamed (c.named k).first s (event s) ⊎ IsNamed (c.named k).second s (event s))) (sym (links_else s (listed_else s q at)))
+          (subst (λ (e : Event). (c.words.link s).mark ≡ Del → (k : ℕ) × (k < c.start.layout.workers) × (IsNamed (c.named k).first s e ⊎ IsNamed (c.named k).second s e)) (sym (events_else s (listed_else s q at))) (inv.naming.named s q d at));
       place = inv.naming.place;
     };
     carriers = record {
@@ -346,7 +312,7 @@ module _ (c : Core) (j r : ℕ) (x : Content) (b : j < c.start.layout.workers) (
       -- what links lead to from the row at which a walk stands they still lead to
       reached : (k : ℕ) (v : Walk) (s : ℕ) → k < c.start.layout.workers → c.walk k ≡ Some v → 0 < v.at → Reaches c.words.link c.words.twin v.at s → Reaches link twin v.at s
       reached k v s d at some t = ⊎_elim (λ (e : v.at ≡ 0). absurd (omega arith))
-          (λ i. let u = on_stand k v.at d i in reaches_same c.words.link link c.words.twin twin r links_else twins_else c.start.layout.workers c.guard c.position c.debts k u.0 v.at s (λ y. covered_else k u.0 y) d u.1.on (in_front (rows_of (c.position k).rows) _ v.at i) t)
+          (λ i. let u = on_stand k v.at d i in reaches_same c.words.link link c.words.twin twin r links_else twins_else c.start.layout.workers c.guard (footings c.rows c.old c.copying) k u.0 v.at s (λ y. covered_else k u.0 y) d u.1.on (row_footing c.rows c.old c.copying k v.at i) t)
           (inv.walkers.at_stand k v d at)
 
 -- Write

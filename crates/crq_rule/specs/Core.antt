@@ -4,13 +4,16 @@ use Rattle.std.specs.Prelude.{ℕ, List, Option, Bool}
 use Rattle.crq_base.specs.declared.event.Event.{Event}
 use Rattle.crq_base.specs.declared.entry.Entry.{Entry}
 use Rattle.crq_rule.specs.declared.debts.Debts.{Debts}
+use Rattle.crq_rule.specs.declared.debts.SettleDebt.{SettleDebt}
+use Rattle.crq_rule.specs.declared.debts.CutDebt.{CutDebt}
+use Rattle.crq_rule.specs.declared.debts.CopyDebt.{CopyDebt}
 use Rattle.crq_rule.specs.declared.layout.Start.{Start}
 use Rattle.crq_rule.specs.declared.view.Guard.{Guard}
 use Rattle.crq_rule.specs.declared.view.Tick.{Tick}
 use Rattle.crq_rule.specs.declared.view.CutRow.{CutRow}
 use Rattle.crq_rule.specs.declared.view.Base.{Base}
 use Rattle.crq_rule.specs.declared.view.Deal.{Deal}
-use Rattle.crq_rule.specs.declared.view.Position.{Position}
+use Rattle.crq_rule.specs.declared.view.Stand.{Stand}
 use Rattle.crq_rule.specs.declared.view.Found.{Found}
 use Rattle.crq_rule.specs.declared.view.Wrote.{Wrote}
 use Rattle.crq_rule.specs.declared.view.Walk.{Walk}
@@ -27,6 +30,11 @@ pub data Holding : Type 0 where
   listed : ℕ → Holding
   cut_by : ℕ → Holding
   retired : ℕ → Holding
+
+-- the dead rows that a caller still has to cut. Where there is one, it is the first
+pub record DeadNames : Type 0 where
+  pub first : Option CutDebt
+  pub second : Option CutDebt
 
 pub record Core : Type 0 where
   pub start : Start
@@ -50,9 +58,14 @@ pub record Core : Type 0 where
   pub ripening : ℕ → List (ℕ × ℕ)
   pub cut : ℕ → Option CutRow
   pub base : ℕ → Option Base
-  pub debts : ℕ → Debts
+  -- what it owes: an event to settle, a copy to bind, and dead rows to cut
+  pub settling : ℕ → Option SettleDebt
+  pub copying : ℕ → Option CopyDebt
+  pub named : ℕ → DeadNames
   pub permit : ℕ → Bool
-  pub position : ℕ → Position
+  -- where it stands: on rows of a list, and on a frozen row whose copy it has yet to link
+  pub rows : ℕ → List Stand
+  pub old : ℕ → Option Stand
   pub found : ℕ → Found
   pub written : ℕ → List Wrote
   pub walk : ℕ → Option Walk
@@ -61,6 +74,10 @@ pub record Core : Type 0 where
   pub clean : ℕ → List ℕ
   pub refused : ℕ → List Event
   pub told : ℕ → Told
+
+-- all that a caller owes
+abbrev pub owed_by : Option SettleDebt → Option CopyDebt → DeadNames → Debts
+owed_by settle copy names = record { settle = settle; copy = copy; cut = names.first; second_cut = names.second }
 
 -- what the caller j knows
 abbrev pub caller_of : Core → ℕ → Caller
@@ -77,9 +94,9 @@ caller_of c j = record {
   ripening = c.ripening j;
   cut = c.cut j;
   base = c.base j;
-  debts = c.debts j;
+  debts = owed_by (c.settling j) (c.copying j) (c.named j);
   permit = c.permit j;
-  position = c.position j;
+  position = record { rows = c.rows j; old = c.old j };
   found = c.found j;
   written = c.written j;
   walk = c.walk j;

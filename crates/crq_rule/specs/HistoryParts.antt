@@ -12,7 +12,7 @@ use Rattle.crq_base.specs.Lists.{In}
 use Rattle.crq_base.specs.Sources.{owner_of}
 use Rattle.crq_rule.specs.declared.layout.Layout.{Layout}
 use Rattle.crq_rule.specs.declared.view.Deal.{Deal}
-use Rattle.crq_rule.specs.declared.view.Position.{Position}
+use Rattle.crq_rule.specs.declared.view.Stand.{Stand}
 use Rattle.crq_rule.specs.declared.view.Walk.{Walk}
 use Rattle.crq_rule.specs.Places.{IsRow, IsHead}
 use Rattle.crq_rule.specs.Core.{Holding, listed}
@@ -58,8 +58,8 @@ pub record StandsFrom (l : Layout) (link : ℕ → Link) (twin : ℕ → ℕ) (e
   pub holds : event row ≡ e
   pub reached : Reaches link twin at row
 
-pub record Walkers (l : Layout) (control : Control) (history : List Entry) (begun : ℕ → ℕ) (link : ℕ → Link) (twin : ℕ → ℕ) (event : ℕ → Event) (holding : ℕ → Holding) (position : ℕ → Position) (walk : ℕ → Option Walk) : Type 0 where
+pub record Walkers (l : Layout) (control : Control) (history : List Entry) (begun : ℕ → ℕ) (link : ℕ → Link) (twin : ℕ → ℕ) (event : ℕ → Event) (holding : ℕ → Holding) (rows : ℕ → List Stand) (walk : ℕ → Option Walk) : Type 0 where
   pub opened : (k : ℕ) (w : Walk) → k < l.workers → walk k ≡ Some w → IsHead w.head × IsOpen control w.head
-  pub at_stand : (k : ℕ) (w : Walk) → k < l.workers → walk k ≡ Some w → (w.at ≡ 0) ⊎ In w.at (rows_of (position k).rows)
+  pub at_stand : (k : ℕ) (w : Walk) → k < l.workers → walk k ≡ Some w → (w.at ≡ 0) ⊎ In w.at (rows_of (rows k))
   pub left : (k : ℕ) (w : Walk) (front back : List Entry) (e : Event) → k < l.workers → walk k ≡ Some w → history ≡ front ++ back → length front ≡ begun k
       → head_of control e ≡ w.head → Contains (puts front) e → (Contains (outs history) e → ⊥) → StandsFrom l link twin event holding w.at e

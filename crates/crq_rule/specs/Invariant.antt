@@ -1,6 +1,6 @@
 -- The invariant that every step keeps.
 use Rattle.crq_rule.specs.Core.{Core}
-use Rattle.crq_rule.specs.Parts.{Spelled, Reading, Guards, Holders, Cutting, Stamps, Chains, Cover}
+use Rattle.crq_rule.specs.Parts.{ground_of, Spelled, Reading, Guards, Holders, Cutting, Stamps, Chains, Cover}
 use Rattle.crq_rule.specs.ListParts.{Heads, Sorted, Marks, Standing, Lanes, Writing, Naming}
 use Rattle.crq_rule.specs.HistoryParts.{Carriers, Told, Walkers}
 use Rattle.crq_rule.specs.ScarceParts.{Scarce, Refusals, Swept}
@@ -13,17 +13,17 @@ pub record Inv (c : Core) : Type 0 where
   pub cutting : Cutting c.start.layout.workers c.guard c.cut
   pub stamps : Stamps c.start.layout c.words.epoch c.words.stamp c.ripening c.holding
   pub chains : Chains c.words.head c.words.link c.words.twin c.chain
-  pub cover : Cover c.start.layout.workers c.words.link c.words.twin c.guard c.position c.debts c.cut c.holding
+  pub cover : Cover (ground_of c) c.cut c.holding
   pub heads : Heads c.words.control c.words.head
   pub sorted : Sorted c.words.control c.words.head c.words.link c.words.event c.chain
   pub marks : Marks c.start.layout c.words.link c.words.twin c.holding
-  pub standing : Standing c.start.layout.workers c.words.link c.words.event c.position
-  pub lanes : Lanes c.start.layout c.words.control c.words.link c.words.twin c.words.event c.guard c.position c.debts
+  pub standing : Standing c.start.layout.workers c.words.link c.words.event c.rows
+  pub lanes : Lanes c.start.layout c.words.control (ground_of c) c.words.event
   pub writing : Writing c.start.layout.workers c.words.link c.words.twin c.words.event c.hand c.written
-  pub naming : Naming c.start.layout c.words.control c.words.link c.words.event c.debts c.holding
+  pub naming : Naming c.start.layout c.words.control c.words.link c.words.event c.named c.holding
   pub carriers : Carriers c.start.layout c.history c.words.link c.words.event c.holding
   pub told : Told c.start.layout.workers c.history c.deal c.own c.begun
-  pub walkers : Walkers c.start.layout c.words.control c.history c.begun c.words.link c.words.twin c.words.event c.holding c.position c.walk
+  pub walkers : Walkers c.start.layout c.words.control c.history c.begun c.words.link c.words.twin c.words.event c.holding c.rows c.walk
   pub scarce : Scarce c.start.layout c.words.epoch c.history c.base c.guard c.holding
   pub refusals : Refusals c.start.layout.workers c.history c.refused
   pub swept : Swept c.start.layout c.history c.words.event c.chain c.sweep c.clean

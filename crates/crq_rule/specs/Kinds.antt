@@ -85,7 +85,7 @@ abbrev pub leaves : Caller → Caller
 leaves p = record p { guard = Off; position = nowhere; walk = None }
 
 abbrev pub left : Core → ℕ → Core
-left c j = record c { words = record c.words { announced = put c.words.announced j 0 }; guard = put c.guard j Off; position = put c.position j nowhere; walk = put c.walk j None }
+left c j = record c { words = record c.words { announced = put c.words.announced j 0 }; guard = put c.guard j Off; rows = put c.rows j []; old = put c.old j None; walk = put c.walk j None }
 
 -- Scan: the announcement of caller k was found to be the word r
 abbrev pub scans : ℕ → ℕ → Caller → Caller

@@ -206,11 +206,11 @@ walks cell seeks l e p = record p {
 
 abbrev pub walked_from : Core → ℕ → Cell → Bool → Core
 walked_from c j cell seeks = let l = link_at c.words.head c.words.link cell in let e = c.words.event l.row in record c {
-  position = put c.position j (record { rows = stands_after cell seeks l e (c.position j).rows; old = (c.position j).old });
+  rows = put c.rows j (stands_after cell seeks l e (c.rows j));
   walk = put c.walk j (walk_after cell seeks l (c.walk j));
-  sweep = put c.sweep j (sweep_on (taken_on seeks (c.found j).control cell (c.position j).rows (c.sweep j)) l e (c.sweep j));
-  clean = put c.clean j (clean_on (taken_on seeks (c.found j).control cell (c.position j).rows (c.sweep j)) l (c.clean j));
-  debts = put c.debts j (record (c.debts j) { cut = relieved (c.found j).control cell (c.position j).rows l e (c.debts j).cut });
+  sweep = put c.sweep j (sweep_on (taken_on seeks (c.found j).control cell (c.rows j) (c.sweep j)) l e (c.sweep j));
+  clean = put c.clean j (clean_on (taken_on seeks (c.found j).control cell (c.rows j) (c.sweep j)) l (c.clean j));
+  named = put c.named j (record (c.named j) { first = relieved (c.found j).control cell (c.rows j) l e (c.named j).first });
 }
 
 -- Link: the row r, which holds the event e, comes after the cell, whose link was l. The event is put, and settled at once
@@ -281,7 +281,7 @@ marked c j r e = record c {
   history = c.history ++ Take j e ∷ [];
   own = put c.own j (c.own j ++ Take j e ∷ []);
   walk = put c.walk j None;
-  debts = put c.debts j (record (c.debts j) { cut = Some (cut_debt c.words.control r e) });
+  named = put c.named j (record (c.named j) { first = Some (cut_debt c.words.control r e) });
 }
 
 -- Cut: the dead row x, whose last link is l, leaves the list behind the cell
@@ -310,8 +310,8 @@ cut_from c j cell x l = let q = head_of c.words.control (c.words.event x) in let
   holding = put c.holding x (cut_by j);
   cut = put c.cut j (Some (record { row = x; tags = [] }));
   walk = put c.walk j None;
-  position = put c.position j (record (c.position j) { rows = without_stand x (c.position j).rows });
-  debts = put c.debts j (record (c.debts j) { cut = unnamed x (c.debts j).cut });
+  rows = put c.rows j (without_stand x (c.rows j));
+  named = put c.named j (record (c.named j) { first = unnamed x (c.named j).first });
 }
 
 -- Miss

@@ -8,15 +8,12 @@ use Rattle.crq_base.specs.declared.words.Control.{Control}
 use Rattle.crq_base.specs.Words.{link_word}
 use Rattle.crq_base.specs.Lists.{In}
 use Rattle.crq_rule.specs.declared.debts.CutDebt.{CutDebt}
-use Rattle.crq_rule.specs.declared.debts.Debts.{Debts}
 use Rattle.crq_rule.specs.declared.layout.Layout.{Layout}
-use Rattle.crq_rule.specs.declared.view.Guard.{Guard}
-use Rattle.crq_rule.specs.declared.view.Position.{Position}
 use Rattle.crq_rule.specs.declared.view.Stand.{Stand}
 use Rattle.crq_rule.specs.declared.view.Wrote.{Wrote}
 use Rattle.crq_rule.specs.Places.{IsRow, IsHead}
-use Rattle.crq_rule.specs.Core.{Holding, in_hand, listed, cut_by, retired}
-use Rattle.crq_rule.specs.Parts.{Covers, IsEvent}
+use Rattle.crq_rule.specs.Core.{Holding, DeadNames, in_hand, listed, cut_by, retired}
+use Rattle.crq_rule.specs.Parts.{Ground, IsGuarded, IsEvent}
 use Rattle.crq_rule.specs.Ranks.{rank, head_of, IsOpen, Rises}
 
 abbrev pub ranks : (ℕ → Event) → ℕ → ℕ
@@ -71,17 +68,17 @@ IsFinal Invalid = ⊥
 IsFinal Mov = Unit {0}
 IsFinal Del = Unit {0}
 
-pub record Standing (n : ℕ) (link : ℕ → Link) (event : ℕ → Event) (position : ℕ → Position) : Type 0 where
-  pub holds : (k : ℕ) (s : Stand) → k < n → In s (position k).rows → event s.row ≡ s.event
-  pub last : (k : ℕ) (s : Stand) (l : Link) → k < n → In s (position k).rows → s.last ≡ Some l → (link s.row ≡ l) × IsFinal l.mark
+pub record Standing (n : ℕ) (link : ℕ → Link) (event : ℕ → Event) (rows : ℕ → List Stand) : Type 0 where
+  pub holds : (k : ℕ) (s : Stand) → k < n → In s (rows k) → event s.row ≡ s.event
+  pub last : (k : ℕ) (s : Stand) (l : Link) → k < n → In s (rows k) → s.last ≡ Some l → (link s.row ≡ l) × IsFinal l.mark
 
 -- 11. Lanes: from a row that a guard covers links lead on to greater rows of the same list
 
-pub record Lanes (l : Layout) (control : Control) (link : ℕ → Link) (twin : ℕ → ℕ) (event : ℕ → Event) (guard : ℕ → Guard) (position : ℕ → Position) (debts : ℕ → Debts) : Type 0 where
-  pub is_row : (k g r : ℕ) → Covers l.workers link twin guard position debts k g r → IsRow l r
-  pub rises : (k g r : ℕ) → Covers l.workers link twin guard position debts k g r → 0 < (link r).row → ranks event r < ranks event (link r).row
-  pub stays : (k g r : ℕ) → Covers l.workers link twin guard position debts k g r → 0 < (link r).row → head_of control (event (link r).row) ≡ head_of control (event r)
-  pub generation : (k g r : ℕ) → Covers l.workers link twin guard position debts k g r → 0 < (link r).row → (link (link r).row).generation ≡ (link r).generation
+pub record Lanes (l : Layout) (control : Control) (ground : Ground) (event : ℕ → Event) : Type 0 where
+  pub is_row : (r : ℕ) → IsGuarded ground r → IsRow l r
+  pub rises : (r : ℕ) → IsGuarded ground r → 0 < (ground.link r).row → ranks event r < ranks event (ground.link r).row
+  pub stays : (r : ℕ) → IsGuarded ground r → 0 < (ground.link r).row → head_of control (event (ground.link r).row) ≡ head_of control (event r)
+  pub generation : (r : ℕ) → IsGuarded ground r → 0 < (ground.link r).row → (ground.link (ground.link r).row).generation ≡ (ground.link r).generation
 
 -- 12. Writing: the words that a caller wrote stand in its rows in hand
 
@@ -105,6 +102,6 @@ abbrev pub IsNamed : Option CutDebt → ℕ → Event → Type 0
 IsNamed None r e = ⊥
 IsNamed (Some d) r e = (d.row ≡ r) × (d.event ≡ e)
 
-pub record Naming (l : Layout) (control : Control) (link : ℕ → Link) (event : ℕ → Event) (debts : ℕ → Debts) (holding : ℕ → Holding) : Type 0 where
-  pub named : (r q : ℕ) → IsRow l r → holding r ≡ listed q → (link r).mark ≡ Del → (k : ℕ) × (k < l.workers) × (IsNamed (debts k).cut r (event r) ⊎ IsNamed (debts k).second_cut r (event r))
-  pub place : (k : ℕ) (d : CutDebt) → k < l.workers → (debts k).cut ≡ Some d → (d.head ≡ head_of control d.event) × IsRow l d.row × IsEvent d.event
+pub record Naming (l : Layout) (control : Control) (link : ℕ → Link) (event : ℕ → Event) (names : ℕ → DeadNames) (holding : ℕ → Holding) : Type 0 where
+  pub named : (r q : ℕ) → IsRow l r → holding r ≡ listed q → (link r).mark ≡ Del → (k : ℕ) × (k < l.workers) × (IsNamed (names k).first r (event r) ⊎ IsNamed (names k).second r (event r))
+  pub place : (k : ℕ) (d : CutDebt) → k < l.workers → (names k).first ≡ Some d → (d.head ≡ head_of control d.event) × IsRow l d.row × IsEvent d.event

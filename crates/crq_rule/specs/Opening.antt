@@ -68,9 +68,12 @@ opening_core s = record {
   ripening = λ j. (fresh s j).ripening;
   cut = λ j. (fresh s j).cut;
   base = λ j. (fresh s j).base;
-  debts = λ j. (fresh s j).debts;
+  settling = λ _. None;
+  copying = λ _. None;
+  named = λ _. record { first = None; second = None };
   permit = λ j. (fresh s j).permit;
-  position = λ j. (fresh s j).position;
+  rows = λ _. [];
+  old = λ _. None;
   found = λ j. (fresh s j).found;
   written = λ j. (fresh s j).written;
   walk = λ j. (fresh s j).walk;

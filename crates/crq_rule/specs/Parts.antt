@@ -8,17 +8,15 @@ use Rattle.crq_base.specs.declared.words.Pin.{Pin}
 use Rattle.crq_base.specs.Words.{IsLink, IsControl, IsCurrent, IsPin}
 use Rattle.crq_base.specs.Lists.{In, IsOnce}
 use Rattle.crq_rule.specs.declared.debts.CopyDebt.{CopyDebt}
-use Rattle.crq_rule.specs.declared.debts.Debts.{Debts}
 use Rattle.crq_rule.specs.declared.layout.Layout.{Layout}
 use Rattle.crq_rule.specs.declared.view.Guard.{Guard}
 use Rattle.crq_rule.specs.declared.view.Guard.TheVariants.{Off, Entering, On}
 use Rattle.crq_rule.specs.declared.view.Tick.{Tick}
 use Rattle.crq_rule.specs.declared.view.CutRow.{CutRow}
-use Rattle.crq_rule.specs.declared.view.Position.{Position}
 use Rattle.crq_rule.specs.declared.view.Found.{Found}
 use Rattle.crq_rule.specs.declared.view.Stand.{Stand}
 use Rattle.crq_rule.specs.Places.{IsRow, IsHomeRow, IsHead}
-use Rattle.crq_rule.specs.Core.{Holding, in_hand, listed, cut_by, retired}
+use Rattle.crq_rule.specs.Core.{Core, Holding, in_hand, listed, cut_by, retired}
 
 -- 1. Spelling: each word has a value
 
@@ -138,32 +136,47 @@ abbrev pub rows_of_copy : Option CopyDebt → List ℕ
 rows_of_copy None = []
 rows_of_copy (Some d) = d.old ∷ d.copy ∷ []
 
-abbrev pub rows_of_old : Option ℕ → List ℕ
+abbrev pub rows_of_old : Option Stand → List ℕ
 rows_of_old None = []
-rows_of_old (Some r) = r ∷ []
+rows_of_old (Some s) = s.row ∷ []
 
 abbrev pub rows_of : List Stand → List ℕ
 rows_of [] = []
 rows_of (s ∷ ss) = s.row ∷ rows_of ss
 
 -- the rows that a caller stands on: of a list, the frozen row whose copy isn't linked yet, and both rows of a copy that it owes
-abbrev pub standing : Position → Debts → List ℕ
-standing p d = rows_of p.rows ++ (rows_of_old p.old ++ rows_of_copy d.copy)
+abbrev pub footings : (ℕ → List Stand) → (ℕ → Option Stand) → (ℕ → Option CopyDebt) → ℕ → List ℕ
+footings rows old copying k = rows_of (rows k) ++ (rows_of_old (old k) ++ rows_of_copy (copying k))
+
+-- what tells which rows are covered: where each caller stands, what its guard found, and which rows name which
+pub record Ground : Type 0 where
+  pub workers : ℕ
+  pub link : ℕ → Link
+  pub twin : ℕ → ℕ
+  pub guard : ℕ → Guard
+  pub footing : ℕ → List ℕ
+
+abbrev pub ground_of : Core → Ground
+ground_of c = record { workers = c.start.layout.workers; link = c.words.link; twin = c.words.twin; guard = c.guard; footing = footings c.rows c.old c.copying }
 
 -- the guard of caller k, which is on and found g, covers the row r
-pub record Covers (n : ℕ) (link : ℕ → Link) (twin : ℕ → ℕ) (guard : ℕ → Guard) (position : ℕ → Position) (debts : ℕ → Debts) (k g r : ℕ) : Type 0 where
-  pub inside : k < n
-  pub on : guard k ≡ On g
+pub record Covers (ground : Ground) (k g r : ℕ) : Type 0 where
+  pub inside : k < ground.workers
+  pub on : ground.guard k ≡ On g
   pub at : ℕ
-  pub stands : In at (standing (position k) (debts k))
-  pub reaches : Reaches link twin at r
+  pub stands : In at (ground.footing k)
+  pub reaches : Reaches ground.link ground.twin at r
+
+-- some guard covers the row
+abbrev pub IsGuarded : Ground → ℕ → Type 0
+IsGuarded ground r = (k : ℕ) × (g : ℕ) × Covers ground k g r
 
 -- the row r was retired with the tag t, or its cutter loaded the epoch t since the cut
 abbrev pub HasTag : ℕ → (ℕ → Option CutRow) → (ℕ → Holding) → ℕ → ℕ → Type 0
 HasTag n cut holding r t = (holding r ≡ retired t) ⊎ ((j : ℕ) × (x : CutRow) × (j < n) × (cut j ≡ Some x) × (x.row ≡ r) × In t x.tags)
 
-pub record Cover (n : ℕ) (link : ℕ → Link) (twin : ℕ → ℕ) (guard : ℕ → Guard) (position : ℕ → Position) (debts : ℕ → Debts) (cut : ℕ → Option CutRow) (holding : ℕ → Holding) : Type 0 where
-  pub free : (k g r j : ℕ) → Covers n link twin guard position debts k g r → holding r ≡ in_hand j → ⊥
-  pub tags : (k g r t : ℕ) → Covers n link twin guard position debts k g r → HasTag n cut holding r t → g ≤ t
+pub record Cover (ground : Ground) (cut : ℕ → Option CutRow) (holding : ℕ → Holding) : Type 0 where
+  pub free : (k g r j : ℕ) → Covers ground k g r → holding r ≡ in_hand j → ⊥
+  pub tags : (k g r t : ℕ) → Covers ground k g r → HasTag ground.workers cut holding r t → g ≤ t
   -- a caller stands on rows only while its guard is on
-  pub resting : (k : ℕ) → k < n → (IsOn (guard k) → ⊥) → standing (position k) (debts k) ≡ []
+  pub resting : (k : ℕ) → k < ground.workers → (IsOn (ground.guard k) → ⊥) → ground.footing k ≡ []

@@ -17,15 +17,14 @@ use Rattle.crq_base.specs.Lists.{In, IsOnce}
 use Rattle.crq_base.specs.Sources.{owner_of}
 use Rattle.crq_base.specs.Refusals.{AreCounted}
 use Rattle.crq_rule.specs.declared.debts.CutDebt.{CutDebt}
-use Rattle.crq_rule.specs.declared.debts.Debts.{Debts}
 use Rattle.crq_rule.specs.declared.layout.Layout.{Layout}
 use Rattle.crq_rule.specs.declared.view.Guard.TheVariants.{Off, Entering, On}
 use Rattle.crq_rule.specs.declared.view.CutRow.{CutRow}
 use Rattle.crq_rule.specs.declared.view.Base.{Base}
 use Rattle.crq_rule.specs.declared.view.Walk.{Walk}
 use Rattle.crq_rule.specs.Places.{Place, spare, epoch, announced, control, current, pin, head, link, stamp, twin, time, source, sequence, load, IsPlace, IsRow, IsHomeRow, IsHead, word_of}
-use Rattle.crq_rule.specs.Core.{Core, Holding, in_hand, listed, cut_by, retired}
-use Rattle.crq_rule.specs.Parts.{NotAfter, IsOn, LetsRise, Leads, Names, Reaches, Covers, HasTag}
+use Rattle.crq_rule.specs.Core.{Core, DeadNames, Holding, in_hand, listed, cut_by, retired}
+use Rattle.crq_rule.specs.Parts.{ground_of, NotAfter, IsOn, LetsRise, Leads, Names, Reaches, Covers, HasTag}
 use Rattle.crq_rule.specs.Ranks.{head_of, IsOpen}
 use Rattle.crq_rule.specs.ListParts.{IsOpenHead, IsShutHead}
 use Rattle.crq_rule.specs.HistoryParts.{IsLive, EndsInBegin}
@@ -100,7 +99,7 @@ pub record GuardsHold (c : Core) : Type 0 where
 
 -- the guard of caller k, which is on and found g, covers the row r
 abbrev pub IsCovered : Core → ℕ → ℕ → ℕ → Type 0
-IsCovered c k g r = Covers c.start.layout.workers c.words.link c.words.twin c.guard c.position c.debts k g r
+IsCovered c k g r = Covers (ground_of c) k g r
 
 -- No guard covers a row in hand, and no head, listed row or covered row names one. Where a guard that found g covers a row that was cut, with the tag t, g is at most t
 pub record CoverHolds (c : Core) : Type 0 where
@@ -140,8 +139,8 @@ abbrev pub IsInHand : Core → ℕ → Type 0
 IsInHand c r = (j : ℕ) × (c.holding r ≡ in_hand j)
 
 -- the row r, which holds the event e, is still to be cut, by what is owed here
-abbrev pub OwesCut : Debts → ℕ → Event → Type 0
-OwesCut d r e = (x : CutDebt) × ((d.cut ≡ Some x) ⊎ (d.second_cut ≡ Some x)) × (x.row ≡ r) × (x.event ≡ e)
+abbrev pub OwesCut : DeadNames → ℕ → Event → Type 0
+OwesCut d r e = (x : CutDebt) × ((d.first ≡ Some x) ⊎ (d.second ≡ Some x)) × (x.row ≡ r) × (x.event ≡ e)
 
 -- The heads of the open table are open and of its generation, and have their lists; all others are shut and empty. Links of covered rows lead on as those of listed ones do. A listed row is VAL or DEL;
 -- a row that is VAL and not in hand is listed, and one that was cut or retired is DEL. No row that isn't in hand has a twin. Each listed row that is DEL is owed to be cut by a caller that names it by
@@ -155,7 +154,7 @@ pub record ListsHold (c : Core) : Type 0 where
   pub cut : (r j : ℕ) → IsRow c.start.layout r → c.holding r ≡ cut_by j → (c.words.link r).mark ≡ Del
   pub retired : (r t : ℕ) → IsRow c.start.layout r → c.holding r ≡ retired t → (c.words.link r).mark ≡ Del
   pub twins : (r : ℕ) → IsRow c.start.layout r → (IsInHand c r → ⊥) → c.words.twin r ≡ 0
-  pub named : (r q : ℕ) → IsRow c.start.layout r → c.holding r ≡ listed q → (c.words.link r).mark ≡ Del → (k : ℕ) × (k < c.start.layout.workers) × OwesCut (c.debts k) r (c.words.event r)
+  pub named : (r q : ℕ) → IsRow c.start.layout r → c.holding r ≡ listed q → (c.words.link r).mark ≡ Del → (k : ℕ) × (k < c.start.layout.workers) × OwesCut (c.named k) r (c.words.event r)
 
 -- 6. Carriers
 

@@ -44,10 +44,10 @@ pub struct Stand {
 }
 
 /// The rows of a list that a caller stands on, the one found last first, and the frozen row whose copy it hasn't linked
-/// yet.
+/// yet, with what it knew of that row.
 pub struct Position {
     pub rows: LinkedList<Stand>,
-    pub old: Option<u64>,
+    pub old: Option<Stand>,
 }
 
 /// Words that the present call has read, and that it may rely on: the last control word and current.
