@@ -154,7 +154,7 @@ may_link n table x op b pass of i = record {
   control = i.list_is.control;
   in_hand_is = i.held;
   event = i.event;
-  expected = (i.at.0.passed.bits, i.at.0.passed.present);
+  expected = (i.at.0.passed.bits, i.at.0.passed.present, i.at.0.passed.generation);
   written = i.at.1;
   after = comes_after x op.list op.event op.row b.spot (caller table pass) (row_low table.start.layout op.row (hand_row table pass of op.row i.held)) stands i.list_is.is_head i.of_list i.at.0.passed.reached;
   before = comes_before op.event op.row b.link.row (caller table pass).position.rows i.event (row_low table.start.layout op.row (hand_row table pass of op.row i.held)) i.at.0.after;
@@ -230,6 +230,7 @@ module _ (m : Made) (r place word : ℕ) (p : Caller) where
     passed = record {
       bits = is.passed.bits;
       present = is.passed.present;
+      generation = is.passed.generation;
       known = known_else n p.made m (index table.start.layout (cell_place (cell b.spot))) begun ne ∙ is.passed.known;
       reached = reached_stays x sought.list.head sought.target b.spot is.passed.reached;
       swept = sweep_stays n p.made after_write.made m refl begun table.start.layout (at_head sought.list.head) (at_row b.link.row) is.passed.swept;

@@ -16,7 +16,7 @@ use Rattle.crq_rule.specs.declared.view.Stand.{Stand}
 use Rattle.crq_rule.specs.Places.{index, IsHead, link}
 use Rattle.crq_rule.specs.Parts.{IsEvent}
 use Rattle.crq_rule.specs.Ranks.{rank, head_of, Cell, at_head, at_row, cell_place}
-use Rattle.crq_rule.specs.ListKinds.{StandsOn, is_val, is_final, is_beyond, relieved, next_stand, only_row, ended, kept_stands, stands_after, without_stand, event_word, row_place}
+use Rattle.crq_rule.specs.ListKinds.{StandsOn, is_val, is_final, is_cell, is_beyond, is_past, is_other_front, relieved, next_stand, only_row, ended, kept_stands, stands_after, without_stand, event_word, row_place}
 use Rattle.crq_list.specs.Spots.{rank_at}
 use Rattle.crq_list.specs.Seeking.{HasRead, key_part, part_of}
 
@@ -116,32 +116,36 @@ none_some d is = cc
 not_past : (r a b : ℕ) → (eqb r 0 || ltb a b) ≡ false → (0 < r) × (b ≤ a)
 not_past r a b h = (grind (arith, nat_tests), grind (arith, nat_tests))
 
--- a walk that found its cell present leaves the dead row owed only where it isn't past it
-pub still_ahead : (x : Option Control) (cell : Cell) (ss : List Stand) (l : Link) (e : Event) (o : Option CutDebt) (d : CutDebt) → l.mark ≡ Val → is_beyond x cell ss d ≡ true
+-- a walk that found its cell present, in the name's table, leaves the dead row owed only where it isn't past it
+pub still_ahead : (x : Option Control) (cell : Cell) (ss : List Stand) (l : Link) (e : Event) (o : Option CutDebt) (d : CutDebt) → l.mark ≡ Val → l.generation ≡ d.generation → is_beyond x cell ss d ≡ true
     → relieved x cell ss l e o ≡ Some d → (0 < l.row) × (rank e l.row ≤ rank d.event d.row)
-still_ahead x cell ss l e None d present beyond is = absurd (none_some d is)
-still_ahead x cell ss l e (Some a) d present beyond is = go (is_val l.mark && (is_beyond x cell ss a && (eqb l.row 0 || ltb (rank a.event a.row) (rank e l.row)))) refl is
+still_ahead x cell ss l e None d present same beyond is = absurd (none_some d is)
+still_ahead x cell ss l e (Some a) d present same beyond is = go (is_past x cell ss l e a) refl is
   where
-    go : (b : Bool) → (is_val l.mark && (is_beyond x cell ss a && (eqb l.row 0 || ltb (rank a.event a.row) (rank e l.row)))) ≡ b → cond b None (Some a) ≡ Some d → (0 < l.row) × (rank e l.row ≤ rank d.event d.row)
+    left : (b : Bool) → cond b None (Some a) ≡ Some d → a ≡ d
+    left true is = absurd (none_some d is)
+    left false is = some_one a d is
+
+    go : (b : Bool) → is_past x cell ss l e a ≡ b → cond (b || is_other_front cell l a) None (Some a) ≡ Some d → (0 < l.row) × (rank e l.row ≤ rank d.event d.row)
     go true t is = absurd (none_some d is)
     go false t is = not_past l.row (rank d.event d.row) (rank e l.row)
-        (sym (λ i. is_val (present i) && (beyond i && (eqb l.row 0 || ltb (rank d.event d.row) (rank e l.row))))
-        ∙ subst (λ (z : CutDebt). (is_val l.mark && (is_beyond x cell ss z && (eqb l.row 0 || ltb (rank z.event z.row) (rank e l.row)))) ≡ false) (some_one a d is) t)
+        (sym (λ i. is_cell (present i) && (eq-eqb l.generation d.generation same i && (beyond i && (eqb l.row 0 || ltb (rank d.event d.row) (rank e l.row)))))
+        ∙ subst (λ (z : CutDebt). is_past x cell ss l e z ≡ false) (left (is_other_front cell l a) is) t)
 
 pub was_owed : (x : Option Control) (cell : Cell) (ss : List Stand) (l : Link) (e : Event) (o : Option CutDebt) (d : CutDebt) → relieved x cell ss l e o ≡ Some d → o ≡ Some d
 was_owed x cell ss l e None d is = is
-was_owed x cell ss l e (Some a) d is = cond_both (is_val l.mark && (is_beyond x cell ss a && (eqb l.row 0 || ltb (rank a.event a.row) (rank e l.row)))) None (Some a) (λ o. o ≡ Some d → Some a ≡ Some d)
+was_owed x cell ss l e (Some a) d is = cond_both (is_past x cell ss l e a || is_other_front cell l a) None (Some a) (λ o. o ≡ Some d → Some a ≡ Some d)
     (λ _ n. absurd (none_some d n)) (λ _ i. i) is
 
 -- the row r, on which the caller stands with f, doesn't come after the dead row
-pub beyond_row : (x : Control) (r : ℕ) (ss : List Stand) (d : CutDebt) (f : Event) → ((g : Event) → StandsOn ss r g → g ≡ f) → StandsOn ss r f → head_of x f ≡ d.head → rank f r ≤ rank d.event d.row
+pub beyond_row : (x : Control) (r : ℕ) (ss : List Stand) (d : CutDebt) (f : Event) → ((g : Event) → StandsOn ss r g → g ≡ f) → StandsOn ss r f → x.generation ≡ d.generation → head_of x f ≡ d.head → rank f r ≤ rank d.event d.row
     → is_beyond (Some x) (at_row r) ss d ≡ true
-beyond_row x r [] d f one on same low = absurd on.1
-beyond_row x r (s ∷ ss) d f one on same low = dite (ℕ_discrete s.row r)
-    (λ e. let is = one s.event (s, inl refl, e, refl) in ap (λ b. cond b (eqb (head_of x s.event) d.head && leb (rank s.event r) (rank d.event d.row)) (is_beyond (Some x) (at_row r) ss d)) (eq-eqb s.row r e)
-    ∙ (λ i. eq-eqb (head_of x s.event) d.head (ap (head_of x) is ∙ same) i && le-leb (rank s.event r) (rank d.event d.row) (subst (λ z. rank z r ≤ rank d.event d.row) (sym is) low) i))
-    (λ ne. ap (λ b. cond b (eqb (head_of x s.event) d.head && leb (rank s.event r) (rank d.event d.row)) (is_beyond (Some x) (at_row r) ss d)) (ne_eqb s.row r ne)
-    ∙ beyond_row x r ss d f (λ g h. one g (h.0, inr h.1, h.2, h.3)) (on.0, ⊎_elim (λ (e : on.0 ≡ s). absurd (ne (ap (λ (z : Stand). z.row) (sym e) ∙ on.2))) (λ i. i) on.1, on.2, on.3) same low)
+beyond_row x r [] d f one on now same low = absurd on.1
+beyond_row x r (s ∷ ss) d f one on now same low = let here = eqb x.generation d.generation && (eqb (head_of x s.event) d.head && leb (rank s.event r) (rank d.event d.row)) in dite (ℕ_discrete s.row r)
+    (λ e. let is = one s.event (s, inl refl, e, refl) in ap (λ b. cond b here (is_beyond (Some x) (at_row r) ss d)) (eq-eqb s.row r e)
+    ∙ (λ i. eq-eqb x.generation d.generation now i && (eq-eqb (head_of x s.event) d.head (ap (head_of x) is ∙ same) i && le-leb (rank s.event r) (rank d.event d.row) (subst (λ z. rank z r ≤ rank d.event d.row) (sym is) low) i)))
+    (λ ne. ap (λ b. cond b here (is_beyond (Some x) (at_row r) ss d)) (ne_eqb s.row r ne)
+    ∙ beyond_row x r ss d f (λ g h. one g (h.0, inr h.1, h.2, h.3)) (on.0, ⊎_elim (λ (e : on.0 ≡ s). absurd (ne (ap (λ (z : Stand). z.row) (sym e) ∙ on.2))) (λ i. i) on.1, on.2, on.3) now same low)
 
 -- Places
 

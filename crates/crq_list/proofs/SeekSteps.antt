@@ -137,18 +137,25 @@ module _ (n : ℕ) (table : Table) (x : Control) (sought : Sought) (p : Caller) 
   reached_walk (Head h) l e reached = reached
   reached_walk (Row r) l e reached = (reached.0, walk_here r false l e p.position.rows reached.0 reached.1, reached.2, reached.3)
 
+  -- the link of a spot of the list is of its table
+  spot_now : (spot : Spot) (l : Link) → IsListOf x sought.list p → IsReached x sought.list.head sought.target spot p → IsWalkable (cell spot) l p → l.generation ≡ x.generation
+  spot_now (Head h) l is reached may = (may x is.control (subst (IsOpen x) (sym reached) is.opened)).1
+  spot_now (Row r) l is reached may = may.1 x is.control
+
   -- a spot that was found present was passed
-  passed_walk : (spot : Spot) (l : Link) (e : Event) → n ≤ length p.made → IsListOf x sought.list p → Lawful p → Lawful (seen spot l e) → IsReached x sought.list.head sought.target spot p → IsLink l → l.mark ≡ Val → Sweeps p (cell spot)
+  passed_walk : (spot : Spot) (l : Link) (e : Event) → n ≤ length p.made → IsListOf x sought.list p → Lawful p → Lawful (seen spot l e) → IsReached x sought.list.head sought.target spot p → IsLink l → l.mark ≡ Val → IsWalkable (cell spot) l p → Sweeps p (cell spot)
       → WalksOn (cell spot) l e p → IsPassed n table.start.layout x sought (record { spot = spot; link = l }) (seen spot l e)
-  passed_walk spot l e begun is law law' reached bits present swept next = record {
+  passed_walk spot l e begun is law law' reached bits present walkable swept next = record {
     bits = bits;
     present = present;
+    generation = spot_now spot l is reached walkable;
     known = known_here n p.made (load_made Walk (index table.start.layout (cell_place (cell spot))) (link_word l)) (index table.start.layout (cell_place (cell spot))) begun refl;
     reached = reached_walk spot l e reached;
     swept = sweep_passes n p.made (seen spot l e).made (walk_made spot l) refl begun table.start.layout (at_head sought.list.head) (cell spot) l (record { load = refl; bits = bits; present = present }) swept;
     next = λ some. record { event = e; on = walk_next (cell spot) false l e p.position.rows some; belongs = belongs spot reached next some; beyond = beyond spot law' reached next some };
     owed = record {
-      ahead = λ d same at owed. let ahead = still_ahead p.found.control (cell spot) p.position.rows l e p.debts.cut d present (past spot reached d same at) owed in
+      ahead = λ d same at owed. let now = law.owed_now d x (was_owed p.found.control (cell spot) p.position.rows l e p.debts.cut d owed) is.control in
+          let ahead = still_ahead p.found.control (cell spot) p.position.rows l e p.debts.cut d present (spot_now spot l is reached walkable ∙ sym now) (past spot reached d same now at) owed in
           (ahead.0, λ f on. subst (λ z. rank z l.row ≤ rank d.event d.row) (one_event (seen spot l e) law' l.row e f (walk_next (cell spot) false l e p.position.rows ahead.0) on) ahead.1);
     };
   }
@@ -161,10 +168,10 @@ module _ (n : ℕ) (table : Table) (x : Control) (sought : Sought) (p : Caller) 
       beyond (Head h) law' reached next some = tt
       beyond (Row r) law' reached next some = λ f on. subst (λ z. rank z r < rank e l.row) (one_event (seen (Row r) l e) law' r reached.0 f (walk_here r false l e p.position.rows reached.0 reached.1) on) (next reached.0 reached.1 some).0
 
-      past : (s : Spot) → IsReached x sought.list.head sought.target s p → (d : CutDebt) → sought.target ≡ Some (d.event, d.row) → d.head ≡ sought.list.head → is_beyond p.found.control (cell s) p.position.rows d ≡ true
-      past (Head h) reached d same at = eq-eqb d.head h (at ∙ sym reached)
-      past (Row r) reached d same at = subst (λ z. is_beyond z (at_row r) p.position.rows d ≡ true) (sym is.control)
-          (beyond_row x r p.position.rows d reached.0 (λ g on. one_event p law r g reached.0 on reached.1) reached.1 (reached.2 ∙ sym at) (subst (λ t. IsUpTo t reached.0 r) same reached.3))
+      past : (s : Spot) → IsReached x sought.list.head sought.target s p → (d : CutDebt) → sought.target ≡ Some (d.event, d.row) → d.generation ≡ x.generation → d.head ≡ sought.list.head → is_beyond p.found.control (cell s) p.position.rows d ≡ true
+      past (Head h) reached d same now at = eq-eqb d.head h (at ∙ sym reached)
+      past (Row r) reached d same now at = subst (λ z. is_beyond z (at_row r) p.position.rows d ≡ true) (sym is.control)
+          (beyond_row x r p.position.rows d reached.0 (λ g on. one_event p law r g reached.0 on reached.1) reached.1 (sym now) (reached.2 ∙ sym at) (subst (λ t. IsUpTo t reached.0 r) same reached.3))
 
   -- a head of the open table is present
   pub head_val : (h : ℕ) (l : Link) → IsListOf x sought.list p → IsReached x sought.list.head sought.target (Head h) p → IsWalkable (at_head h) l p → l.mark ≡ Val
@@ -177,15 +184,15 @@ module _ (n : ℕ) (table : Table) (x : Control) (sought : Sought) (p : Caller) 
   load_low (Head h) q = omega arith
   load_low (Row r) q = omega arith
 
-  pub load_val : (spot : Spot) (l : Link) (e : Event) → IsSeeking n table x sought (Load spot) p → Lawful p → Lawful (seen spot l e) → IsLink l → l.mark ≡ Val → WalksOn (cell spot) l e p
+  pub load_val : (spot : Spot) (l : Link) (e : Event) → IsSeeking n table x sought (Load spot) p → Lawful p → Lawful (seen spot l e) → IsLink l → l.mark ≡ Val → IsWalkable (cell spot) l p → WalksOn (cell spot) l e p
       → let b : Before = record { spot = spot; link = l } in Told n table x sought (Load spot) (next_seek b sought.target).0 p (seen spot l e) (next_seek b sought.target).1
-  load_val spot l e at law law' bits present next = let b : Before = record { spot = spot; link = l } in record {
+  load_val spot l e at law law' bits present walkable next = let b : Before = record { spot = spot; link = l } in record {
     works = walk_works spot l e;
     own = refl;
     written = refl;
     owed = owed_walk spot l e;
     answers = next_answers sought.target refl (Load spot) b (seen spot l e) (walk_made spot l) refl (walk_stays spot l e) at at.at.0
-        (passed_walk spot l e at.counted at.list_is law law' at.at.1 bits present at.swept next) (swept_on (Load spot) (seen spot l e) (walk_made spot l) refl at) (load_low spot (seen spot l e));
+        (passed_walk spot l e at.counted at.list_is law law' at.at.1 bits present walkable at.swept next) (swept_on (Load spot) (seen spot l e) (walk_made spot l) refl at) (load_low spot (seen spot l e));
   }
 
   -- a dead row was found: back to the head
@@ -217,6 +224,7 @@ module _ (n : ℕ) (table : Table) (x : Control) (sought : Sought) (p : Caller) 
     passed_stays b known sweeps owed passed = record {
       bits = passed.bits;
       present = passed.present;
+      generation = passed.generation;
       known = known ∙ passed.known;
       reached = reached_stays b.spot passed.reached;
       swept = sweeps passed.swept;
@@ -254,9 +262,9 @@ module _ (n : ℕ) (table : Table) (x : Control) (sought : Sought) (p : Caller) 
   pub next_row : (b : Before) → IsPassing n table x sought b p → IsReached x sought.list.head sought.target (Row b.link.row) p
   next_row b at = let next = at.passed.next at.some_row in (next.event, next.on, next.belongs, at.up_to next.event next.on)
 
-  pub pass_val : (b : Before) (l : Link) (e : Event) → IsSeeking n table x sought (Passing b) p → Lawful p → Lawful (seen (Row b.link.row) l e) → IsLink l → l.mark ≡ Val → WalksOn (at_row b.link.row) l e p
+  pub pass_val : (b : Before) (l : Link) (e : Event) → IsSeeking n table x sought (Passing b) p → Lawful p → Lawful (seen (Row b.link.row) l e) → IsLink l → l.mark ≡ Val → IsWalkable (at_row b.link.row) l p → WalksOn (at_row b.link.row) l e p
       → let a : Before = record { spot = Row b.link.row; link = l } in Told n table x sought (Passing b) (next_seek a sought.target).0 p (seen (Row b.link.row) l e) (next_seek a sought.target).1
-  pass_val b l e at law law' bits present on = let spot : Spot = Row b.link.row in let a : Before = record { spot = spot; link = l } in
+  pass_val b l e at law law' bits present walkable on = let spot : Spot = Row b.link.row in let a : Before = record { spot = spot; link = l } in
       let q = seen spot l e in
       let reached = next_row b at.at.1 in let next = at.at.1.passed.next at.at.1.some_row in
       let fits = stand_fits p law b.link.row next.event next.on in
@@ -268,7 +276,7 @@ module _ (n : ℕ) (table : Table) (x : Control) (sought : Sought) (p : Caller) 
         own = refl;
         written = refl;
         owed = owed_walk spot l e;
-        answers = next_answers sought.target refl (Passing b) a q (walk_made spot l) refl (walk_stays spot l e) at at.at.0 (passed_walk spot l e at.counted at.list_is law law' reached bits present at.at.1.passed.swept on)
+        answers = next_answers sought.target refl (Passing b) a q (walk_made spot l) refl (walk_stays spot l e) at at.at.0 (passed_walk spot l e at.counted at.list_is law law' reached bits present walkable at.at.1.passed.swept on)
             (sweep_stays n p.made q.made (walk_made spot l) refl at.counted table.start.layout (at_head sought.list.head) (at_row b.link.row) at.at.1.passed.swept) (omega arith);
       }
 
@@ -474,7 +482,7 @@ module _ (n : ℕ) (table : Table) (x : Control) (sought : Sought) (old new : Pa
   load_present spot l to of saw present is at = let p = caller table old in let b : Before = record { spot = spot; link = l } in
       subst (λ (z : SeekState × Progress SeekEnd). SeekStepped n table x sought (Load spot) z.0 old new z.1) (sym is)
       (stepped (Load spot) (next_seek b sought.target).0 (seen n table x sought p spot l saw.event) (next_seek b sought.target).1 saw.is saw.same saw.part refl
-      (load_val n table x sought p spot l saw.event at of.lawful (subst Lawful saw.part saw.is.lawful) saw.is_link present saw.next))
+      (load_val n table x sought p spot l saw.event at of.lawful (subst Lawful saw.part saw.is.lawful) saw.is_link present saw.marked saw.next))
 
   pub load_dead : (spot : Spot) (l : Link) → Saw table old new (cell spot) false l → l.mark ≡ Del → IsSeeking n table x sought (Load spot) (caller table old)
       → SeekStepped n table x sought (Load spot) (Load (Head sought.list.head)) old new More
@@ -486,7 +494,7 @@ module _ (n : ℕ) (table : Table) (x : Control) (sought : Sought) (old new : Pa
   pass_present b l to of saw present is at = let p = caller table old in let a : Before = record { spot = Row b.link.row; link = l } in
       subst (λ (z : SeekState × Progress SeekEnd). SeekStepped n table x sought (Passing b) z.0 old new z.1) (sym is)
       (stepped (Passing b) (next_seek a sought.target).0 (seen n table x sought p (Row b.link.row) l saw.event) (next_seek a sought.target).1 saw.is saw.same saw.part refl
-      (pass_val n table x sought p b l saw.event at of.lawful (subst Lawful saw.part saw.is.lawful) saw.is_link present saw.next))
+      (pass_val n table x sought p b l saw.event at of.lawful (subst Lawful saw.part saw.is.lawful) saw.is_link present saw.marked saw.next))
 
   pub pass_dead : (b : Before) (l : Link) → IsPassOf table old → Saw table old new (at_row b.link.row) false l → l.mark ≡ Del
       → IsSeeking n table x sought (Passing b) (caller table old) → SeekStepped n table x sought (Passing b) (Cutting b l) old new More

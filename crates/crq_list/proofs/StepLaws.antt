@@ -20,8 +20,8 @@ use Rattle.crq_rule.specs.declared.view.Stand.{Stand}
 use Rattle.crq_rule.specs.declared.view.Caller.{Caller}
 use Rattle.crq_rule.specs.Places.{index, Place, control, IsPlace, IsRow}
 use Rattle.crq_rule.specs.Kinds.{makes}
-use Rattle.crq_rule.specs.Ranks.{rank, head_of, Cell, at_head, at_row, cell_place}
-use Rattle.crq_rule.specs.ListKinds.{MayWalk, ComesAfter, links, marks, cuts, unhanded, cut_debt, relieved, unnamed, is_beyond, is_val}
+use Rattle.crq_rule.specs.Ranks.{head_for, bucket, head_of, Cell, at_head, at_row, cell_place}
+use Rattle.crq_rule.specs.ListKinds.{MayWalk, ComesAfter, links, marks, cuts, unhanded, cut_debt, relieved, unnamed, is_past, is_other_front}
 use Rattle.crq_rule.specs.Moves.{Lawful, Walked, FoundControl, wins}
 use Rattle.crq_rule.proofs.Placing.{within}
 use Rattle.crq_rows.specs.Passes.{caller, IsSeated, IsOwed, IsPassOf, StaysAside, Turned, Exchanges, load_made, step_made, counted}
@@ -58,7 +58,7 @@ dropped false d = inl refl
 
 pub relieved_is : (x : Option Control) (cell : Cell) (ss : List Stand) (l : Link) (e : Event) (d : Option CutDebt) → (relieved x cell ss l e d ≡ d) ⊎ (relieved x cell ss l e d ≡ None)
 relieved_is x cell ss l e None = inl refl
-relieved_is x cell ss l e (Some d) = dropped (is_val l.mark && (is_beyond x cell ss d && ((l.row == 0) || nat_lt (rank d.event d.row) (rank e l.row)))) d
+relieved_is x cell ss l e (Some d) = dropped (is_past x cell ss l e d || is_other_front cell l d) d
 
 pub unnamed_is : (r : ℕ) (d : Option CutDebt) → (unnamed r d ≡ d) ⊎ (unnamed r d ≡ None)
 unnamed_is r None = inl refl
@@ -107,7 +107,7 @@ controlled kind table old new f word found x at bits spells t = let w = t.after.
 
 -- the list of an event, as shifts of 32 bits give it
 pub head_number : (x : Control) (e : Event) → IsControl x → x.generation % 2 * 32768 + e.time / 2 ^ x.shift % (1 * 2 ^ x.log % 2 ^ 32) ≡ head_of x e
-unfolding head_of
+unfolding head_for bucket
 head_number x e bits = ap (λ n. x.generation % 2 * 32768 + e.time / 2 ^ x.shift % n) (ap (λ n. n % 2 ^ 32) (one-mul (2 ^ x.log)) ∙ mod-eq_of_lt (pow_below x.log 32 (let low = bits.log in omega arith)))
 
 -- what an exchange of a link was, as its words were spelled

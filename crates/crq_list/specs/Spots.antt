@@ -63,6 +63,7 @@ pub record IsOwedAhead (target : Target) (q : ℕ) (b : Before) (p : Caller) : T
 pub record IsPassed (n : ℕ) (l : Layout) (x : Control) (sought : Sought) (b : Before) (p : Caller) : Type 0 where
   pub bits : IsLink b.link
   pub present : b.link.mark ≡ Val
+  pub generation : b.link.generation ≡ x.generation
   pub known : last_known (drop n p.made) (index l (cell_place (cell b.spot))) ≡ Some (link_word b.link)
   pub reached : IsReached x sought.list.head sought.target b.spot p
   pub swept : SweepsTo l (at_head sought.list.head) (drop n p.made) (at_row b.link.row)

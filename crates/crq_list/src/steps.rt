@@ -129,6 +129,7 @@ pub(crate) fn mark_step(
             head: head_of(control, event),
             event: *event,
             row,
+            front: false,
         });
     }
     won

@@ -16,7 +16,7 @@ use Rattle.crq_rule.specs.declared.view.Found.{Found}
 use Rattle.crq_rule.specs.declared.view.Caller.{Caller}
 use Rattle.crq_rule.specs.Places.{IsHead}
 use Rattle.crq_rule.specs.Parts.{IsOn}
-use Rattle.crq_rule.specs.Ranks.{head_of, IsOpen}
+use Rattle.crq_rule.specs.Ranks.{head_for, bucket, head_of, IsOpen}
 use Rattle.crq_rule.specs.ListKinds.{begins, misses, loads_control}
 use Rattle.crq_rows.specs.Passes.{caller, IsSeated, IsPassOf}
 use Rattle.crq_list.specs.Swaps.{Controlled}
@@ -30,7 +30,7 @@ use Rattle.crq_queue.proofs.RunLaws.{ran_ticks, ran_quiet, may_run_on}
 -- The heads of the open table
 
 pub head_open : (x : Control) (e : Event) → IsControl x → IsHead (head_of x e) × IsOpen x (head_of x e)
-unfolding head_of
+unfolding head_for bucket
 head_open x e is = let some = pow_pos x.log in let log = is.log in let few : 2 ^ x.log ≤ 2 ^ 15 = pow-le-pow_right {n = 2} (omega arith) {i = x.log} {j = 15} (omega arith) in (omega arith, (omega arith, omega arith))
 
 pub first_open : (x : Control) (q : ℕ) → q ≡ x.generation % 2 * 32768 → IsHead q × IsOpen x q

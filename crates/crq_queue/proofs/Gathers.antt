@@ -107,6 +107,7 @@ lawful_settled h p l = record {
   on = l.on;
   agree = l.agree;
   owed_at = l.owed_at;
+  owed_now = l.owed_now;
   owed_fits = l.owed_fits;
   scarce = l.scarce;
   controlled = l.controlled;

@@ -39,6 +39,7 @@ fresh_lawful start n b = record {
   on = λ s i. absurd i;
   agree = λ s t i. absurd i;
   owed_at = λ d x is. absurd (no_debt d is);
+  owed_now = λ d x is. absurd (no_debt d is);
   owed_fits = λ d is. absurd (no_debt d is);
   scarce = λ b vain. absurd (none_base b vain.0);
   controlled = λ x is. absurd (none_control x is);

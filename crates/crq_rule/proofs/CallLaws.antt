@@ -1,5 +1,5 @@
 -- A take that begins, and one that finds nothing, keep the invariant.
-use Rattle.std.proofs.Common.{◌≡◌, ◌≢◌, ◌⊎◌, ⊎_elim, ℕ, ◌<◌, ◌≤◌, List, [], ◌∷◌, ◌++◌, length, Option, Some, None, sym, refl, ap, ◌∙◌, arith}
+use Rattle.std.proofs.Common.{◌≡◌, ◌≢◌, ◌⊎◌, ⊎_elim, ℕ, ◌<◌, ◌≤◌, List, [], ◌∷◌, ◌++◌, length, Option, Some, None, sym, refl, ap, ◌∙◌, subst, arith}
 use Rattle.std.specs.List.{Contains}
 use Rattle.crq_base.specs.declared.event.Event.{Event}
 use Rattle.crq_base.specs.declared.entry.Entry.{Entry}
@@ -11,17 +11,16 @@ use Rattle.crq_base.specs.Histories.{puts, outs, MayFollow}
 use Rattle.crq_base.proofs.Verdicts.{contains_or}
 use Rattle.crq_base.specs.Lists.{In}
 use Rattle.crq_rule.specs.declared.layout.Layout.{Layout}
-use Rattle.crq_rule.specs.declared.view.Tick.{Tick}
-use Rattle.crq_rule.specs.declared.view.CutRow.{CutRow}
+use Rattle.crq_rule.specs.declared.layout.Start.{Start}
 use Rattle.crq_rule.specs.declared.view.Found.{Found}
 use Rattle.crq_rule.specs.declared.view.Stand.{Stand}
 use Rattle.crq_rule.specs.declared.view.Walk.{Walk}
 use Rattle.crq_rule.specs.Lists.{put}
 use Rattle.crq_rule.specs.Places.{IsHead}
 use Rattle.crq_rule.specs.Core.{Core, Holding, caller_of}
-use Rattle.crq_rule.specs.Parts.{Reading, NotAfter, rows_of}
+use Rattle.crq_rule.specs.Parts.{Finds, Fits, NotAfter, rows_of}
 use Rattle.crq_rule.specs.HistoryParts.{Carriers, Walkers, StandsFrom}
-use Rattle.crq_rule.specs.Ranks.{head_of, IsOpen}
+use Rattle.crq_rule.specs.Ranks.{Shape, head_of, IsOpen}
 use Rattle.crq_rule.specs.Invariant.{Inv}
 use Rattle.crq_rule.specs.ListKinds.{StandsOn, MayMiss, begun_by, control_loaded, missed}
 use Rattle.crq_rule.proofs.Puts.{put_else, put_all}
@@ -29,6 +28,7 @@ use Rattle.crq_rule.proofs.HistoryLaws.{told_other, told_begin, pending_same, ou
 use Rattle.crq_rule.proofs.Pendings.{counted_grown, none_counted}
 use Rattle.crq_rule.proofs.ScarceLaws.{base_grown, scarce_drop, scarce_grown, refusals_grown, refusals_put}
 use Rattle.crq_rule.proofs.SweepLaws.{swept_grown, swept_begun}
+use Rattle.crq_rule.proofs.SteadyLaws.{steady_one}
 use Rattle.crq_rule.proofs.SearchLaws.{left_beyond, beyond_time}
 
 none_walk : (w : Walk) → None ≡ Some w → ⊥
@@ -48,16 +48,12 @@ some_control : (x y : Control) → Some x ≡ Some y → x ≡ y
 some_control x y e = cc
 
 -- the caller j found the control word
-pub read_found : (n epoch : ℕ) (current : Current) (control : Control) (epochs : ℕ → List ℕ) (tick : ℕ → Tick) (cut : ℕ → Option CutRow) (found : ℕ → Found) (j : ℕ)
-    → Reading n epoch current control epochs tick cut found → Reading n epoch current control epochs tick cut (put found j (record (found j) { control = Some control }))
-read_found n epoch current control epochs tick cut found j old = record {
-  limit = old.limit;
-  read = old.read;
-  loaded = old.loaded;
-  scanned = old.scanned;
-  tags = old.tags;
-  read_current = λ k x. put_all found j (record (found j) { control = Some control }) (λ k f. k < n → f.current ≡ Some x → NotAfter x current) (old.read_current j x) (λ k _. old.read_current k x) k;
-  read_control = λ k x. put_all found j (record (found j) { control = Some control }) (λ k f. k < n → f.control ≡ Some x → x ≡ control) (λ _ e. sym (some_control control x e)) (λ k _. old.read_control k x) k;
+pub finds_control : (start : Start) (control : Control) (shape : ℕ → Shape) (current : Current) (found : ℕ → Found) (j : ℕ) → Fits start control shape control
+    → Finds start control shape current found → Finds start control shape current (put found j (record (found j) { control = Some control }))
+finds_control start control shape current found j now old = record {
+  controls = λ k x. put_all found j (record (found j) { control = Some control }) (λ k f. k < start.layout.workers → f.control ≡ Some x → Fits start control shape x)
+      (λ _ e. subst (Fits start control shape) (some_control control x e) now) (λ k _. old.controls k x) k;
+  currents = λ k x. put_all found j (record (found j) { control = Some control }) (λ k f. k < start.layout.workers → f.current ≡ Some x → NotAfter x current) (old.currents j x) (λ k _. old.currents k x) k;
 }
 
 -- an entry that is neither a put nor a take
@@ -88,13 +84,17 @@ walkers_entry l control history begun begun' link link' twin event holding rows 
 pub control_keeps : (c : Core) (j : ℕ) → j < c.start.layout.workers → Inv c → Inv (control_loaded c j)
 control_keeps c j b inv = record {
   spelled = inv.spelled;
-  reading = read_found _ _ _ _ _ _ _ _ j inv.reading;
+  reading = inv.reading;
+  finds = finds_control _ _ _ _ _ j inv.sizes.now inv.finds;
   guards = inv.guards;
   holders = inv.holders;
   cutting = inv.cutting;
   stamps = inv.stamps;
   chains = inv.chains;
   cover = inv.cover;
+  sizes = inv.sizes;
+  dues = inv.dues;
+  steady = inv.steady;
   heads = inv.heads;
   sorted = inv.sorted;
   marks = inv.marks;
@@ -113,13 +113,17 @@ control_keeps c j b inv = record {
 pub begin_keeps : (c : Core) (j : ℕ) → j < c.start.layout.workers → Inv c → Inv (begun_by c j)
 begin_keeps c j b inv = record {
   spelled = inv.spelled;
-  reading = read_found _ _ _ _ _ _ _ _ j inv.reading;
+  reading = inv.reading;
+  finds = finds_control _ _ _ _ _ j inv.sizes.now inv.finds;
   guards = inv.guards;
   holders = inv.holders;
   cutting = inv.cutting;
   stamps = inv.stamps;
   chains = inv.chains;
   cover = inv.cover;
+  sizes = inv.sizes;
+  dues = inv.dues;
+  steady = inv.steady;
   heads = inv.heads;
   sorted = inv.sorted;
   marks = inv.marks;
@@ -136,28 +140,32 @@ begin_keeps c j b inv = record {
 }
 
 -- what a search that comes to its end or to the limit left is taken
-miss_legal : (c : Core) (j limit : ℕ) → j < c.start.layout.workers → MayMiss c.words.control limit (caller_of c j) → Inv c → MayFollow c.history (Miss j limit)
-miss_legal c j limit b may inv = let from = inv.told.began j b may.began in let front = from.0 in let w = may.walks.0 in (
+miss_legal : (c : Core) (j limit : ℕ) → j < c.start.layout.workers → ((x : Control) × MayMiss x limit (caller_of c j)) → Inv c → MayFollow c.history (Miss j limit)
+miss_legal c j limit b may inv = let from = inv.told.began j b may.1.began in let front = from.0 in let w = may.1.walks.0 in (
   front,
   from.2,
-  λ f settled less. ⊎_elim (λ o. o) (λ kept. let beyond = left_beyond c inv j w front (Begin j ∷ from.2.back) f b may.walks.1 may.one_list from.2.parts from.1 settled kept in ⊎_elim
+  λ f settled less. ⊎_elim (λ o. o) (λ kept. let beyond = left_beyond c inv j w front (Begin j ∷ from.2.back) f b may.1.walks.1 (steady_one c inv) from.2.parts from.1 settled kept in ⊎_elim
       (λ (none : w.at ≡ 0). let some = beyond.some_row in absurd (omega arith))
       (λ (h : (e : Event) × StandsOn (c.rows j) w.at e × (limit ≤ e.time)). let e = h.0 in let s = h.1.0 in
       let holds : c.words.event w.at ≡ e = ap c.words.event (sym h.1.2) ∙ (inv.standing.holds j s b h.1.1 ∙ h.1.3) in
       let late = beyond_time c inv w.at e f holds beyond in let high = h.2 in absurd (omega arith))
-      may.walks.2) (contains_or (outs c.history) f),
+      may.1.walks.2) (contains_or (outs c.history) f),
 )
 
-pub miss_keeps : (c : Core) (j limit : ℕ) → j < c.start.layout.workers → MayMiss c.words.control limit (caller_of c j) → Inv c → Inv (missed c j limit)
+pub miss_keeps : (c : Core) (j limit : ℕ) → j < c.start.layout.workers → ((x : Control) × MayMiss x limit (caller_of c j)) → Inv c → Inv (missed c j limit)
 miss_keeps c j limit b may inv = record {
   spelled = inv.spelled;
-  reading = read_found _ _ _ _ _ _ _ _ j inv.reading;
+  reading = inv.reading;
+  finds = finds_control _ _ _ _ _ j inv.sizes.now inv.finds;
   guards = inv.guards;
   holders = inv.holders;
   cutting = inv.cutting;
   stamps = inv.stamps;
   chains = inv.chains;
   cover = inv.cover;
+  sizes = inv.sizes;
+  dues = inv.dues;
+  steady = inv.steady;
   heads = inv.heads;
   sorted = inv.sorted;
   marks = inv.marks;

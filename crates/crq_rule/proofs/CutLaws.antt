@@ -18,17 +18,19 @@ use Rattle.crq_rule.specs.declared.view.Stand.{Stand}
 use Rattle.crq_rule.specs.declared.view.Walk.{Walk}
 use Rattle.crq_rule.specs.Lists.{put}
 use Rattle.crq_rule.specs.Places.{IsRow, IsHead}
-use Rattle.crq_rule.specs.Core.{Core, DeadNames, Holding, in_hand, listed, cut_by, retired, caller_of}
-use Rattle.crq_rule.specs.Parts.{IsEvent, Spelled, Holders, Stamps, stamp_of, Chains, Leads, Cover, Covers, Ground, ground_of, footings, IsGuarded, HasTag, IsOn, rows_of, rows_of_old, rows_of_copy}
+use Rattle.crq_rule.specs.Core.{Core, IsOutside, DeadNames, HasName, Holding, in_hand, listed, cut_by, retired, caller_of}
+use Rattle.crq_rule.specs.Parts.{Spelled, Holders, Stamps, stamp_of, Chains, Leads, Cover, Covers, Ground, ground_of, footings, IsGuarded, HasTag, IsOn, rows_of, rows_of_old, rows_of_copy}
 use Rattle.crq_rule.specs.ListParts.{Heads, IsShutHead, Sorted, Marks, MarkFits, TwinFits, Standing, IsFinal, Lanes, Writing, row_word, Naming, IsNamed, ranks}
 use Rattle.crq_rule.specs.HistoryParts.{Carriers, IsLive, Walkers, StandsFrom}
 use Rattle.crq_rule.specs.ScarceParts.{IsLate}
 use Rattle.crq_rule.specs.Invariant.{Inv}
-use Rattle.crq_rule.specs.Ranks.{head_of, IsOpen, Rises, Cell, at_head, at_row, link_at, heads_set, links_set, without_row}
+use Rattle.crq_rule.specs.Ranks.{list_in, IsOpen, Rises, Cell, at_head, at_row, link_at, heads_set, links_set, without_row}
 use Rattle.crq_rule.specs.ListKinds.{cut_from, without_stand, unnamed, StandsOn, MayWalk, MayCut}
 use Rattle.crq_rule.proofs.Puts.{put_here, put_else, put_all}
 use Rattle.crq_rule.proofs.PartLaws.{sort, of_whom, read_cut, cutting_cut}
 use Rattle.crq_rule.proofs.HolderLaws.{none_some, some_some}
+use Rattle.crq_rule.proofs.SizeLaws.{sizes_rows, dues_named}
+use Rattle.crq_rule.proofs.SteadyLaws.{steady_rows, steady_names}
 use Rattle.crq_rule.proofs.CoverLaws.{guarded_by, stand_row, row_footing, footing_covered}
 use Rattle.crq_rule.proofs.ScarceLaws.{since_low, scarce_lasts, lasts_held}
 use Rattle.crq_rule.proofs.SweepLaws.{swept_cut}
@@ -63,9 +65,8 @@ row_left x (t ∷ ts) ys a i = dite (ℕ_discrete t.row x)
 
 -- Debts, of which that of the row x is dropped
 
-named_left : (x r : ℕ) (e : Event) (o : Option CutDebt) → r ≢ x → IsNamed o r e → IsNamed (unnamed x o) r e
-named_left x r e None ne is = is
-named_left x r e (Some d) ne is = subst (λ b. IsNamed (cond b None (Some d)) r e) (sym (ne_eqb d.row x (λ q. ne (sym is.0 ∙ q)))) is
+name_left : (x : ℕ) (o : Option CutDebt) (d : CutDebt) → o ≡ Some d → d.row ≢ x → unnamed x o ≡ Some d
+name_left x o d is ne = ap (unnamed x) is ∙ ap (λ b. cond b None (Some d)) (ne_eqb d.row x ne)
 
 debt_left : (x : ℕ) (o : Option CutDebt) (d : CutDebt) → unnamed x o ≡ Some d → o ≡ Some d
 debt_left x None d is = is
@@ -161,7 +162,7 @@ module _ (c : Core) (j : ℕ) (cell : Cell) (x : ℕ) (l : Link) (b : j < c.star
 
   -- the list that the row leaves, and what is left of it
   abbrev q : ℕ
-  q = head_of c.words.control (c.words.event x)
+  q = list_in c.shape (c.words.link x).generation (c.words.event x)
 
   abbrev left : List ℕ
   left = without_row x (c.chain q)
@@ -226,8 +227,12 @@ module _ (c : Core) (j : ℕ) (cell : Cell) (x : ℕ) (l : Link) (b : j < c.star
   cell_list (at_row p) is present to = let v : IsGuarded (ground_of c) p = guarded_by j (covered p is.0 is.1) in let k = present_listed p v present in let o = inv.holders.of_chain k.0 p (inv.lanes.is_row p v) k.1 in
       (k.0, o.0, next_in c.words.link (c.words.head k.0).row p x (c.chain k.0) row_x.0 to (inv.chains.leads k.0 o.0) o.1, o.1)
 
+  -- the list of a row by its own link
+  belongs_to : (k r : ℕ) → IsHead k → In r (c.chain k) → list_in c.shape (c.words.link r).generation (c.words.event r) ≡ k
+  belongs_to k r a i = ap (λ g. list_in c.shape g (c.words.event r)) (inv.sorted.generation k r a i) ∙ inv.sorted.belongs k r a i
+
   place : IsHead q × In x (c.chain q) × IsCellOf q cell
-  place = let k = cell_list cell may.cell_is val names in subst (λ z. IsHead z × In x (c.chain z) × IsCellOf z cell) (sym (inv.sorted.belongs k.0 x k.1 k.2)) (k.1, k.2, k.3)
+  place = let k = cell_list cell may.cell_is val names in subst (λ z. IsHead z × In x (c.chain z) × IsCellOf z cell) (sym (belongs_to k.0 x k.1 k.2)) (k.1, k.2, k.3)
 
   was : c.holding x ≡ listed q
   was = (inv.holders.in_chain q x place.0 place.1).1
@@ -256,8 +261,6 @@ module _ (c : Core) (j : ℕ) (cell : Cell) (x : ℕ) (l : Link) (b : j < c.star
 
   heads_part : Heads c.words.control heads
   heads_part = record {
-    steady = inv.heads.steady;
-    one = inv.heads.one;
     opened = λ h a o. let old = inv.heads.opened h a o in (head_mark c.words.head c.words.link l.row cell h ∙ old.0, head_generation c.words.head c.words.link l.row cell h ∙ old.1);
     shut = λ h a s. head_shut c.words.head c.words.link l.row c.words.control cell val h (inv.heads.shut h a s);
   }
@@ -265,10 +268,10 @@ module _ (c : Core) (j : ℕ) (cell : Cell) (x : ℕ) (l : Link) (b : j < c.star
   in_before : (k r : ℕ) → In r (put c.chain q left k) → In r (c.chain k)
   in_before k r = put_all c.chain q left (λ k xs. In r xs → In r (c.chain k)) (in_without_row x r (c.chain q)) (λ _ _ i. i) k
 
-  sorted_part : Sorted c.words.control heads links c.words.event (put c.chain q left)
+  sorted_part : Sorted c.shape heads links c.words.event (put c.chain q left)
   sorted_part = record {
     rises = put_all c.chain q left (λ k xs. IsHead k → Rises (ranks c.words.event) 0 xs) (λ a. rises_without (ranks c.words.event) 0 x (c.chain q) (inv.sorted.rises q a)) (λ k _. inv.sorted.rises k);
-    belongs = λ k r a i. inv.sorted.belongs k r a (in_before k r i);
+    belongs = λ k r a i. ap (λ g. list_in c.shape g (c.words.event r)) (head_generation c.words.head c.words.link l.row cell k) ∙ inv.sorted.belongs k r a (in_before k r i);
     generation = λ k r a i. link_generation c.words.head c.words.link l.row cell r ∙ (inv.sorted.generation k r a (in_before k r i) ∙ sym (head_generation c.words.head c.words.link l.row cell k));
   }
 
@@ -282,7 +285,7 @@ module _ (c : Core) (j : ℕ) (cell : Cell) (x : ℕ) (l : Link) (b : j < c.star
   leads_part (at_row p) is to k = let new : Link = record (c.words.link p) { row = l.row } in
       put_all c.chain q left (λ k xs. IsHead k → Leads (put c.words.link p new) (c.words.head k).row xs)
       (λ a. leads_without c.words.link (ranks c.words.event) p x new 0 (c.words.head q).row (c.chain q) row_x.0 to (ap (λ (z : Link). z.row) (sym at_x)) (inv.sorted.rises q a) (inv.chains.leads q a) is)
-      (λ k ne a. leads_else c.words.link p new (c.words.head k).row (c.chain k) (λ i. ne (sym (inv.sorted.belongs k p a i) ∙ inv.sorted.belongs q p place.0 is)) (inv.chains.leads k a)) k
+      (λ k ne a. leads_else c.words.link p new (c.words.head k).row (c.chain k) (λ i. ne (sym (belongs_to k p a i) ∙ belongs_to q p place.0 is)) (inv.chains.leads k a)) k
 
   chains_part : Chains heads links c.words.twin (put c.chain q left)
   chains_part = record {
@@ -337,11 +340,13 @@ module _ (c : Core) (j : ℕ) (cell : Cell) (x : ℕ) (l : Link) (b : j < c.star
       (λ some. on_and_on r x l.row (subst (λ z. 0 < z → P r z) (to_x r h.0) (old r (guarded_by j (cell_covered r h.0))) row_x.0) (subst (λ (z : Link). 0 < z.row → P x z.row) at_x (old x (guarded_by j covered_x)) some)))
       (changed r)
 
-  lanes_part : Lanes c.start.layout c.words.control ground' c.words.event
+  lanes_part : Lanes c.start.layout c.shape ground' c.words.event
   lanes_part = record {
     is_row = λ r v. inv.lanes.is_row r (guarded r v);
     rises = along (λ r s. ranks c.words.event r < ranks c.words.event s) (λ r s t lo hi. omega arith) inv.lanes.rises;
-    stays = along (λ r s. head_of c.words.control (c.words.event s) ≡ head_of c.words.control (c.words.event r)) (λ r s t lo hi. hi ∙ lo) inv.lanes.stays;
+    stays = λ r v some. subst (λ g. list_in c.shape g (c.words.event (links r).row) ≡ list_in c.shape g (c.words.event r)) (sym (link_generation c.words.head c.words.link l.row cell r))
+        (along (λ r s. ((c.words.link s).generation ≡ (c.words.link r).generation) × (list_in c.shape (c.words.link r).generation (c.words.event s) ≡ list_in c.shape (c.words.link r).generation (c.words.event r)))
+        (λ r s t lo hi. (hi.0 ∙ lo.0, subst (λ g. list_in c.shape g (c.words.event t) ≡ list_in c.shape g (c.words.event s)) lo.0 hi.1 ∙ lo.1)) (λ r v some. (inv.lanes.generation r v some, inv.lanes.stays r v some)) r v some).1;
     generation = λ r v some. link_generation c.words.head c.words.link l.row cell (links r).row
         ∙ (along (λ r s. (c.words.link s).generation ≡ (c.words.link r).generation) (λ r s t lo hi. hi ∙ lo) inv.lanes.generation r v some ∙ sym (link_generation c.words.head c.words.link l.row cell r));
   }
@@ -367,18 +372,37 @@ module _ (c : Core) (j : ℕ) (cell : Cell) (x : ℕ) (l : Link) (b : j < c.star
         (changed y.row);
   }
 
+  -- a row that is in no hand was in none
+  was_outside : (r : ℕ) → IsOutside holding r → IsOutside c.holding r
+  was_outside r out i at = dite (ℕ_discrete r x) (λ (e : r ≡ x). let z : ◌≡◌ {A = ℕ} 1 0 = ap sort (sym was ∙ (ap c.holding (sym e) ∙ at)) in absurd (omega arith)) (λ ne. out i (put_else c.holding x (cut_by j) r ne ∙ at))
+
   listed_before : (r k : ℕ) → holding r ≡ listed k → (c.holding r ≡ listed k) × (r ≢ x)
   listed_before r k = put_all c.holding x (cut_by j) (λ s h. h ≡ listed k → (c.holding s ≡ listed k) × (s ≢ x)) (λ e. let z : 2 ≡ 1 = ap sort e in absurd (omega arith)) (λ s ne e. (e, ne)) r
 
-  naming_part : Naming c.start.layout c.words.control links c.words.event (put c.named j now_names) holding
+  names_before : (k : ℕ) (d : CutDebt) → HasName (put c.named j now_names k) d → HasName (c.named k) d
+  names_before k d = put_all c.named j now_names (λ i t. HasName t d → HasName (c.named i) d) (⊎_elim (λ is. inl (debt_left x (c.named j).first d is)) inr) (λ _ _ h. h) k
+
+  -- a head that is frozen stays as it is
+  front_stays : (z : Cell) → (link_at c.words.head c.words.link z).mark ≡ Val → (h s : ℕ) → ((c.words.head h).mark ≡ Mov) × ((c.words.head h).row ≡ s)
+      → ((heads_cut c.words.head c.words.link l.row z h).mark ≡ Mov) × ((heads_cut c.words.head c.words.link l.row z h).row ≡ s)
+  front_stays (at_row p) is h s front = front
+  front_stays (at_head k) is h s front = subst (λ (y : Link). (y.mark ≡ Mov) × (y.row ≡ s)) (sym (put_else c.words.head k (record (c.words.head k) { row = l.row }) h (λ e. mov_val (sym front.0 ∙ (ap (λ z. (c.words.head z).mark) e ∙ is))))) front
+
+  name_stays : (d : CutDebt) (r : ℕ) → IsNamed c.words.head d r (c.words.event r) (c.words.link r) → IsNamed heads d r (c.words.event r) (links r)
+  name_stays d r n = record { row = n.row; event = n.event; generation = n.generation ∙ sym (link_generation c.words.head c.words.link l.row cell r); front = λ is. front_stays cell val d.head r (n.front is) }
+
+  naming_part : Naming c.start.layout heads links c.words.event (put c.named j now_names) holding
   naming_part = record {
-    named = λ r k row is del. let o = listed_before r k is in let e = c.words.event r in let old = inv.naming.named r k row o.0 (sym (link_mark c.words.head c.words.link l.row cell r) ∙ del) in (
+    named = λ r k row is del. let o = listed_before r k is in let old = inv.naming.named r k row o.0 (sym (link_mark c.words.head c.words.link l.row cell r) ∙ del) in let d = old.2.0 in (
       old.0,
       old.1,
-      put_all c.named j now_names (λ i d. IsNamed (c.named i).first r e ⊎ IsNamed (c.named i).second r e → IsNamed d.first r e ⊎ IsNamed d.second r e)
-          (λ h. ⊎_elim (λ h. inl (named_left x r e (c.named j).first o.1 h)) inr h) (λ _ _ h. h) old.0 old.2,
+      (
+        d,
+        put_all c.named j now_names (λ i t. HasName (c.named i) d → HasName t d) (⊎_elim (λ h. inl (name_left x (c.named j).first d h (λ z. o.1 (sym old.2.2.row ∙ z)))) inr) (λ _ _ h. h) old.0 old.2.1,
+        name_stays d r old.2.2,
+      ),
     );
-    place = λ k d. put_all c.named j now_names (λ i o. i < n → o.first ≡ Some d → (d.head ≡ head_of c.words.control d.event) × IsRow c.start.layout d.row × IsEvent d.event) (λ a is. inv.naming.place j d a (debt_left x (c.named j).first d is)) (λ i _. inv.naming.place i d) k;
+    place = λ k d a has. inv.naming.place k d a (names_before k d has);
   }
 
   -- The row x was dead, so the same rows are live
@@ -435,13 +459,17 @@ module _ (c : Core) (j : ℕ) (cell : Cell) (x : ℕ) (l : Link) (b : j < c.star
   cut_inv : Inv (cut_from c j cell x l)
   cut_inv = record {
     spelled = spelled_part;
-    reading = read_cut _ _ _ _ _ _ _ _ j (Some now_cut) (λ t y _ is i. absurd (subst (λ (z : CutRow). In t z.tags) (sym (some_some now_cut y is)) i)) inv.reading;
+    finds = inv.finds;
+    reading = read_cut _ _ _ _ _ j (Some now_cut) (λ t y _ is i. absurd (subst (λ (z : CutRow). In t z.tags) (sym (some_some now_cut y is)) i)) inv.reading;
     guards = inv.guards;
     holders = holders_cut _ _ _ _ _ j q x b may.none row_x was (gone (ranks c.words.event) 0 x (c.chain q) (inv.sorted.rises q place.0)) inv.holders;
     cutting = cutting_cut _ _ _ j (Some now_cut) (λ _ _ _. on_is (c.guard j) on.0 on.1) (λ t _ y _ is _ i. absurd (subst (λ (z : CutRow). In t z.tags) (sym (some_some now_cut y is)) i)) inv.cutting;
     stamps = stamps_cut _ c.hand c.cut c.chain _ _ _ _ j q x was inv.stamps;
     chains = chains_part;
     cover = cover_part;
+    sizes = sizes_rows _ _ _ _ _ _ _ _ _ (λ h _. head_generation c.words.head c.words.link l.row cell h) (λ r _ out. inl (was_outside r out, link_generation c.words.head c.words.link l.row cell r)) inv.sizes;
+    dues = dues_named _ _ _ _ _ _ _ (λ k d _ has. inl (names_before k d has)) inv.dues;
+    steady = steady_names _ _ _ _ _ _ (λ k d _ has. inl (names_before k d has)) (steady_rows _ _ _ _ _ _ _ (λ r _ out. inl (was_outside r out, link_generation c.words.head c.words.link l.row cell r)) inv.steady);
     heads = heads_part;
     sorted = sorted_part;
     marks = marks_part;

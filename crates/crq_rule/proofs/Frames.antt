@@ -10,7 +10,8 @@ use Rattle.crq_rule.specs.declared.view.Made.{Made}
 use Rattle.crq_rule.specs.declared.view.Walk.{Walk}
 use Rattle.crq_rule.specs.Core.{Core, Holding}
 use Rattle.crq_rule.specs.Parts.{ground_of, footings, Reading, Guards, Holders, Cutting, Stamps, Cover}
-use Rattle.crq_rule.specs.ListParts.{Marks, Standing, Lanes, Writing, Naming}
+use Rattle.crq_rule.specs.ListParts.{Sizes, Marks, Standing, Lanes, Writing, Naming}
+use Rattle.crq_rule.specs.Steady.{Steady}
 use Rattle.crq_rule.specs.HistoryParts.{Carriers, Walkers}
 use Rattle.crq_rule.specs.ScarceParts.{Scarce, Refusals}
 use Rattle.crq_rule.specs.Invariant.{Inv}
@@ -18,26 +19,30 @@ use Rattle.crq_rule.specs.Kinds.{after_made}
 
 -- the epoch word, announcements, guards, ticks, epochs read, tags, bases, positions and walks
 pub frame_guards : (c : Core) (e : ℕ) (announced : ℕ → ℕ) (epochs : ℕ → List ℕ) (guard : ℕ → Guard) (tick : ℕ → Tick) (cut : ℕ → Option CutRow) (base : ℕ → Option Base) (rows : ℕ → List Stand) (old : ℕ → Option Stand) (walk : ℕ → Option Walk) → Inv c
-    → Reading c.start.layout.workers e c.words.current c.words.control epochs tick cut c.found
+    → Reading c.start.layout.workers e epochs tick cut
     → Guards c.start.layout.workers e announced guard tick
     → Holders c.start.layout c.hand cut c.chain c.holding
     → Cutting c.start.layout.workers guard cut
     → Stamps c.start.layout e c.words.stamp c.ripening c.holding
     → Cover (record (ground_of c) { guard = guard; footing = footings rows old c.copying }) cut c.holding
     → Standing c.start.layout.workers c.words.link c.words.event rows
-    → Lanes c.start.layout c.words.control (record (ground_of c) { guard = guard; footing = footings rows old c.copying }) c.words.event
+    → Lanes c.start.layout c.shape (record (ground_of c) { guard = guard; footing = footings rows old c.copying }) c.words.event
     → Walkers c.start.layout c.words.control c.history c.begun c.words.link c.words.twin c.words.event c.holding rows walk
     → Scarce c.start.layout e c.history base guard c.holding
     → Inv (record c { words = record c.words { epoch = e; announced = announced }; epochs = epochs; guard = guard; tick = tick; cut = cut; base = base; rows = rows; old = old; walk = walk })
 frame_guards c e announced epochs guard tick cut base rows old walk inv reading guards holders cutting stamps cover standing lanes walkers scarce = record {
   spelled = inv.spelled;
   reading = reading;
+  finds = inv.finds;
   guards = guards;
   holders = holders;
   cutting = cutting;
   stamps = stamps;
   chains = inv.chains;
   cover = cover;
+  sizes = inv.sizes;
+  dues = inv.dues;
+  steady = inv.steady;
   heads = inv.heads;
   sorted = inv.sorted;
   marks = inv.marks;
@@ -55,28 +60,34 @@ frame_guards c e announced epochs guard tick cut base rows old walk inv reading 
 
 -- stamps, rows in hand, rows looked at, cut rows, bases, refusals and holders
 pub frame_rows : (c : Core) (stamp : ℕ → ℕ) (hand : ℕ → List ℕ) (ripening : ℕ → List (ℕ × ℕ)) (cut : ℕ → Option CutRow) (base : ℕ → Option Base) (refused : ℕ → List Event) (holding : ℕ → Holding) → Inv c
-    → Reading c.start.layout.workers c.words.epoch c.words.current c.words.control c.epochs c.tick cut c.found
+    → Reading c.start.layout.workers c.words.epoch c.epochs c.tick cut
     → Holders c.start.layout hand cut c.chain holding
     → Cutting c.start.layout.workers c.guard cut
     → Stamps c.start.layout c.words.epoch stamp ripening holding
     → Cover (ground_of c) cut holding
+    → Sizes c.start c.words.control c.shape c.words.head c.words.link holding
+    → Steady c.start c.words.control c.words.link holding c.named
     → Marks c.start.layout c.words.link c.words.twin holding
     → Writing c.start.layout.workers c.words.link c.words.twin c.words.event hand c.written
-    → Naming c.start.layout c.words.control c.words.link c.words.event c.named holding
+    → Naming c.start.layout c.words.head c.words.link c.words.event c.named holding
     → Carriers c.start.layout c.history c.words.link c.words.event holding
     → Walkers c.start.layout c.words.control c.history c.begun c.words.link c.words.twin c.words.event holding c.rows c.walk
     → Scarce c.start.layout c.words.epoch c.history base c.guard holding
     → Refusals c.start.layout.workers c.history refused
     → Inv (record c { words = record c.words { stamp = stamp }; hand = hand; ripening = ripening; cut = cut; base = base; refused = refused; holding = holding })
-frame_rows c stamp hand ripening cut base refused holding inv reading holders cutting stamps cover marks writing naming carriers walkers scarce refusals = record {
+frame_rows c stamp hand ripening cut base refused holding inv reading holders cutting stamps cover sizes steady marks writing naming carriers walkers scarce refusals = record {
   spelled = inv.spelled;
   reading = reading;
+  finds = inv.finds;
   guards = inv.guards;
   holders = holders;
   cutting = cutting;
   stamps = stamps;
   chains = inv.chains;
   cover = cover;
+  sizes = sizes;
+  dues = inv.dues;
+  steady = steady;
   heads = inv.heads;
   sorted = inv.sorted;
   marks = marks;
@@ -97,12 +108,16 @@ pub frame_made : (c : Core) (j : ℕ) (m : Made) → Inv c → Inv (after_made c
 frame_made c j m inv = record {
   spelled = inv.spelled;
   reading = inv.reading;
+  finds = inv.finds;
   guards = inv.guards;
   holders = inv.holders;
   cutting = inv.cutting;
   stamps = inv.stamps;
   chains = inv.chains;
   cover = inv.cover;
+  sizes = inv.sizes;
+  dues = inv.dues;
+  steady = inv.steady;
   heads = inv.heads;
   sorted = inv.sorted;
   marks = inv.marks;

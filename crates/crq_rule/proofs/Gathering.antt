@@ -30,12 +30,16 @@ redealt_keeps : (c : Core) (deal : Deal) (own : ℕ → List Entry) → Told c.s
 redealt_keeps c deal own told inv = record {
   spelled = inv.spelled;
   reading = inv.reading;
+  finds = inv.finds;
   guards = inv.guards;
   holders = inv.holders;
   cutting = inv.cutting;
   stamps = inv.stamps;
   chains = inv.chains;
   cover = inv.cover;
+  sizes = inv.sizes;
+  dues = inv.dues;
+  steady = inv.steady;
   heads = inv.heads;
   sorted = inv.sorted;
   marks = inv.marks;

@@ -40,7 +40,7 @@ cutting_tagged c j inv = cutting_cut _ _ _ j (tagged c.words.epoch (c.cut j))
 
 pub load_keeps : (c : Core) (j : ℕ) → j < c.start.layout.workers → Inv c → Inv (epoch_loaded c j)
 load_keeps c j b inv = let e = c.words.epoch in let t = new_tick e in let o = tagged e (c.cut j) in frame_guards c _ _ _ _ _ _ _ _ _ _ inv
-    (read_epoch _ _ _ _ _ _ _ _ j e (le_refl e) (read_tick _ _ _ _ _ _ _ _ j t (le_refl e) (λ k a n. absurd n) (read_cut _ _ _ _ _ _ _ _ j o low inv.reading)))
+    (read_epoch _ _ _ _ _ j e (le_refl e) (read_tick _ _ _ _ _ j t (le_refl e) (λ k a n. absurd n) (read_cut _ _ _ _ _ j o low inv.reading)))
     (tick_set _ _ _ _ _ j t (λ i a _ n l. no_scan e c.guard i a n l) inv.guards)
     (holders_tagged _ _ _ _ _ j e inv.holders)
     (cutting_tagged c j inv)
@@ -77,7 +77,7 @@ enter_keeps c j e b off read inv = frame_guards c _ _ _ _ _ _ _ _ _ _ inv inv.re
 pub confirm_keeps : (c : Core) (j x : ℕ) → j < c.start.layout.workers → c.guard j ≡ Entering x → Inv c → Inv (confirmed c j)
 confirm_keeps c j x b is inv = let old : GuardIs c.words.epoch (c.words.announced j) (Entering x) = subst (GuardIs c.words.epoch (c.words.announced j)) is (inv.guards.each j b) in
     let a = old.0 in let low = old.1 in let e = c.words.epoch in frame_guards c _ _ _ _ _ _ _ _ _ _ inv
-    (read_epoch _ _ _ _ _ _ _ _ j e (le_refl e) inv.reading)
+    (read_epoch _ _ _ _ _ j e (le_refl e) inv.reading)
     (guard_set _ _ _ _ _ c.words.announced j (On e) (λ _ _. refl) (omega arith, omega arith, le_refl e, omega arith) inv.reading.loaded inv.guards)
     inv.holders
     (cutting_guard _ _ _ j (On e) (λ z b' at. entering_not_on (c.guard j) x is (inv.cutting.on j z b' at)) inv.cutting)
@@ -106,7 +106,7 @@ leave_keeps c j b uncut none inv = frame_guards c _ _ _ _ _ _ _ _ _ _ inv inv.re
 
 pub scan_keeps : (c : Core) (j k : ℕ) → j < c.start.layout.workers → k < c.start.layout.workers → Inv c → Inv (scanned c j k)
 scan_keeps c j k b d inv = let t = c.tick j in let t' : Tick = record { loaded = t.loaded; found = (k, c.words.announced k) ∷ t.found } in frame_guards c _ _ _ _ _ _ _ _ _ _ inv
-    (read_tick _ _ _ _ _ _ _ _ j t' (inv.reading.loaded j b) low inv.reading)
+    (read_tick _ _ _ _ _ j t' (inv.reading.loaded j b) low inv.reading)
     (tick_set _ _ _ _ _ j t' new inv.guards)
     inv.holders inv.cutting inv.stamps inv.cover inv.standing inv.lanes inv.walkers inv.scarce
   where
@@ -122,8 +122,8 @@ scan_keeps c j k b d inv = let t = c.tick j in let t' : Tick = record { loaded =
 
 pub tick_keeps : (c : Core) (j x : ℕ) → j < c.start.layout.workers → c.words.epoch ≡ x → x < 2 ^ 62 → (c.tick j).loaded ≡ x → c.guard j ≡ Off → HasScanned c.start.layout.workers j (c.tick j) → Inv c → Inv (ticked c j x)
 tick_keeps c j x b now limit is off all inv = let n = c.start.layout.workers in let t = new_tick 0 in
-    let reading = subst (λ z. Reading n z c.words.current c.words.control c.epochs c.tick c.cut c.found) now inv.reading in frame_guards c _ _ _ _ _ _ _ _ _ _ inv
-    (read_epoch _ _ _ _ _ _ _ _ j (x + 1) (le_refl (x + 1)) (read_tick _ _ _ _ _ _ _ _ j t (omega arith) (λ k a h. absurd h) (read_risen _ _ _ _ _ _ _ _ (omega arith) reading)))
+    let reading = subst (λ z. Reading n z c.epochs c.tick c.cut) now inv.reading in frame_guards c _ _ _ _ _ _ _ _ _ _ inv
+    (read_epoch _ _ _ _ _ j (x + 1) (le_refl (x + 1)) (read_tick _ _ _ _ _ j t (omega arith) (λ k a h. absurd h) (read_risen _ _ _ _ _ (omega arith) reading)))
     (tick_set _ _ _ _ _ j t (λ i a _ h l. no_scan 0 c.guard i a h l) (guards_risen _ _ _ _ _ low (subst (λ z. Guards n z c.words.announced c.guard c.tick) now inv.guards)))
     inv.holders inv.cutting
     (stamps_risen _ _ _ _ _ (subst (λ z. Stamps c.start.layout z c.words.stamp c.ripening c.holding) now inv.stamps))
@@ -137,6 +137,6 @@ tick_keeps c j x b now limit is off all inv = let n = c.start.layout.workers in 
 -- the exchange found another epoch, and the caller knows it
 pub tick_fails_keeps : (c : Core) (j : ℕ) → j < c.start.layout.workers → Inv c → Inv (tick_failed c j)
 tick_fails_keeps c j b inv = let t = new_tick 0 in let e = c.words.epoch in frame_guards c _ _ _ _ _ _ _ _ _ _ inv
-    (read_epoch _ _ _ _ _ _ _ _ j e (le_refl e) (read_tick _ _ _ _ _ _ _ _ j t (omega arith) (λ k a h. absurd h) inv.reading))
+    (read_epoch _ _ _ _ _ j e (le_refl e) (read_tick _ _ _ _ _ j t (omega arith) (λ k a h. absurd h) inv.reading))
     (tick_set _ _ _ _ _ j t (λ i a _ h l. no_scan 0 c.guard i a h l) inv.guards)
     inv.holders inv.cutting inv.stamps inv.cover inv.standing inv.lanes inv.walkers inv.scarce

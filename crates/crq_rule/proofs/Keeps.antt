@@ -17,7 +17,7 @@ use Rattle.crq_rule.specs.Invariant.{Inv}
 use Rattle.crq_rule.specs.ScarceParts.{pending}
 use Rattle.crq_rule.specs.Kinds.{tagged, new_base, new_tick, seen_stamp, base_looked, refused_after}
 use Rattle.crq_rule.specs.Ranks.{Cell, at_head, at_row, cell_place, link_at, heads_set, links_set}
-use Rattle.crq_rule.specs.ListKinds.{Content, new_link, no_twin, new_time, new_source, new_sequence, new_load, content_number, content_word, row_place, wrote, link_after, twin_after, event_after, put_entries, cut_debt, unhanded, forgotten, without_stand, unnamed, stands_after, walk_after, taken_on, sweep_on, clean_on, relieved}
+use Rattle.crq_rule.specs.ListKinds.{Content, new_link, no_twin, new_time, new_source, new_sequence, new_load, content_number, content_word, row_place, wrote, link_after, twin_after, event_after, put_entries, name_in, unhanded, forgotten, without_stand, unnamed, stands_after, walk_after, taken_on, sweep_on, clean_on, relieved}
 use Rattle.crq_rule.specs.Steps.{Kind, split, join, epoch_load, recovery_load, enter, confirm, leave, scan, tick, tick_fails, retire, look, claim, write, read, walk, link, link_fails, control_load, begin, mark, mark_fails, cut, cut_fails, miss, May, After, place_of, entries_of}
 use Rattle.crq_rule.proofs.Puts.{put_else, put_through}
 use Rattle.crq_rule.proofs.GuardLaws.{load_keeps, recovery_keeps, enter_keeps, confirm_keeps, leave_keeps, scan_keeps, tick_keeps, tick_fails_keeps}
@@ -129,7 +129,7 @@ others_stay begin c j i ne = λ x. record (caller_of c i) {
 others_stay (mark r e) c j i ne = λ x. record (caller_of c i) {
   own = put_else c.own j (c.own j ++ Take j e ∷ []) i ne x;
   walk = put_else c.walk j None i ne x;
-  debts = owed_by (c.settling i) (c.copying i) (put_else c.named j (record (c.named j) { first = Some (cut_debt c.words.control r e) }) i ne x);
+  debts = owed_by (c.settling i) (c.copying i) (put_else c.named j (record (c.named j) { first = Some (name_in c.shape (c.words.link r).generation r e) }) i ne x);
 }
 others_stay (mark_fails r) c j i ne = refl
 others_stay (cut cell y l) c j i ne = λ x. record (caller_of c i) {

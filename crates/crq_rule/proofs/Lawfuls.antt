@@ -1,5 +1,6 @@
 -- What the invariant says of what one caller knows alone.
-use Rattle.std.proofs.Common.{◌≡◌, ◌∙◌, false, ℕ, ◌<◌, sym, refl, ap, subst, arith}
+use Rattle.std.proofs.Common.{inl, ◌≡◌, ◌∙◌, false, ℕ, ◌<◌, sym, refl, ap, subst, arith}
+use Rattle.crq_base.specs.declared.words.Control.{Control}
 use Rattle.crq_base.specs.Words.{IsLink, IsControl}
 use Rattle.crq_base.specs.Lists.{In}
 use Rattle.crq_rule.specs.Ranks.{head_of}
@@ -12,6 +13,7 @@ use Rattle.crq_rule.specs.Parts.{ground_of, Covers, IsEvent, IsOn}
 use Rattle.crq_rule.specs.Invariant.{Inv}
 use Rattle.crq_rule.specs.Moves.{Lawful}
 use Rattle.crq_rule.proofs.CoverLaws.{guarded_by, stand_row, row_footing, footing_covered}
+use Rattle.crq_rule.proofs.SteadyLaws.{steady_still, steady_one, found_now, named_now}
 use Rattle.crq_rule.proofs.ScarceLaws.{rows_counted}
 
 -- a caller whose guard isn't off or entering found an epoch
@@ -41,10 +43,11 @@ lawful c j b inv = record {
   apart = λ r s held i e. let v = stand_covered c j s b i inv in inv.cover.free j v.0 s.row j v.1 (ap c.holding e ∙ (inv.holders.held j r b held).1);
   on = λ s i. stander_on c j s b i inv;
   agree = λ s t i k e. sym (inv.standing.holds j s b i) ∙ (ap c.words.event e ∙ inv.standing.holds j t b k);
-  owed_at = λ d x owed is. subst (λ z. d.head ≡ head_of z d.event) (sym (inv.reading.read_control j x b is)) (inv.naming.place j d b owed).0;
-  owed_fits = λ d owed. let n = inv.naming.place j d b owed in (n.1, n.2);
+  owed_at = λ d x owed is. subst (λ z. d.head ≡ head_of z d.event) (sym (found_now c inv j x b is)) (named_now c inv j d b (inl owed)).1;
+  owed_now = λ d x owed is. subst (λ (z : Control). d.generation ≡ z.generation) (sym (found_now c inv j x b is)) (named_now c inv j d b (inl owed)).0;
+  owed_fits = λ d owed. let n = inv.naming.place j d b (inl owed) in (n.row, n.event);
   scarce = λ x vain. rows_counted c j x b vain inv;
-  controlled = λ x is. subst (λ z. IsControl z × (z.moving ≡ false) × (z.log ≡ 0)) (sym (inv.reading.read_control j x b is)) (inv.spelled.is_control, inv.heads.steady, inv.heads.one);
+  controlled = λ x is. subst (λ z. IsControl z × (z.moving ≡ false) × (z.log ≡ 0)) (sym (found_now c inv j x b is)) (inv.spelled.is_control, steady_still c inv, steady_one c inv);
 }
   where
     row_of : (s : Stand) → In s (c.rows j) → IsRow c.start.layout s.row

@@ -4,6 +4,8 @@ pub mod PartLaws
 pub mod HolderLaws
 pub mod CoverLaws
 pub mod StandLaws
+pub mod SizeLaws
+pub mod SteadyLaws
 pub mod ChainLaws
 pub mod WriteLaws
 pub mod Standings

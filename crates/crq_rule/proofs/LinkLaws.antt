@@ -6,6 +6,7 @@ use native.Mathlib.Decide.{ℕ_discrete}
 use Rattle.crq_base.specs.declared.event.Event.{Event}
 use Rattle.crq_base.specs.declared.entry.Entry.TheVariants.{Begin, Put, Settled}
 use Rattle.crq_base.specs.declared.words.Link.{Link}
+use Rattle.crq_base.specs.declared.words.Control.{Control}
 use Rattle.crq_base.specs.declared.words.Mark.{Mark}
 use Rattle.crq_base.specs.declared.words.Mark.TheVariants.{Val, Mov, Del}
 use Rattle.crq_base.specs.Words.{IsLink}
@@ -18,15 +19,18 @@ use Rattle.crq_rule.specs.declared.view.CutRow.{CutRow}
 use Rattle.crq_rule.specs.declared.view.Wrote.{Wrote}
 use Rattle.crq_rule.specs.Lists.{put}
 use Rattle.crq_rule.specs.Places.{IsRow, IsHomeRow, IsHead}
-use Rattle.crq_rule.specs.Core.{Core, caller_of, Holding, in_hand, listed, cut_by, retired}
-use Rattle.crq_rule.specs.Parts.{Spelled, IsEvent, Holders, Stamps, stamp_of, Chains, Leads, Names, IsPath, Reaches, Ground, ground_of, footings, Covers, IsGuarded, Cover, HasTag, IsOn}
+use Rattle.crq_rule.specs.Core.{Core, IsOutside, HasName, caller_of, Holding, in_hand, listed, cut_by, retired}
+use Rattle.crq_rule.specs.Parts.{Fits, Spelled, IsEvent, Holders, Stamps, stamp_of, Chains, Leads, Names, IsPath, Reaches, Ground, ground_of, footings, Covers, IsGuarded, Cover, HasTag, IsOn}
 use Rattle.crq_rule.specs.ListParts.{ranks, Heads, IsShutHead, Sorted, MarkFits, TwinFits, Marks, IsFinal, Standing, Lanes, row_word, Writing, IsNamed, Naming}
 use Rattle.crq_rule.specs.HistoryParts.{IsLive, Carriers, Walkers}
-use Rattle.crq_rule.specs.Ranks.{rank, head_of, IsOpen, Cell, at_head, at_row, link_at, heads_set, links_set, Rises, after_cell}
+use Rattle.crq_rule.specs.Ranks.{rank, list_in, head_of, IsOpen, Cell, at_head, at_row, link_at, heads_set, links_set, Rises, after_cell}
 use Rattle.crq_rule.specs.Invariant.{Inv}
 use Rattle.crq_rule.specs.ListKinds.{unhanded, forgotten, put_entries, linked, StandsOn, ComesAfter, MayLink}
 use Rattle.crq_rule.proofs.Puts.{put_here, put_else, put_all}
 use Rattle.crq_rule.proofs.PartLaws.{home_is_row, one_home, sort, of_whom, apart}
+use Rattle.crq_rule.specs.declared.debts.CutDebt.{CutDebt}
+use Rattle.crq_rule.proofs.SizeLaws.{fitting_list, sizes_rows}
+use Rattle.crq_rule.proofs.SteadyLaws.{found_now, steady_rows}
 use Rattle.crq_rule.proofs.CoverLaws.{stand_row, row_footing}
 use Rattle.crq_rule.proofs.HistoryLaws.{fresh_put, told_put, pending_put, put_pending, outs_put, not_out, front_of}
 use Rattle.crq_rule.proofs.ScarceLaws.{base_lasts, base_grown, lasts_held, scarce_drop, refusals_grown}
@@ -171,15 +175,17 @@ record Linking (c : Core) (j : ℕ) (cell : Cell) (l : Link) (r q : ℕ) (e : Ev
   event_is : c.words.event r ≡ e
   cell_is : link_at c.words.head c.words.link cell ≡ l
   mark_is : l.mark ≡ Val
+  now : l.generation ≡ c.words.control.generation
   is_head : IsHead q
   of : IsOf cell q (c.chain q)
   below : IsBelow (ranks c.words.event) cell r
   next : (l.row ≡ 0) ⊎ (ranks c.words.event r < ranks c.words.event l.row)
 
-cell_of : (c : Core) (j : ℕ) (cell : Cell) (r : ℕ) (e : Event) → j < c.start.layout.workers → IsOn (c.guard j) → (link_at c.words.head c.words.link cell).mark ≡ Val → c.words.event r ≡ e
-    → ComesAfter c.words.control (c.rows j) cell r e → Inv c → let q = head_of c.words.control e in IsHead q × IsOf cell q (c.chain q) × IsBelow (ranks c.words.event) cell r
-cell_of c j (at_head h) r e b on mark event after inv = (subst IsHead (sym after.1) after.0, sym after.1, tt)
-cell_of c j (at_row p) r e b on mark event after inv =
+-- the list of a cell whose link is of the table of a control word that was found
+cell_of : (c : Core) (j : ℕ) (x : Control) (cell : Cell) (r : ℕ) (e : Event) → j < c.start.layout.workers → IsOn (c.guard j) → Fits c.start c.words.control c.shape x → (link_at c.words.head c.words.link cell).mark ≡ Val
+    → (link_at c.words.head c.words.link cell).generation ≡ x.generation → c.words.event r ≡ e → ComesAfter x (c.rows j) cell r e → Inv c → let q = head_of x e in IsHead q × IsOf cell q (c.chain q) × IsBelow (ranks c.words.event) cell r
+cell_of c j x (at_head h) r e b on fits mark same event after inv = (subst IsHead (sym after.1) after.0, sym after.1, tt)
+cell_of c j x (at_row p) r e b on fits mark same event after inv =
     let f = after.0 in let s = after.1 in let g = on_is (c.guard j) on in
     let covers : Covers (ground_of c) j g.0 p = record {
       inside = b;
@@ -192,21 +198,25 @@ cell_of c j (at_row p) r e b on mark event after inv =
     let lists = listed_is (c.holding p) (c.words.link p).mark (inv.marks.mark p row) mark (λ k h. inv.cover.free j g.0 p k covers h) in
     let found = inv.holders.of_chain lists.0 p row lists.1 in
     let holds : c.words.event p ≡ f = subst (λ z. c.words.event z ≡ f) s.2 (inv.standing.holds j s.0 b s.1 ∙ s.3) in
-    let here : lists.0 ≡ head_of c.words.control e = sym (inv.sorted.belongs lists.0 p found.0 found.1) ∙ (ap (head_of c.words.control) holds ∙ after.3) in (
+    let generation : (c.words.head lists.0).generation ≡ x.generation = sym (inv.sorted.generation lists.0 p found.0 found.1) ∙ same in
+    let here : lists.0 ≡ head_of x e = sym (inv.sorted.belongs lists.0 p found.0 found.1) ∙ ((λ i. list_in c.shape (generation i) (holds i)) ∙ (fitting_list c.start c.words.control c.shape x fits f ∙ after.3)) in (
       subst IsHead here found.0,
       subst (λ z. In p (c.chain z)) here found.1,
       subst (λ (z : Event × Event). rank z.0 p < rank z.1 r) (λ i. (sym holds i, sym event i)) after.2,
     )
 
-known : (c : Core) (j : ℕ) (cell : Cell) (l : Link) (r : ℕ) (e : Event) → j < c.start.layout.workers → MayLink c.start.layout.workers c.words.control cell l r e (caller_of c j) → link_at c.words.head c.words.link cell ≡ l → Inv c
-    → Linking c j cell l r (head_of c.words.control e) e
-known c j cell l r e b may is inv =
+known : (c : Core) (j : ℕ) (x : Control) (cell : Cell) (l : Link) (r : ℕ) (e : Event) → j < c.start.layout.workers → MayLink c.start.layout.workers x cell l r e (caller_of c j) → link_at c.words.head c.words.link cell ≡ l → Inv c
+    → Linking c j cell l r (list_in c.shape l.generation e) e
+known c j x cell l r e b may is inv =
     let held = inv.holders.held j r b may.in_hand_is in
     let row = home_is_row c.start.layout j r b held.0 in
     let w = may.written in let word = inv.writing.stands j in
     let present : record l { mark = Val } ≡ l = λ i. record l { mark = sym may.expected.1 i } in
     let event = event_one (c.words.event r) e (inv.spelled.events r row) may.event (word _ b w.time_is) (word _ b w.source_is) (word _ b w.sequence_is) (word _ b w.load_is) in
-    let at = cell_of c j cell r e b may.on (ap (λ (y : Link). y.mark) is ∙ may.expected.1) event may.after inv in record {
+    let fits = inv.finds.controls j x b may.control in
+    let list : head_of x e ≡ list_in c.shape l.generation e = sym (fitting_list c.start c.words.control c.shape x fits e) ∙ ap (λ g. list_in c.shape g e) (sym may.expected.2) in
+    let at = subst (λ q. IsHead q × IsOf cell q (c.chain q) × IsBelow (ranks c.words.event) cell r) list
+    (cell_of c j x cell r e b may.on fits (ap (λ (y : Link). y.mark) is ∙ may.expected.1) (ap (λ (y : Link). y.generation) is ∙ may.expected.2) event may.after inv) in record {
       inside = b;
       row = row;
       hand = may.in_hand_is;
@@ -217,6 +227,7 @@ known c j cell l r e b may is inv =
       event_is = event;
       cell_is = is;
       mark_is = may.expected.1;
+      now = may.expected.2 ∙ ap (λ (z : Control). z.generation) (found_now c inv j x b may.control);
       is_head = at.0;
       of = at.1;
       below = at.2;
@@ -229,7 +240,7 @@ known c j cell l r e b may is inv =
 
 module _ (c : Core) (j : ℕ) (cell : Cell) (l : Link) (r : ℕ) (e : Event) where
   abbrev q : ℕ
-  q = head_of c.words.control e
+  q = list_in c.shape l.generation e
 
   abbrev new : Link
   new = record l { row = r }
@@ -295,6 +306,13 @@ module _ (c : Core) (j : ℕ) (cell : Cell) (l : Link) (r : ℕ) (e : Event) whe
     new_is : IsLink new
     new_is = let low = f.row.1 in let fit = c.start.layout.all_fit in record { generation = f.spelled.generation; row = omega arith }
 
+    -- the row r is of the open table, and the others in no hand weren't in one
+    new_now : (link' r).generation ≡ c.words.control.generation
+    new_now = same_generation r ∙ (ap (λ (y : Link). y.generation) f.link_is ∙ f.now)
+
+    was_outside : (s : ℕ) → IsOutside holding' s → (s ≡ r) ⊎ IsOutside c.holding s
+    was_outside s out = dite (ℕ_discrete s r) inl (λ ne. inr (λ i at. out i (put_else c.holding r (listed q) s ne ∙ at)))
+
     spelled_after : Spelled c.start.layout c.words.control c.words.current c.words.pin head' link' c.words.twin c.words.event
     spelled_after = let old = inv.spelled in record {
       is_control = old.is_control;
@@ -359,8 +377,6 @@ module _ (c : Core) (j : ℕ) (cell : Cell) (l : Link) (r : ℕ) (e : Event) whe
 
     heads_after : Heads c.words.control head'
     heads_after = record {
-      steady = inv.heads.steady;
-      one = inv.heads.one;
       opened = λ h b is_open. let o = inv.heads.opened h b is_open in (heads_same (λ (y : Link). y.mark) cell c.words.head c.words.link new h (ap (λ (y : Link). y.mark) (sym f.cell_is)) ∙ o.0, same_head h ∙ o.1);
       shut = shut cell f.cell_is;
     }
@@ -370,15 +386,19 @@ module _ (c : Core) (j : ℕ) (cell : Cell) (l : Link) (r : ℕ) (e : Event) whe
     generation_is (at_head h) is of = ap (λ (y : Link). y.generation) (sym is ∙ ap c.words.head of)
     generation_is (at_row p) is of = ap (λ (y : Link). y.generation) (sym is) ∙ inv.sorted.generation q p f.is_head of
 
-    sorted_after : Sorted c.words.control head' link' c.words.event chain'
+    -- the list of its rows, by the link found
+    list_here : (s : ℕ) → In s (c.chain q) → list_in c.shape l.generation (c.words.event s) ≡ q
+    list_here s i = ap (λ g. list_in c.shape g (c.words.event s)) (generation_is cell f.cell_is f.of) ∙ inv.sorted.belongs q s f.is_head i
+
+    sorted_after : Sorted c.shape head' link' c.words.event chain'
     sorted_after = let old = inv.sorted in record {
       rises = put_all c.chain q more (λ h xs. IsHead h → Rises (ranks c.words.event) 0 xs)
           (λ _. cell_rises cell c.words.head c.words.link (ranks c.words.event) q r (c.chain q) (λ s i. (inv.holders.in_chain q s f.is_head i).0.0) f.of leads (old.rises q f.is_head) (rank_some (c.words.event r) r f.row.0) f.below
           (subst (λ (y : Link). (y.row ≡ 0) ⊎ (ranks c.words.event r < ranks c.words.event y.row)) (sym f.cell_is) f.next))
           (λ h _. old.rises h);
-      belongs = λ h s. put_all c.chain q more (λ h xs. IsHead h → In s xs → head_of c.words.control (c.words.event s) ≡ h)
-          (λ b i. ⊎_elim (λ (z : s ≡ r). ap (λ y. head_of c.words.control (c.words.event y)) z ∙ ap (head_of c.words.control) f.event_is) (old.belongs q s b) (in_cell cell r s (c.chain q) i))
-          (λ h _. old.belongs h s) h;
+      belongs = λ h s b i. ap (λ g. list_in c.shape g (c.words.event s)) (same_head h) ∙ put_all c.chain q more (λ h xs. IsHead h → In s xs → list_in c.shape (c.words.head h).generation (c.words.event s) ≡ h)
+          (λ b i. ⊎_elim (λ (z : s ≡ r). λ k. list_in c.shape (sym (generation_is cell f.cell_is f.of) k) ((ap c.words.event z ∙ f.event_is) k)) (old.belongs q s b) (in_cell cell r s (c.chain q) i))
+          (λ h _. old.belongs h s) h b i;
       generation = λ h s b i. same_generation s ∙ (put_all c.chain q more (λ h xs. IsHead h → In s xs → (c.words.link s).generation ≡ (c.words.head h).generation)
           (λ b i. ⊎_elim (λ (z : s ≡ r). ap (λ y. (c.words.link y).generation) z ∙ (ap (λ (y : Link). y.generation) f.link_is ∙ generation_is cell f.cell_is f.of)) (old.generation q s b) (in_cell cell r s (c.chain q) i))
           (λ h _. old.generation h s) h b i ∙ sym (same_head h));
@@ -428,13 +448,13 @@ module _ (c : Core) (j : ℕ) (cell : Cell) (l : Link) (r : ℕ) (e : Event) whe
 
     -- the link y of the row s leads on to a greater row of the same list
     abbrev Lane : ℕ → Link → Type 0
-    Lane s y = 0 < y.row → (ranks c.words.event s < ranks c.words.event y.row) × (head_of c.words.control (c.words.event y.row) ≡ head_of c.words.control (c.words.event s)) × ((link' y.row).generation ≡ y.generation)
+    Lane s y = 0 < y.row → (ranks c.words.event s < ranks c.words.event y.row) × (list_in c.shape y.generation (c.words.event y.row) ≡ list_in c.shape y.generation (c.words.event s)) × ((link' y.row).generation ≡ y.generation)
 
     lane_of_new : Lane r l
     lane_of_new some = let listed_next : In l.row (c.chain q) = ⊎_elim (λ z. absurd (let e = ap (λ (y : Link). y.row) f.cell_is in omega arith)) (λ i. subst (λ (y : Link). In y.row (c.chain q)) f.cell_is i)
         (cell_next cell c.words.head c.words.link q (c.chain q) f.of leads) in (
           ⊎_elim (λ z. absurd (omega arith)) (λ low. low) f.next,
-          inv.sorted.belongs q l.row f.is_head listed_next ∙ ap (head_of c.words.control) (sym f.event_is),
+          list_here l.row listed_next ∙ ap (list_in c.shape l.generation) (sym f.event_is),
           same_generation l.row ∙ (inv.sorted.generation q l.row f.is_head listed_next ∙ sym (generation_is cell f.cell_is f.of)),
         )
 
@@ -448,12 +468,12 @@ module _ (c : Core) (j : ℕ) (cell : Cell) (l : Link) (r : ℕ) (e : Event) whe
         (λ v some. (inv.lanes.rises s v some, inv.lanes.stays s v some, same_generation (c.words.link s).row ∙ inv.lanes.generation s v some)) (guarded_before s v)))
         (λ (h : (link' s ≡ new) × (ranks c.words.event s < ranks c.words.event r) × In s (c.chain q)). subst (Lane s) (sym h.0) (λ some. (
           h.1,
-          ap (head_of c.words.control) f.event_is ∙ sym (inv.sorted.belongs q s f.is_head h.2),
+          ap (list_in c.shape l.generation) f.event_is ∙ sym (list_here s h.2),
           same_generation r ∙ ap (λ (y : Link). y.generation) f.link_is,
         )))
         (link_either cell f.of f.below s)
 
-    lanes_after : Lanes c.start.layout c.words.control ground' c.words.event
+    lanes_after : Lanes c.start.layout c.shape ground' c.words.event
     lanes_after = record {
       is_row = λ s v. ⊎_elim (λ z. subst (IsRow c.start.layout) (sym z) f.row) (inv.lanes.is_row s) (guarded_before s v);
       rises = λ s v some. (lane s v some).0;
@@ -474,11 +494,21 @@ module _ (c : Core) (j : ℕ) (cell : Cell) (l : Link) (r : ℕ) (e : Event) whe
         still : (k : ℕ) (x : Wrote) → k < c.start.layout.workers → In x (c.written k) → row_word (link' x.row) (c.words.twin x.row) (c.words.event x.row) x.place ≡ x.word
         still k x b i = subst (λ y. row_word y (c.words.twin x.row) (c.words.event x.row) x.place ≡ x.word) (sym (link_of_hand k x.row (inv.holders.held k x.row b (inv.writing.in_hand_is k x b i)).1)) (inv.writing.stands k x b i)
 
-    naming_after : Naming c.start.layout c.words.control link' c.words.event c.named holding'
+    -- a head that is frozen stays as it is
+    front_stays : (cell : Cell) → link_at c.words.head c.words.link cell ≡ l → (h s : ℕ) → ((c.words.head h).mark ≡ Mov) × ((c.words.head h).row ≡ s) → ((heads_set c.words.head cell new h).mark ≡ Mov) × ((heads_set c.words.head cell new h).row ≡ s)
+    front_stays (at_row p) is h s front = front
+    front_stays (at_head k) is h s front = subst (λ (y : Link). (y.mark ≡ Mov) × (y.row ≡ s))
+        (sym (put_else c.words.head k new h (λ e. val_mov (sym f.mark_is ∙ (ap (λ (y : Link). y.mark) (sym is) ∙ (ap (λ z. (c.words.head z).mark) (sym e) ∙ front.0)))))) front
+
+    name_stays : (d : CutDebt) (s : ℕ) → IsNamed c.words.head d s (c.words.event s) (c.words.link s) → IsNamed head' d s (c.words.event s) (link' s)
+    name_stays d s n = record { row = n.row; event = n.event; generation = n.generation ∙ sym (same_generation s); front = λ is. front_stays cell f.cell_is d.head s (n.front is) }
+
+    naming_after : Naming c.start.layout head' link' c.words.event c.named holding'
     naming_after = record {
-      named = λ s h. put_all c.holding r (listed q) (λ s x. IsRow c.start.layout s → x ≡ listed h → (link' s).mark ≡ Del → (k : ℕ) × (k < c.start.layout.workers) × (IsNamed (c.named k).first s (c.words.event s) ⊎ IsNamed (c.named k).second s (c.words.event s)))
+      named = λ s h. put_all c.holding r (listed q)
+          (λ s x. IsRow c.start.layout s → x ≡ listed h → (link' s).mark ≡ Del → (k : ℕ) × (k < c.start.layout.workers) × ((d : CutDebt) × HasName (c.named k) d × IsNamed head' d s (c.words.event s) (link' s)))
           (λ _ _ is. absurd (val_del (sym f.mark_is ∙ (ap (λ (y : Link). y.mark) (sym f.link_is) ∙ (sym (same_mark r) ∙ is)))))
-          (λ s _ b at is. inv.naming.named s h b at (sym (same_mark s) ∙ is)) s;
+          (λ s _ b at is. let o = inv.naming.named s h b at (sym (same_mark s) ∙ is) in (o.0, o.1, (o.2.0, o.2.1, name_stays o.2.0 s o.2.2))) s;
       place = inv.naming.place;
     }
 
@@ -527,16 +557,21 @@ no_begin : (j : ℕ) (e : Event) (k : ℕ) → In (Begin k) (put_entries j e) �
 no_begin j e k i = ⊎_elim (λ (q : Begin k ≡ Put j e). cc) (λ t. ⊎_elim (λ (q : Begin k ≡ Settled j e). cc) (λ n. n) t) i
 
 -- Link keeps the invariant
-pub link_keeps : (c : Core) (j : ℕ) (cell : Cell) (l : Link) (r : ℕ) (e : Event) → j < c.start.layout.workers → MayLink c.start.layout.workers c.words.control cell l r e (caller_of c j) → link_at c.words.head c.words.link cell ≡ l → Inv c → Inv (linked c j cell l r e)
-link_keeps c j cell l r e b may is inv = let f = known c j cell l r e b may is inv in record {
+pub link_keeps : (c : Core) (j : ℕ) (cell : Cell) (l : Link) (r : ℕ) (e : Event) → j < c.start.layout.workers → ((x : Control) × MayLink c.start.layout.workers x cell l r e (caller_of c j)) → link_at c.words.head c.words.link cell ≡ l → Inv c → Inv (linked c j cell l r e)
+link_keeps c j cell l r e b (x, may) is inv = let f = known c j x cell l r e b may is inv in record {
   spelled = spelled_after c j cell l r e f inv;
   reading = inv.reading;
+  finds = inv.finds;
   guards = inv.guards;
   holders = holders_after c j cell l r e f inv;
   cutting = inv.cutting;
   stamps = stamps_after c j cell l r e f inv;
   chains = chains_after c j cell l r e f inv;
   cover = cover_after c j cell l r e f inv;
+  sizes = sizes_rows _ _ _ _ _ _ _ _ _ (λ h _. same_head c j cell l r e f inv h) (λ s b out. ⊎_elim (λ (z : s ≡ r). inr (let now = ap (λ z. (link' c j cell l r e z).generation) z ∙ new_now c j cell l r e f inv in omega arith))
+      (λ h. inl (h, same_generation c j cell l r e f inv s)) (was_outside c j cell l r e f inv s out)) inv.sizes;
+  dues = inv.dues;
+  steady = steady_rows _ _ _ _ _ _ _ (λ s b out. ⊎_elim (λ (z : s ≡ r). inr (ap (λ z. (link' c j cell l r e z).generation) z ∙ new_now c j cell l r e f inv)) (λ h. inl (h, same_generation c j cell l r e f inv s)) (was_outside c j cell l r e f inv s out)) inv.steady;
   heads = heads_after c j cell l r e f inv;
   sorted = sorted_after c j cell l r e f inv;
   marks = marks_after c j cell l r e f inv;
@@ -549,8 +584,8 @@ link_keeps c j cell l r e b may is inv = let f = known c j cell l r e b may is i
   walkers = walkers_after c j cell l r e f inv;
   scarce = let home = (inv.holders.held j r b may.in_hand_is).0 in scarce_drop _ _ _ _ _ _ _ _ j
       (λ k x _ ne old. base_grown _ _ _ (put_entries j e) _ _ k x (no_begin j e k) (base_lasts _ _ _ _ _ _ _ _ k x (le_refl _)
-      (lasts_held _ _ _ _ r (listed (head_of c.words.control e)) k (λ _ here _. absurd (ne (one_home c.start.layout k j r here home))) (λ _ _ _ _. inr tt)) old)) inv.scarce;
+      (lasts_held _ _ _ _ r (listed (list_in c.shape l.generation e)) k (λ _ here _. absurd (ne (one_home c.start.layout k j r here home))) (λ _ _ _ _. inr tt)) old)) inv.scarce;
   refusals = refusals_grown _ _ _ _ (λ k. no_begin j e k) inv.refusals;
-  swept = swept_linked c j cell r e b (inv.holders.held j r b may.in_hand_is).0 f.event_is (fresh_put c.start.layout.workers c.history c.deal c.own c.begun j e b may.fresh inv.told) inv
+  swept = swept_linked c j cell (list_in c.shape l.generation e) r e b (inv.holders.held j r b may.in_hand_is).0 f.event_is (fresh_put c.start.layout.workers c.history c.deal c.own c.begun j e b may.fresh inv.told) inv
       (swept_grown _ _ _ _ _ _ _ (λ k. no_begin j e k) inv.swept) (no_begin j e);
 }

@@ -1,20 +1,24 @@
 -- A new table has empty lists, and all rows in hand: it meets the parts of the invariant on lists and on the history.
-use Rattle.std.proofs.Common.{◌≡◌, ℕ, ◌+◌, ◌<◌, ◌≤◌, cond, ◌&&◌, Bool, true, false, ltb, leb, List, [], ◌∷◌, ◌++◌, Some, None, sym, refl, ap, subst, arith}
-use Rattle.std.proofs.lemmas.Bool.{lt-ltb, ltb-true, le-leb, leb-true}
+use Rattle.std.proofs.Common.{◌≡◌, ◌⊎◌, ⊎_elim, le_refl, ℕ, ◌+◌, ◌<◌, ◌≤◌, cond, ◌&&◌, Bool, true, false, ltb, leb, List, [], ◌∷◌, ◌++◌, Some, None, sym, refl, ap, subst, arith}
+use Rattle.std.proofs.lemmas.Bool.{false≢true, lt-ltb, ltb-true, le-leb, leb-true}
 use Rattle.crq_base.specs.declared.entry.Entry.{Entry}
 use Rattle.crq_base.specs.declared.entry.Entry.TheVariants.{Begin}
 use Rattle.crq_base.specs.declared.words.Link.{Link}
+use Rattle.crq_base.specs.Words.{IsControl}
 use Rattle.crq_base.specs.Starts.{IsFirst}
+use Rattle.crq_rule.specs.declared.debts.SettleDebt.{SettleDebt}
+use Rattle.crq_rule.specs.declared.debts.CopyDebt.{CopyDebt}
 use Rattle.crq_rule.specs.declared.debts.CutDebt.{CutDebt}
 use Rattle.crq_rule.specs.declared.layout.Start.{Start}
 use Rattle.crq_rule.specs.declared.view.Guard.TheVariants.{Off, On}
 use Rattle.crq_rule.specs.declared.view.Walk.{Walk}
 use Rattle.crq_rule.specs.Core.{in_hand, listed}
 use Rattle.crq_rule.specs.Ranks.{first_head_of, IsOpen}
-use Rattle.crq_rule.specs.Parts.{ground_of}
-use Rattle.crq_rule.specs.ListParts.{Heads, Sorted, Marks, Standing, Lanes, Writing, Naming, IsOpenHead, IsShutHead}
+use Rattle.crq_rule.specs.Parts.{ground_of, Fits}
+use Rattle.crq_rule.specs.Steady.{Steady}
+use Rattle.crq_rule.specs.ListParts.{Sizes, Dues, Heads, Sorted, Marks, Standing, Lanes, Writing, Naming, IsOpenHead, IsShutHead}
 use Rattle.crq_rule.specs.HistoryParts.{Carriers, Told, Walkers, IsLive}
-use Rattle.crq_rule.specs.Opening.{opening_core, opening_head, open_head, shut_head}
+use Rattle.crq_rule.specs.Opening.{home_of, opening_core, opening_head, open_head, shut_head}
 use Rattle.crq_rule.proofs.PartLaws.{sort}
 
 hand_listed : (j q : ℕ) → in_hand j ≡ listed q → ⊥
@@ -29,13 +33,26 @@ no_walk w e = cc
 no_debt : (d : CutDebt) → None ≡ Some d → ⊥
 no_debt d e = cc
 
+no_name : (d : CutDebt) → (None ≡ Some d) ⊎ (None ≡ Some d) → ⊥
+no_name d has = ⊎_elim (no_debt d) (no_debt d) has
+
+no_settle : (d : SettleDebt) → None ≡ Some d → ⊥
+no_settle d e = cc
+
+no_copy : (d : CopyDebt) → None ≡ Some d → ⊥
+no_copy d e = cc
+
+pub opening_control : (s : Start) → IsFirst s.first → IsControl (opening_core s).words.control
+opening_control s first = let top = first.upto in
+    record { generation = omega arith; log = omega arith; shift = omega arith; new_log = omega arith; new_shift = omega arith; steady_log = λ _. refl; steady_shift = λ _. refl }
+
 no_begin : (front : List Entry) (j : ℕ) → [] ≡ front ++ Begin j ∷ [] → ⊥
 no_begin [] j e = cc
 no_begin (x ∷ xs) j e = cc
 
 module _ (s : Start) (first : IsFirst s.first) where
   pub opening_heads : Heads (opening_core s).words.control (opening_core s).words.head
-  opening_heads = record { steady = refl; one = refl; opened = λ q _ o. opened q o.0 o.1; shut = λ q _ out. shut q (leb (first_head_of s.first.generation) q) (ltb q (first_head_of s.first.generation + 1)) refl refl out }
+  opening_heads = record { opened = λ q _ o. opened q o.0 o.1; shut = λ q _ out. shut q (leb (first_head_of s.first.generation) q) (ltb q (first_head_of s.first.generation + 1)) refl refl out }
     where
       opened : (q : ℕ) → first_head_of s.first.generation ≤ q → q < first_head_of s.first.generation + 1 → IsOpenHead (opening_core s).words.control (opening_head s.first.generation q)
       opened q low high = subst (λ (l : Link). IsOpenHead (opening_core s).words.control l)
@@ -47,7 +64,7 @@ module _ (s : Start) (first : IsFirst s.first) where
       shut q false b e f out = (refl, refl, let above = first.from in omega arith)
       shut q true false e f out = (refl, refl, let above = first.from in omega arith)
 
-  pub opening_sorted : Sorted (opening_core s).words.control (opening_core s).words.head (opening_core s).words.link (opening_core s).words.event (opening_core s).chain
+  pub opening_sorted : Sorted (opening_core s).shape (opening_core s).words.head (opening_core s).words.link (opening_core s).words.event (opening_core s).chain
   opening_sorted = record { rises = λ _ _. tt; belongs = λ _ _ _ i. absurd i; generation = λ _ _ _ i. absurd i }
 
   pub opening_marks : Marks s.layout (opening_core s).words.link (opening_core s).words.twin (opening_core s).holding
@@ -56,7 +73,7 @@ module _ (s : Start) (first : IsFirst s.first) where
   pub opening_standing : Standing s.layout.workers (opening_core s).words.link (opening_core s).words.event (opening_core s).rows
   opening_standing = record { holds = λ _ _ _ i. absurd i; last = λ _ _ _ _ i _. absurd i }
 
-  pub opening_lanes : Lanes s.layout (opening_core s).words.control (ground_of (opening_core s)) (opening_core s).words.event
+  pub opening_lanes : Lanes s.layout (opening_core s).shape (ground_of (opening_core s)) (opening_core s).words.event
   opening_lanes = record {
     is_row = λ r v. absurd (off_on v.1 v.2.on);
     rises = λ r v _. absurd (off_on v.1 v.2.on);
@@ -67,8 +84,25 @@ module _ (s : Start) (first : IsFirst s.first) where
   pub opening_writing : Writing s.layout.workers (opening_core s).words.link (opening_core s).words.twin (opening_core s).words.event (opening_core s).hand (opening_core s).written
   opening_writing = record { placed = λ _ _ _ i. absurd i; in_hand_is = λ _ _ _ i. absurd i; stands = λ _ _ _ i. absurd i }
 
-  pub opening_naming : Naming s.layout (opening_core s).words.control (opening_core s).words.link (opening_core s).words.event (opening_core s).named (opening_core s).holding
-  opening_naming = record { named = λ r q _ at _. absurd (hand_listed _ q at); place = λ k d _ at. absurd (no_debt d at) }
+  pub opening_naming : Naming s.layout (opening_core s).words.head (opening_core s).words.link (opening_core s).words.event (opening_core s).named (opening_core s).holding
+  opening_naming = record { named = λ r q _ at _. absurd (hand_listed (home_of s.layout r) q at); place = λ k d _ has. absurd (no_name d has) }
+
+  -- the control word of a new table fits
+  opening_fits : Fits s (opening_core s).words.control (opening_core s).shape (opening_core s).words.control
+  opening_fits = record { spelled = opening_control s first; first = le_refl _; low = le_refl _; size = refl; next = λ e. absurd (false≢true e); same = λ _ _. refl }
+
+  pub opening_sizes : Sizes s (opening_core s).words.control (opening_core s).shape (opening_core s).words.head (opening_core s).words.link (opening_core s).holding
+  opening_sizes = record { now = opening_fits; heads = λ q _. low (leb (first_head_of s.first.generation) q && ltb q (first_head_of s.first.generation + 1)); rows = λ _ _ _. omega arith }
+    where
+      low : (t : Bool) → (cond t (open_head s.first.generation) shut_head).generation ≤ s.first.generation + 0
+      low true = omega arith
+      low false = omega arith
+
+  pub opening_dues : Dues s.layout.workers (opening_core s).words.control (opening_core s).shape (opening_core s).settling (opening_core s).copying (opening_core s).named
+  opening_dues = record { settles = λ k d _ is. absurd (no_settle d is); copies = λ k d _ is. absurd (no_copy d is); named = λ k d _ has. absurd (no_name d has) }
+
+  pub opening_steady : Steady s (opening_core s).words.control (opening_core s).words.link (opening_core s).holding (opening_core s).named
+  opening_steady = record { still = refl; first = refl; one = refl; rows = λ r _ out. absurd (out (home_of s.layout r) refl); named = λ k d _ has. absurd (no_name d has) }
 
   none_live : (r : ℕ) → IsLive s.layout (opening_core s).words.link (opening_core s).holding r → ⊥
   none_live r live = hand_listed _ live.1.0 live.1.1

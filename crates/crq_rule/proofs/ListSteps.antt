@@ -1,5 +1,5 @@
 -- What a step function asks of each kind on lists.
-use Rattle.std.proofs.Common.{◌≡◌, ◌≢◌, ◌⊎◌, inl, inr, ℕ, zero, suc, ◌+◌, ◌*◌, ◌^◌, ◌<◌, ◌≤◌, Bool, List, [], ◌∷◌, ◌++◌, None, Some, cond, get_or, set, eqb, sym, refl, ap, ◌∙◌, subst, arith, eq-eqb, ne_eqb}
+use Rattle.std.proofs.Common.{◌≡◌, ◌≢◌, ◌⊎◌, inl, inr, ℕ, zero, suc, ◌+◌, ◌*◌, ◌^◌, ◌<◌, ◌≤◌, Bool, false, List, [], ◌∷◌, ◌++◌, None, Some, cond, get_or, set, eqb, sym, refl, ap, ◌∙◌, subst, arith, eq-eqb, ne_eqb}
 use mathlib.Core.Logic.{dite}
 use native.Mathlib.Decide.{ℕ_discrete}
 use prog.Atomic.{either}
@@ -20,8 +20,8 @@ use Rattle.crq_rule.specs.Core.{Core, Holding, caller_of, owed_by, in_hand, list
 use Rattle.crq_rule.specs.Parts.{ground_of, IsOn, Leads, IsGuarded}
 use Rattle.crq_rule.specs.ListParts.{row_word, MarkFits}
 use Rattle.crq_rule.specs.Invariant.{Inv}
-use Rattle.crq_rule.specs.Ranks.{rank, head_of, IsOpen, Cell, at_head, at_row, cell_place, link_at, heads_set, links_set}
-use Rattle.crq_rule.specs.ListKinds.{stands_after, walk_after, taken_on, sweep_on, clean_on, relieved, Content, new_link, no_twin, new_time, new_source, new_sequence, new_load, IsContent, content_number, content_word, row_place, wrote, writes, links, event_word, loads_control, begins, marks, cuts, misses, MayWalk, MaySeek, MayLink, MayMark, MayCut, MayMiss, ComesAfter, put_entries, unhanded, forgotten, cut_debt, without_stand, unnamed}
+use Rattle.crq_rule.specs.Ranks.{rank, list_in, head_of, IsOpen, Cell, at_head, at_row, cell_place, link_at, heads_set, links_set}
+use Rattle.crq_rule.specs.ListKinds.{stands_after, walk_after, taken_on, sweep_on, clean_on, relieved, Content, new_link, no_twin, new_time, new_source, new_sequence, new_load, IsContent, content_number, content_word, row_place, wrote, writes, links, event_word, loads_control, begins, marks, cuts, misses, MayWalk, MaySeek, MayLink, MayMark, MayCut, MayMiss, ComesAfter, put_entries, unhanded, forgotten, cut_debt, name_in, StandsOn, without_stand, unnamed}
 use Rattle.crq_rule.specs.Steps.{Kind, write, walk, link as link_kind, link_fails, control_load, begin, mark, mark_fails, cut, cut_fails, miss, May, After, kind_of, place_of}
 use Rattle.crq_rule.specs.Rule.{IsWords}
 use Rattle.crq_rule.specs.Moves.{MovesBy, By, Walked, WalksOn, IsWalkable, FoundControl, wins, quiet}
@@ -31,6 +31,9 @@ use Rattle.crq_rule.proofs.Puts.{put_here}
 use Rattle.crq_rule.proofs.Placing.{shows_set}
 use Rattle.crq_rule.proofs.CoverLaws.{guarded_by, names_covered}
 use Rattle.crq_rule.proofs.GuardSteps.{same_words}
+use Rattle.crq_rule.proofs.PartLaws.{sort}
+use Rattle.crq_rule.proofs.SizeLaws.{fitting_list}
+use Rattle.crq_rule.proofs.SteadyLaws.{steady_still, steady_one, found_now, outside_now, guarded_now, open_list}
 use Rattle.crq_rule.proofs.Lawfuls.{stand_covered}
 use Rattle.crq_rule.proofs.Keeps.{words_stay, rest_stays}
 
@@ -111,8 +114,12 @@ module _ (key : Start) (p : Caller) where
   named : (cell : Cell) (c : Core) → j < c.start.layout.workers → Inv c → MayWalk (c.rows j) cell → let l = link_at c.words.head c.words.link cell in 0 < l.row
       → IsRow c.start.layout l.row × WalksOn cell l (c.words.event l.row) (caller_of c j)
   named (at_head q) c b inv may some = let i = first_in (c.chain q) (inv.chains.leads q may) in
-      ((inv.holders.in_chain q (c.words.head q).row may i).0, λ x is _. subst (λ z. head_of z (c.words.event (c.words.head q).row) ≡ q) (sym (inv.reading.read_control j x b is)) (inv.sorted.belongs q (c.words.head q).row may i))
+      ((inv.holders.in_chain q (c.words.head q).row may i).0, λ x is _. subst (λ z. head_of z (c.words.event (c.words.head q).row) ≡ q) (sym (found_now c inv j x b is)) (here (c.words.head q).row i))
     where
+      here : (r : ℕ) → In r (c.chain q) → head_of c.words.control (c.words.event r) ≡ q
+      here r i = let h = inv.holders.in_chain q r may i in let now = outside_now c inv r h.0 (λ k held. let z : ◌≡◌ {A = ℕ} 1 0 = ap sort (sym h.1 ∙ held) in omega arith) in
+          sym (open_list c inv (c.words.event r)) ∙ (ap (λ g. list_in c.shape g (c.words.event r)) (sym now ∙ inv.sorted.generation q r may i) ∙ inv.sorted.belongs q r may i)
+
       first_in : (rs : List ℕ) → Leads c.words.link (c.words.head q).row rs → In (c.words.head q).row rs
       first_in [] l = absurd (omega arith)
       first_in (r ∷ rs) l = inl l.0
@@ -121,14 +128,18 @@ module _ (key : Start) (p : Caller) where
         inv.lanes.is_row (c.words.link r).row (from.0, from.1, names_covered (ground_of c) from.0 from.1 r (c.words.link r).row from.2 (some, inl refl)),
         λ f is _. let holds : c.words.event r ≡ f = subst (λ (z : ℕ × Event). c.words.event z.0 ≡ z.1) (λ i. (is.2 i, is.3 i)) (inv.standing.holds j is.0 b is.1) in (
           subst (λ e. rank e r < rank (c.words.event (c.words.link r).row) (c.words.link r).row) holds (inv.lanes.rises r from some),
-          λ x ctl. let z = inv.reading.read_control j x b ctl in subst (λ y. head_of y (c.words.event (c.words.link r).row) ≡ head_of y f) (sym z) (inv.lanes.stays r from some ∙ ap (head_of c.words.control) holds),
+          λ x ctl. subst (λ y. head_of y (c.words.event (c.words.link r).row) ≡ head_of y f) (sym (found_now c inv j x b ctl))
+              (sym (open_list c inv (c.words.event (c.words.link r).row)) ∙ (subst (λ g. list_in c.shape g (c.words.event (c.words.link r).row) ≡ list_in c.shape g (c.words.event r)) (guarded_now c inv r from) (inv.lanes.stays r from some)
+              ∙ (ap (list_in c.shape c.words.control.generation) holds ∙ open_list c inv f))),
         ),
       )
 
   walkable : (cell : Cell) (c : Core) → j < c.start.layout.workers → Inv c → MayWalk (c.rows j) cell → IsWalkable cell (link_at c.words.head c.words.link cell) (caller_of c j)
-  walkable (at_head q) c b inv may = λ x is opened. let z = inv.reading.read_control j x b is in let h = inv.heads.opened q may (subst (λ y. IsOpen y q) z opened) in (h.0, h.1 ∙ ap (λ (y : Control). y.generation) (sym z))
-  walkable (at_row r) c b inv may = let s = may.1.0 in let v = stand_covered c j s b may.1.1 inv in let row = inv.lanes.is_row s.row (guarded_by j v) in
-      subst (λ r. ((c.words.link r).mark ≡ Val) ⊎ ((c.words.link r).mark ≡ Del)) may.1.2 (by_holder (c.holding s.row) (λ i is. inv.cover.free j v.0 s.row i v.1 is) (inv.marks.mark s.row row))
+  walkable (at_head q) c b inv may = λ x is opened. let z = found_now c inv j x b is in let h = inv.heads.opened q may (subst (λ y. IsOpen y q) z opened) in (h.0, h.1 ∙ ap (λ (y : Control). y.generation) (sym z))
+  walkable (at_row r) c b inv may = let s = may.1.0 in let v = stand_covered c j s b may.1.1 inv in let row = inv.lanes.is_row s.row (guarded_by j v) in (
+    subst (λ r. ((c.words.link r).mark ≡ Val) ⊎ ((c.words.link r).mark ≡ Del)) may.1.2 (by_holder (c.holding s.row) (λ i is. inv.cover.free j v.0 s.row i v.1 is) (inv.marks.mark s.row row)),
+    λ x found. subst (λ r. (c.words.link r).generation ≡ c.words.control.generation) may.1.2 (guarded_now c inv s.row (guarded_by j v)) ∙ ap (λ (y : Control). y.generation) (sym (found_now c inv j x b found)),
+  )
     where
       by_holder : {m : Mark} (h : Holding) → ((i : ℕ) → h ≡ in_hand i → ⊥) → MarkFits h m → (m ≡ Val) ⊎ (m ≡ Del)
       by_holder (in_hand i) free fits = absurd (free i refl)
@@ -201,12 +212,11 @@ module _ (key : Start) (p : Caller) where
   pub link_moves : (x : Control) (cell : Cell) (l : Link) (r : ℕ) (e : Event) → MayLink key.layout.workers x cell l r e p
       → MovesBy LinkKind key p (index key.layout (cell_place cell)) (λ w. either (eqb w (link_word l)) (link_word (record l { row = r })) w) (By (wins (link_word l) (links r e)) quiet)
   link_moves x cell l r e may c ws inv words b is = let new : Link = record l { row = r } in let w = index key.layout (cell_place cell) in
-      let may' : MayLink c.start.layout.workers c.words.control cell l r e (caller_of c j) = subst (λ (z : Start × Caller). MayLink z.0.layout.workers c.words.control cell l r e z.1) (λ i. (sym words.start i, is i))
-      (subst (λ z. MayLink key.layout.workers z cell l r e p) (inv.reading.read_control j x b (ap (λ (q : Caller). q.found.control) (sym is) ∙ may.control)) may) in
-      let walkable' = linked_cell cell c.words.control c ws r e b inv words may'.after in let place = cell_is cell c ws b inv words walkable' in let at = words.shows.each (cell_place cell) place in
+      let may' : MayLink c.start.layout.workers x cell l r e (caller_of c j) = subst (λ (z : Start × Caller). MayLink z.0.layout.workers x cell l r e z.1) (λ i. (sym words.start i, is i)) may in
+      let walkable' = linked_cell cell x c ws r e b inv words may'.after in let place = cell_is cell c ws b inv words walkable' in let at = words.shows.each (cell_place cell) place in
       dite (ℕ_discrete (get_or ws w 0) (link_word l))
       (λ hit. let found : link_at c.words.head c.words.link cell ≡ l = link_one _ _ (cell_link cell c b inv walkable') may.expected.0 (sym (cell_word c cell) ∙ (sym at ∙ hit)) in let k = link_kind cell l r e in
-      won LinkKind k w (link_word l) (link_word new) (links r e) refl c ws (may', found) is hit
+      won LinkKind k w (link_word l) (link_word new) (links r e) refl c ws ((x, may'), found) is hit
       (words_after key k c j ws (link_word new) place (set_there c (After k c j) cell new refl refl) words)
       (λ i. record (caller_of c j) {
         own = sym (put_here c.own j (c.own j ++ put_entries j e)) i;
@@ -233,21 +243,31 @@ module _ (key : Start) (p : Caller) where
       }))
       (λ apart. lost CutKind (cut_fails cell) w (link_word l) (link_word new) (cuts y) refl (λ _. tt) (λ _. refl) c ws words is apart)
 
+  -- a row on which the caller stands is of the open table
+  stood_now : (c : Core) → Inv c → (r : ℕ) {e : Event} → j < c.start.layout.workers → StandsOn (c.rows j) r e → (c.words.link r).generation ≡ c.words.control.generation
+  stood_now c inv r b on = subst (λ r. (c.words.link r).generation ≡ c.words.control.generation) on.2 (guarded_now c inv on.0.row (guarded_by j (stand_covered c j on.0 b on.1 inv)))
+
+  listed_by : (c : Core) → Inv c → (x : Control) → j < c.start.layout.workers → (c.found j).control ≡ Some x → (e : Event) → list_in c.shape x.generation e ≡ head_of x e
+  listed_by c inv x b found e = fitting_list c.start c.words.control c.shape x (inv.finds.controls j x b found) e
+
   pub mark_moves : (x : Control) (r : ℕ) (e : Event) (l : Link) → IsLink l → l.mark ≡ Val → MayMark x r e p
       → MovesBy MarkKind key p (index key.layout (link r)) (λ w. either (eqb w (link_word l)) (link_word (record l { mark = Del })) w) (By (wins (link_word l) (marks x r e)) quiet)
   mark_moves x r e l bits val may c ws inv words b is = let new : Link = record l { mark = Del } in let w = index key.layout (link r) in
-      let same : x ≡ c.words.control = inv.reading.read_control j x b (ap (λ (q : Caller). q.found.control) (sym is) ∙ may.control) in
-      let may' : MayMark c.words.control r e (caller_of c j) = subst (λ (z : Control × Caller). MayMark z.0 r e z.1) (λ i. (same i, is i)) may in
+      let same : x ≡ c.words.control = found_now c inv j x b (ap (λ (q : Caller). q.found.control) (sym is) ∙ may.control) in
+      let may' : MayMark x r e (caller_of c j) = subst (MayMark x r e) is may in
+      let now : (c.words.link r).generation ≡ x.generation = stood_now c inv r b may'.on ∙ ap (λ (y : Control). y.generation) (sym same) in
+      let named : cut_debt x r e ≡ name_in c.shape (c.words.link r).generation r e = (λ i. record { generation = x.generation; head = sym (listed_by c inv x b (ap (λ (q : Caller). q.found.control) (sym is) ∙ may.control) e) i; event = e; row = r; front = false })
+      ∙ ap (λ g. name_in c.shape g r e) (sym now) in
       let on : MayWalk (c.rows j) (at_row r) = (e, may'.on) in
       let place = cell_is (at_row r) c ws b inv words on in let at = words.shows.each (link r) place in
       dite (ℕ_discrete (get_or ws w 0) (link_word l))
       (λ hit. let found : c.words.link r ≡ l = link_one _ _ (cell_link (at_row r) c b inv on) bits (sym at ∙ hit) in let k = mark r e in
-      won MarkKind k w (link_word l) (link_word new) (marks x r e) refl c ws (may', ap (λ (z : Link). z.mark) found ∙ val) is hit
+      won MarkKind k w (link_word l) (link_word new) (marks x r e) refl c ws ((x, may'), ap (λ (z : Link). z.mark) found ∙ val) is hit
       (words_after key k c j ws (link_word new) place (ap link_word (put_here c.words.link r (record (c.words.link r) { mark = Del })) ∙ ap (λ (z : Link). link_word (record z { mark = Del })) found) words)
       (λ i. record (caller_of c j) {
         own = sym (put_here c.own j (c.own j ++ TakeEntry j e ∷ [])) i;
         walk = sym (put_here c.walk j None) i;
-        debts = owed_by (c.settling j) (c.copying j) ((ap (λ z. record (c.named j) { first = Some (cut_debt z r e) }) same ∙ sym (put_here c.named j (record (c.named j) { first = Some (cut_debt c.words.control r e) }))) i);
+        debts = owed_by (c.settling j) (c.copying j) ((ap (λ d. record (c.named j) { first = Some d }) named ∙ sym (put_here c.named j (record (c.named j) { first = Some (name_in c.shape (c.words.link r).generation r e) }))) i);
       }))
       (λ apart. lost MarkKind (mark_fails r) w (link_word l) (link_word new) (marks x r e) refl (λ _. tt) (λ _. refl) c ws words is apart)
 
@@ -260,8 +280,8 @@ module _ (key : Start) (p : Caller) where
         is_control = inv.spelled.is_control;
         word = refl;
         after = after;
-        steady = inv.heads.steady;
-        one = inv.heads.one;
+        steady = steady_still c inv;
+        one = steady_one c inv;
       }
 
   pub control_moves : MovesBy ControlLoad key p (index key.layout control) (λ w. w) (FoundControl loads_control)
@@ -291,10 +311,10 @@ module _ (key : Start) (p : Caller) where
   )
 
   pub miss_moves : (x : Control) (limit : ℕ) → MayMiss x limit p → MovesBy Miss key p (index key.layout control) (λ w. w) (FoundControl (misses limit))
-  miss_moves x limit may c ws inv words b is = let same : x ≡ c.words.control = inv.reading.read_control j x b (ap (λ (q : Caller). q.found.control) (sym is) ∙ may.control) in (
+  miss_moves x limit may c ws inv words b is = (
     miss limit,
     refl,
-    subst (λ (z : Control × Caller). MayMiss z.0 limit z.1) (λ i. (same i, is i)) may,
+    (x, subst (MayMiss x limit) is may),
     same_words key c (After (miss limit) c j) ws (index key.layout control) refl refl words,
     control_found (miss limit) (misses limit) c ws inv words is (λ i. record (caller_of c j) {
       own = sym (put_here c.own j (c.own j ++ MissEntry j limit ∷ [])) i;

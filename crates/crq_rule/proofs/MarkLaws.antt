@@ -1,5 +1,6 @@
 -- A take that marks a row dead keeps the invariant.
-use Rattle.std.proofs.Common.{◌≡◌, ◌≢◌, ◌⊎◌, ⊎_elim, inl, inr, ℕ, ◌<◌, List, [], ◌∷◌, ◌++◌, Option, Some, None, sym, refl, ap, ◌∙◌, subst, append-nil, arith}
+use Rattle.std.proofs.Common.{◌≡◌, ◌≢◌, ◌⊎◌, ⊎_elim, inl, inr, ℕ, ◌<◌, ◌≤◌, List, [], ◌∷◌, ◌++◌, Option, Some, None, sym, refl, ap, ◌∙◌, subst, append-nil, arith}
+use Rattle.std.proofs.lemmas.Bool.{false≢true}
 use Rattle.std.specs.List.{Contains}
 use Rattle.std.proofs.lemmas.List.Elements.{Contains-append_cases, Contains-push}
 use Rattle.crq_base.specs.declared.event.Event.{Event}
@@ -21,13 +22,13 @@ use Rattle.crq_rule.specs.declared.view.Stand.{Stand}
 use Rattle.crq_rule.specs.declared.view.Wrote.{Wrote}
 use Rattle.crq_rule.specs.Lists.{put}
 use Rattle.crq_rule.specs.Places.{IsRow}
-use Rattle.crq_rule.specs.Core.{Core, DeadNames, Holding, in_hand, listed, cut_by, retired, caller_of}
-use Rattle.crq_rule.specs.Parts.{Ground, ground_of, IsEvent, IsGuarded, Leads, Chains, IsPath, Reaches, Covers, Cover, rows_of}
-use Rattle.crq_rule.specs.ListParts.{ranks, Sorted, Marks, MarkFits, Standing, IsFinal, Lanes, Writing, row_word, Naming, IsNamed}
+use Rattle.crq_rule.specs.Core.{Core, IsOutside, DeadNames, HasName, Holding, in_hand, listed, cut_by, retired, caller_of}
+use Rattle.crq_rule.specs.Parts.{Ground, ground_of, newest, IsEvent, IsGuarded, Leads, Chains, IsPath, Reaches, Covers, Cover, rows_of}
+use Rattle.crq_rule.specs.ListParts.{ranks, Sorted, Marks, MarkFits, Standing, IsFinal, Lanes, Writing, row_word, Naming, NameFits, IsNamed}
 use Rattle.crq_rule.specs.HistoryParts.{IsLive, Carriers, StandsFrom}
-use Rattle.crq_rule.specs.Ranks.{head_of}
+use Rattle.crq_rule.specs.Ranks.{Shape, list_in}
 use Rattle.crq_rule.specs.Invariant.{Inv}
-use Rattle.crq_rule.specs.ListKinds.{MayMark, cut_debt, marked}
+use Rattle.crq_rule.specs.ListKinds.{MayMark, name_in, marked}
 use Rattle.crq_rule.proofs.Puts.{put_here, put_else, put_all}
 use Rattle.crq_rule.proofs.PartLaws.{apart}
 use Rattle.crq_rule.proofs.CoverLaws.{guarded_by, stand_row}
@@ -35,6 +36,8 @@ use Rattle.crq_rule.proofs.HistoryLaws.{told_other, out_later}
 use Rattle.crq_rule.proofs.CallLaws.{walkers_entry}
 use Rattle.crq_rule.proofs.ScarceLaws.{scarce_grown, refusals_grown}
 use Rattle.crq_rule.proofs.SweepLaws.{swept_grown, del_val, present_listed}
+use Rattle.crq_rule.proofs.SizeLaws.{sizes_rows, dues_named}
+use Rattle.crq_rule.proofs.SteadyLaws.{steady_one, steady_rows, steady_names}
 use Rattle.crq_rule.proofs.SearchLaws.{stand_covered, left_beyond, beyond_key}
 
 take_begin : (j k : ℕ) (e : Event) → Take j e ≡ Begin k → ⊥
@@ -48,6 +51,9 @@ final_val l m e val final = subst IsFinal (sym (ap (λ (z : Link). z.mark) e) �
 
 some_event : (x y : Event) → Some x ≡ Some y → x ≡ y
 some_event x y e = cc
+
+no_debt : (d : CutDebt) → None ≡ Some d → ⊥
+no_debt d e = cc
 
 some_debt : (x y : CutDebt) → Some x ≡ Some y → x ≡ y
 some_debt x y e = cc
@@ -111,11 +117,11 @@ dead_fits (listed q) = inr refl
 dead_fits (cut_by j) = refl
 dead_fits (retired t) = refl
 
-module _ (l : Layout) (control : Control) (link : ℕ → Link) (twin : ℕ → ℕ) (event : ℕ → Event) (holding : ℕ → Holding) (r : ℕ) where
+module _ (l : Layout) (shape : ℕ → Shape) (link : ℕ → Link) (twin : ℕ → ℕ) (event : ℕ → Event) (holding : ℕ → Holding) (r : ℕ) where
   chains_dead : (head : ℕ → Link) (chain : ℕ → List ℕ) → Chains head link twin chain → Chains head (dead link r) twin chain
   chains_dead head chain old = record { leads = λ q b. leads_same link (dead link r) (dead_row link r) (head q).row (chain q) (old.leads q b); twins = old.twins }
 
-  sorted_dead : (head : ℕ → Link) (chain : ℕ → List ℕ) → Sorted control head link event chain → Sorted control head (dead link r) event chain
+  sorted_dead : (head : ℕ → Link) (chain : ℕ → List ℕ) → Sorted shape head link event chain → Sorted shape head (dead link r) event chain
   sorted_dead head chain old = record { rises = old.rises; belongs = old.belongs; generation = λ q s b i. dead_generation link r s ∙ old.generation q s b i }
 
   marks_dead : Marks l link twin holding → Marks l (dead link r) twin holding
@@ -151,35 +157,38 @@ module _ (l : Layout) (control : Control) (link : ℕ → Link) (twin : ℕ → 
     cover_dead : (cut : ℕ → Option CutRow) → Cover ground cut holding → Cover ground' cut holding
     cover_dead cut old = record { free = λ k g s j v. old.free k g s j (was k g s v); tags = λ k g s t v. old.tags k g s t (was k g s v); resting = old.resting }
 
-    lanes_dead : Lanes l control ground event → Lanes l control ground' event
+    lanes_dead : Lanes l shape ground event → Lanes l shape ground' event
     lanes_dead old = record {
       is_row = λ s v. old.is_row s (guarded s v);
       rises = λ s v. subst (λ z. 0 < z → ranks event s < ranks event z) (sym (dead_row link r s)) (old.rises s (guarded s v));
-      stays = λ s v. subst (λ z. 0 < z → head_of control (event z) ≡ head_of control (event s)) (sym (dead_row link r s)) (old.stays s (guarded s v));
+      stays = λ s v. subst (λ (z : ℕ × ℕ). 0 < z.0 → list_in shape z.1 (event z.0) ≡ list_in shape z.1 (event s)) (λ i. (sym (dead_row link r s) i, sym (dead_generation link r s) i)) (old.stays s (guarded s v));
       generation = λ s v. subst (λ z. 0 < z → (dead link r z).generation ≡ (dead link r s).generation) (sym (dead_row link r s))
           (λ some. dead_generation link r (link s).row ∙ (old.generation s (guarded s v) some ∙ sym (dead_generation link r s)));
     }
 
-  -- the caller j, which named no dead row, names this one
-  naming_dead : (j : ℕ) (e : Event) (names : ℕ → DeadNames) → j < l.workers → (names j).first ≡ None → event r ≡ e → IsRow l r → IsEvent e → Naming l control link event names holding
-      → Naming l control (dead link r) event (put names j (record (names j) { first = Some (cut_debt control r e) })) holding
-  naming_dead j e names b free is row fits old = record {
-    named = λ s q c at. put_all link r (record (link r) { mark = Del }) (λ s m. IsRow l s → holding s ≡ listed q → m.mark ≡ Del → Named s)
-        (λ _ _ _. (j, b, inl (subst (λ (d : DeadNames). IsNamed d.first r (event r)) (sym (put_here names j new)) (refl, sym is))))
-        (λ s _ c at del. let n = old.named s q c at del in (n.0, n.1, stays n.0 s n.2)) s c at;
-    place = λ k d. put_all names j new (λ k x. k < l.workers → x.first ≡ Some d → (d.head ≡ head_of control d.event) × IsRow l d.row × IsEvent d.event)
-        (λ _ q. subst (λ (z : CutDebt). (z.head ≡ head_of control z.event) × IsRow l z.row × IsEvent z.event) (some_debt (cut_debt control r e) d q) (refl, row, fits)) (λ k _. old.place k d) k;
-  }
-    where
-      new : DeadNames
-      new = record (names j) { first = Some (cut_debt control r e) }
+  -- the caller j, which named no dead row first, names this one
+  module _ (j : ℕ) (e : Event) (names : ℕ → DeadNames) where
+    abbrev name : CutDebt
+    name = name_in shape (link r).generation r e
 
-      Named : ℕ → Type 0
-      Named s = (k : ℕ) × (k < l.workers) × (IsNamed (put names j new k).first s (event s) ⊎ IsNamed (put names j new k).second s (event s))
+    abbrev named : DeadNames
+    named = record (names j) { first = Some name }
 
-      stays : (k s : ℕ) → IsNamed (names k).first s (event s) ⊎ IsNamed (names k).second s (event s) → IsNamed (put names j new k).first s (event s) ⊎ IsNamed (put names j new k).second s (event s)
-      stays k s = put_all names j new (λ k x. IsNamed (names k).first s (event s) ⊎ IsNamed (names k).second s (event s) → IsNamed x.first s (event s) ⊎ IsNamed x.second s (event s))
-          (⊎_elim (λ n. absurd (subst (λ o. IsNamed o s (event s)) free n)) inr) (λ k _ n. n) k
+    -- each name is this one, or was there
+    names_before : (k : ℕ) (d : CutDebt) → HasName (put names j named k) d → HasName (names k) d ⊎ (name ≡ d)
+    names_before k d = put_all names j named (λ k x. HasName x d → HasName (names k) d ⊎ (name ≡ d)) (⊎_elim (λ q. inr (some_debt name d q)) (λ h. inl (inr h))) (λ _ _ h. inl h) k
+
+    names_stay : (names j).first ≡ None → (k : ℕ) (d : CutDebt) → HasName (names k) d → HasName (put names j named k) d
+    names_stay free k d = put_all names j named (λ k x. HasName (names k) d → HasName x d) (⊎_elim (λ q. absurd (no_debt d (sym free ∙ q))) inr) (λ _ _ h. h) k
+
+    naming_dead : (head : ℕ → Link) → j < l.workers → (names j).first ≡ None → event r ≡ e → IsRow l r → IsEvent e → Naming l head link event names holding → Naming l head (dead link r) event (put names j named) holding
+    naming_dead head b free is row fits old = record {
+      named = λ s q c at. put_all link r (record (link r) { mark = Del })
+          (λ s m. IsRow l s → holding s ≡ listed q → m.mark ≡ Del → (k : ℕ) × (k < l.workers) × ((d : CutDebt) × HasName (put names j named k) d × IsNamed head d s (event s) m))
+          (λ _ _ _. (j, b, (name, subst (λ x. HasName x name) (sym (put_here names j named)) (inl refl), record { row = refl; event = sym is; generation = refl; front = λ f. absurd (false≢true f) })))
+          (λ s _ c at del. let n = old.named s q c at del in (n.0, n.1, (n.2.0, names_stay free n.0 n.2.0 n.2.1, n.2.2))) s c at;
+      place = λ k d c has. ⊎_elim (old.place k d c) (λ same. subst (NameFits l) same (record { row = row; event = fits })) (names_before k d has);
+    }
 
   -- another row that is live stays so, and no row comes to be live
   live_stays : (s : ℕ) → s ≢ r → IsLive l link holding s → IsLive l (dead link r) holding s
@@ -216,20 +225,20 @@ module _ (l : Layout) (control : Control) (link : ℕ → Link) (twin : ℕ → 
 -- Mark
 
 -- the event at which the caller's search came to rest is pending, and no event of a lesser key was left
-take_legal : (c : Core) (j r : ℕ) (e : Event) → j < c.start.layout.workers → MayMark c.words.control r e (caller_of c j) → IsPending c.history e → c.words.event r ≡ e → Inv c → MayFollow c.history (Take j e)
-take_legal c j r e b may pending is inv = let from = inv.told.began j b may.began in let w = may.walks.0 in (
+take_legal : (c : Core) (j r : ℕ) (e : Event) → j < c.start.layout.workers → ((x : Control) × MayMark x r e (caller_of c j)) → IsPending c.history e → c.words.event r ≡ e → Inv c → MayFollow c.history (Take j e)
+take_legal c j r e b may pending is inv = let from = inv.told.began j b may.1.began in let w = may.1.walks.0 in (
   pending.put,
   pending.kept,
   (
     from.0,
     from.2,
-    λ f settled kept less. beyond_key c inv w.at e f (ap c.words.event may.walks.2 ∙ is)
-        (left_beyond c inv j w from.0 (Begin j ∷ from.2.back) f b may.walks.1 may.one_list from.2.parts from.1 settled kept) less,
+    λ f settled kept less. beyond_key c inv w.at e f (ap c.words.event may.1.walks.2 ∙ is)
+        (left_beyond c inv j w from.0 (Begin j ∷ from.2.back) f b may.1.walks.1 (steady_one c inv) from.2.parts from.1 settled kept) less,
   ),
 )
 
-pub mark_keeps : (c : Core) (j r : ℕ) (e : Event) → j < c.start.layout.workers → MayMark c.words.control r e (caller_of c j) → (c.words.link r).mark ≡ Val → Inv c → Inv (marked c j r e)
-mark_keeps c j r e b may val inv = let l = c.start.layout in let x = c.words.control in let k = c.words.link in let t = c.words.twin in let v = c.words.event in let h = c.holding in record {
+pub mark_keeps : (c : Core) (j r : ℕ) (e : Event) → j < c.start.layout.workers → ((x : Control) × MayMark x r e (caller_of c j)) → (c.words.link r).mark ≡ Val → Inv c → Inv (marked c j r e)
+mark_keeps c j r e b may val inv = let l = c.start.layout in let x = c.shape in let k = c.words.link in let t = c.words.twin in let v = c.words.event in let h = c.holding in record {
   spelled = record {
     is_control = inv.spelled.is_control;
     is_current = inv.spelled.is_current;
@@ -240,19 +249,24 @@ mark_keeps c j r e b may val inv = let l = c.start.layout in let x = c.words.con
     events = inv.spelled.events;
   };
   reading = inv.reading;
+  finds = inv.finds;
   guards = inv.guards;
   holders = inv.holders;
   cutting = inv.cutting;
   stamps = inv.stamps;
   chains = chains_dead l x k t v h r _ _ inv.chains;
   cover = cover_dead l x k t v h r _ _ _ inv.cover;
+  sizes = sizes_rows _ _ _ _ _ _ _ _ _ (λ _ _. refl) (λ s _ out. inl (out, dead_generation k r s)) inv.sizes;
+  dues = dues_named _ _ _ _ _ _ _ (λ i d _ has. ⊎_elim inl (λ same. inr (subst (λ (d : CutDebt). (d.generation ≤ newest c.words.control) × (d.head ≡ list_in c.shape d.generation d.event)) same (inv.sizes.rows r row outside, refl))) (names_before l x k t v h r j e c.named i d has)) inv.dues;
+  steady = steady_names _ _ _ _ _ _ (λ i d _ has. ⊎_elim inl (λ same. inr (r, row, outside, ap (λ (z : CutDebt). z.generation) (sym same) ∙ sym (dead_generation k r r))) (names_before l x k t v h r j e c.named i d has))
+      (steady_rows _ _ _ _ _ _ _ (λ s _ out. inl (out, dead_generation k r s)) inv.steady);
   heads = inv.heads;
   sorted = sorted_dead l x k t v h r _ _ inv.sorted;
   marks = marks_dead l x k t v h r inv.marks;
   standing = standing_dead l x k t v h r _ _ val inv.standing;
   lanes = lanes_dead l x k t v h r _ _ inv.lanes;
   writing = writing_dead l x k t v h r _ _ _ (λ k s i at. apart c.holding r s (listed held.0) (in_hand k) held.1 (inv.holders.held k s i at).1 (omega arith)) inv.writing;
-  naming = naming_dead l x k t v h r j e c.named b may.free is row (subst IsEvent is (inv.spelled.events r row)) inv.naming;
+  naming = naming_dead l x k t v h r j e c.named c.words.head b may.1.free is row (subst IsEvent is (inv.spelled.events r row)) inv.naming;
   carriers = carriers_dead l x k t v h r _ j e is live inv.carriers;
   told = told_other _ _ _ _ _ j (Take j e) b (take_legal c j r e b may pending is inv) refl refl (λ k. take_begin j k e) inv.told;
   walkers = walkers_entry _ _ _ _ c.begun _ _ _ _ _ _ _ j (Take j e) inv.told.begun_low (λ _ _. refl) (stands_dead l x k t v h r c.history j e is) inv.walkers;
@@ -262,7 +276,7 @@ mark_keeps c j r e b may val inv = let l = c.start.layout in let x = c.words.con
 }
   where
     at : (s : Stand) × In s (c.rows j) × (s.row ≡ r) × (s.event ≡ e)
-    at = may.on
+    at = may.1.on
 
     is : c.words.event r ≡ e
     is = ap c.words.event (sym at.2) ∙ (inv.standing.holds j at.0 b at.1 ∙ at.3)
@@ -275,6 +289,9 @@ mark_keeps c j r e b may val inv = let l = c.start.layout in let x = c.words.con
 
     held : (q : ℕ) × (c.holding r ≡ listed q)
     held = present_listed (c.holding r) (c.words.link r).mark val (λ i. inv.cover.free j covered.0 r i covered.1) (inv.marks.mark r row)
+
+    outside : IsOutside c.holding r
+    outside i = inv.cover.free j covered.0 r i covered.1
 
     live : IsLive c.start.layout c.words.link c.holding r
     live = (row, held, val)

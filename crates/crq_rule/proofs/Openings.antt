@@ -38,7 +38,7 @@ use Rattle.crq_rule.proofs.Counting.{rows_in, in_rows, rows_once}
 use Rattle.crq_rule.proofs.Pendings.{none_counted}
 use Rattle.crq_rule.proofs.ScarceLaws.{none_base}
 use Rattle.crq_rule.proofs.SweepLaws.{none_sweep}
-use Rattle.crq_rule.proofs.ListOpening.{off_on, opening_heads, opening_sorted, opening_marks, opening_standing, opening_lanes, opening_writing, opening_naming, opening_carriers, opening_told, opening_walkers}
+use Rattle.crq_rule.proofs.ListOpening.{off_on, opening_control, opening_sizes, opening_dues, opening_steady, opening_heads, opening_sorted, opening_marks, opening_standing, opening_lanes, opening_writing, opening_naming, opening_carriers, opening_told, opening_walkers}
 
 -- Words
 
@@ -135,7 +135,7 @@ opening_link g q b = either_way (leb (first_head_of g) q && ltb q (first_head_of
 pub opening_inv : (s : Start) → IsFirst s.first → Inv (opening_core s)
 opening_inv s first = let top = first.upto in let low = first.epoch in record {
   spelled = record {
-    is_control = record { generation = omega arith; log = omega arith; shift = omega arith; new_log = omega arith; new_shift = omega arith; steady_log = λ _. refl; steady_shift = λ _. refl };
+    is_control = opening_control s first;
     is_current = record { epoch = omega arith; tick = omega arith };
     is_pin = record { generation = omega arith; epoch = omega arith };
     heads = λ q _. opening_link s.first.generation q (omega arith);
@@ -149,15 +149,17 @@ opening_inv s first = let top = first.upto in let low = first.epoch in record {
     loaded = λ j _. omega arith;
     scanned = λ j k a _ i. absurd i;
     tags = λ j t x _ is _. absurd (none_some x is);
-    read_current = λ j x _ is. absurd (none_current x is);
-    read_control = λ j x _ is. absurd (none_control x is);
   };
+  finds = record { controls = λ j x _ is. absurd (none_control x is); currents = λ j x _ is. absurd (none_current x is) };
   guards = record { each = λ _ _. refl; passed = λ k j a _ _ i _. tt };
   holders = opening_holders s;
   cutting = record { on = λ j x _ is. absurd (none_some x is); tags = λ j t g x _ is _ _. absurd (none_some x is) };
   stamps = record { shown = λ _ _. refl; tag = λ r t _ is. absurd (let z : 0 ≡ 3 = ap sort is in omega arith); ripe = λ j r t _ i. absurd i };
   chains = record { leads = λ q _. heads_empty (leb (first_head_of s.first.generation) q && ltb q (first_head_of s.first.generation + 1)); twins = λ q r _ i. absurd i };
   cover = record { free = λ k g r j v _. off_on g v.on; tags = λ k g r t v _. absurd (off_on g v.on); resting = λ _ _ _. refl };
+  sizes = opening_sizes s first;
+  dues = opening_dues s first;
+  steady = opening_steady s first;
   heads = opening_heads s first;
   sorted = opening_sorted s first;
   marks = opening_marks s first;

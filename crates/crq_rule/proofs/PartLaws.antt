@@ -3,15 +3,12 @@ use Rattle.std.proofs.Common.{◌≡◌, ◌≢◌, ◌⊎◌, ⊎_elim, ℕ, ze
 use mathlib.Core.Logic.{dite}
 use native.Mathlib.Decide.{ℕ_discrete}
 use Rattle.std.proofs.Math.Nat.{mul-le-mul_left}
-use Rattle.crq_base.specs.declared.words.Current.{Current}
-use Rattle.crq_base.specs.declared.words.Control.{Control}
 use Rattle.crq_base.specs.Lists.{In}
 use Rattle.crq_rule.specs.declared.layout.Layout.{Layout}
 use Rattle.crq_rule.specs.declared.view.Guard.{Guard}
 use Rattle.crq_rule.specs.declared.view.Guard.TheVariants.{Off, Entering, On}
 use Rattle.crq_rule.specs.declared.view.Tick.{Tick}
 use Rattle.crq_rule.specs.declared.view.CutRow.{CutRow}
-use Rattle.crq_rule.specs.declared.view.Found.{Found}
 use Rattle.crq_rule.specs.Lists.{put, without}
 use Rattle.crq_rule.specs.Places.{IsRow, IsHomeRow}
 use Rattle.crq_rule.specs.Core.{Holding, in_hand, listed, cut_by, retired}
@@ -33,53 +30,45 @@ one_home l j k r h i = let a = h.0 in let b = h.1 in let c = i.0 in let d = i.1 
     let not_less : ¬ (j < k) = λ (less : j < k). omega (arith, up l.home j k less) in
     let not_more : ¬ (k < j) = λ (more : k < j). omega (arith, up l.home k j more) in omega arith
 
-module _ (n e : ℕ) (cur : Current) (con : Control) (epochs : ℕ → List ℕ) (tick : ℕ → Tick) (cut : ℕ → Option CutRow) (found : ℕ → Found) where
+module _ (n e : ℕ) (epochs : ℕ → List ℕ) (tick : ℕ → Tick) (cut : ℕ → Option CutRow) where
   -- the caller j read the epoch x
-  pub read_epoch : (j x : ℕ) → x ≤ e → Reading n e cur con epochs tick cut found → Reading n e cur con (put epochs j (x ∷ epochs j)) tick cut found
+  pub read_epoch : (j x : ℕ) → x ≤ e → Reading n e epochs tick cut → Reading n e (put epochs j (x ∷ epochs j)) tick cut
   read_epoch j x low old = record {
     limit = old.limit;
     read = λ k y b. put_all epochs j (x ∷ epochs j) (λ i xs. i < n → In y xs → y ≤ e) (λ b' i. ⊎_elim (λ is. omega arith) (old.read j y b') i) (λ i _ b' h. old.read i y b' h) k b;
     loaded = old.loaded;
     scanned = old.scanned;
     tags = old.tags;
-    read_current = old.read_current;
-    read_control = old.read_control;
   }
 
   -- the caller j changes what its tick knows
-  pub read_tick : (j : ℕ) (t : Tick) → t.loaded ≤ e → ((k a : ℕ) → In (k, a) t.found → a ≤ e + 1) → Reading n e cur con epochs tick cut found → Reading n e cur con epochs (put tick j t) cut found
+  pub read_tick : (j : ℕ) (t : Tick) → t.loaded ≤ e → ((k a : ℕ) → In (k, a) t.found → a ≤ e + 1) → Reading n e epochs tick cut → Reading n e epochs (put tick j t) cut
   read_tick j t low all old = record {
     limit = old.limit;
     read = old.read;
     loaded = put_all tick j t (λ i t. i < n → t.loaded ≤ e) (λ _. low) (λ i _. old.loaded i);
     scanned = λ i k a b. put_all tick j t (λ i t. i < n → In (k, a) t.found → a ≤ e + 1) (λ _. all k a) (λ i _ b. old.scanned i k a b) i b;
     tags = old.tags;
-    read_current = old.read_current;
-    read_control = old.read_control;
   }
 
   -- the caller j changes what it knows of the row that it cut
-  pub read_cut : (j : ℕ) (o : Option CutRow) → ((t : ℕ) (x : CutRow) → j < n → o ≡ Some x → In t x.tags → t ≤ e) → Reading n e cur con epochs tick cut found → Reading n e cur con epochs tick (put cut j o) found
+  pub read_cut : (j : ℕ) (o : Option CutRow) → ((t : ℕ) (x : CutRow) → j < n → o ≡ Some x → In t x.tags → t ≤ e) → Reading n e epochs tick cut → Reading n e epochs tick (put cut j o)
   read_cut j o all old = record {
     limit = old.limit;
     read = old.read;
     loaded = old.loaded;
     scanned = old.scanned;
     tags = λ i t x. put_all cut j o (λ i o. i < n → o ≡ Some x → In t x.tags → t ≤ e) (all t x) (λ i _. old.tags i t x) i;
-    read_current = old.read_current;
-    read_control = old.read_control;
   }
 
   -- the epoch rises
-  pub read_risen : e + 1 ≤ 2 ^ 62 → Reading n e cur con epochs tick cut found → Reading n (e + 1) cur con epochs tick cut found
+  pub read_risen : e + 1 ≤ 2 ^ 62 → Reading n e epochs tick cut → Reading n (e + 1) epochs tick cut
   read_risen low old = record {
     limit = low;
     read = λ j x b i. let r = old.read j x b i in omega arith;
     loaded = λ j b. let r = old.loaded j b in omega arith;
     scanned = λ j k a b i. let r = old.scanned j k a b i in omega arith;
     tags = λ j t x b is i. let r = old.tags j t x b is i in omega arith;
-    read_current = old.read_current;
-    read_control = old.read_control;
   }
 
 -- what a load of the epoch e does to the tags of a row that was cut

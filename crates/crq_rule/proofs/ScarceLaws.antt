@@ -19,7 +19,7 @@ use Rattle.crq_rule.specs.Lists.{put}
 use Rattle.crq_rule.specs.Places.{IsRow, IsHomeRow}
 use Rattle.crq_rule.specs.Core.{Core, DeadNames, caller_of, Holding, in_hand, listed, cut_by, retired}
 use Rattle.crq_rule.specs.Parts.{GuardIs, OnSince, IsOn, stamp_of}
-use Rattle.crq_rule.specs.ListParts.{MarkFits, IsNamed}
+use Rattle.crq_rule.specs.ListParts.{MarkFits}
 use Rattle.crq_rule.specs.HistoryParts.{IsLive}
 use Rattle.crq_rule.specs.ScarceParts.{pending, IsLate, IsScarce, slots, IsBase, Scarce, Refusals}
 use Rattle.crq_rule.specs.Invariant.{Inv}
@@ -155,10 +155,9 @@ in_owed names (suc n) k r b is = dite (ℕ_discrete k n)
     (λ (e : k ≡ n). ⊎_elim (λ q. inl (sym q ∙ ap (λ k. row_owed (names k).first) e)) (λ q. inr (inl (sym q ∙ ap (λ k. row_owed (names k).second) e))) is)
     (λ ne. inr (inr (in_owed names n k r (omega arith) is)))
 
-named_row : (o : Option CutDebt) (r : ℕ) (e : Event) → IsNamed o r e → row_owed o ≡ r
+named_row : (o : Option CutDebt) (d : CutDebt) → o ≡ Some d → row_owed o ≡ d.row
 unfolding row_owed
-named_row None r e n = absurd n
-named_row (Some d) r e n = n.0
+named_row o d is = ap row_owed is
 
 -- the rows that carry these events, and their twins
 carrying : (ℕ → ℕ) → (es : List Event) → ((e : Event) → In e es → ℕ) → List ℕ
@@ -205,7 +204,7 @@ slots_hold c k b inv = record {
     has_slot r row (listed q) is late = ⊎_elim
         (λ val. in_front _ _ r (has_carrier r q row is val))
         (λ del. let n = inv.naming.named r q row is del in in_back (carrying c.words.twin (pending c.history) (carrier c inv)) _ r (in_owed c.named c.start.layout.workers n.0 r n.1
-        (⊎_elim (λ x. inl (named_row (c.named n.0).first r _ x)) (λ x. inr (named_row (c.named n.0).second r _ x)) n.2)))
+        (⊎_elim (λ x. inl (named_row (c.named n.0).first n.2.0 x ∙ n.2.2.row)) (λ x. inr (named_row (c.named n.0).second n.2.0 x ∙ n.2.2.row)) n.2.1)))
         (subst (λ h. MarkFits h (c.words.link r).mark) is (inv.marks.mark r row))
     has_slot r row (cut_by i) is late = let o = inv.holders.of_cut i r row is in absurd (not_later (c.guard i) (inv.cutting.on i o.1.0 o.0 o.1.1) (inv.guards.each i o.0) late)
       where

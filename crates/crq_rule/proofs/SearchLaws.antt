@@ -16,7 +16,7 @@ use Rattle.crq_rule.specs.Places.{IsRow}
 use Rattle.crq_rule.specs.Core.{Core, Holding, in_hand, listed, cut_by, retired}
 use Rattle.crq_rule.specs.Parts.{ground_of, IsEvent, IsPath, Covers, rows_of}
 use Rattle.crq_rule.specs.ListParts.{ranks, TwinFits}
-use Rattle.crq_rule.specs.Ranks.{rank, head_of, IsOpen}
+use Rattle.crq_rule.specs.Ranks.{rank, head_for, bucket, head_of, IsOpen}
 use Rattle.crq_rule.specs.Invariant.{Inv}
 use Rattle.crq_rule.proofs.CoverLaws.{row_footing, names_covered, footing_covered}
 use Rattle.crq_rule.proofs.HistoryLaws.{settled_put}
@@ -46,7 +46,7 @@ time_rank f e y r a low h = let s = a.src in let q = a.seq in omega arith
 
 -- an open table of one list has one head
 pub one_head : (x : Control) (e : Event) (q : ℕ) → x.log ≡ 0 → IsOpen x q → head_of x e ≡ q
-unfolding head_of
+unfolding head_for bucket
 one_head x e q none opened = let low = opened.0 in let high : q < x.generation % 2 * 32768 + 1 = subst (λ z. q < x.generation % 2 * 32768 + 2 ^ z) none opened.1 in
     let one : e.time / 2 ^ x.shift % 2 ^ x.log ≡ 0 = subst (λ z. e.time / 2 ^ x.shift % 2 ^ z ≡ 0) (sym none) (omega arith) in omega arith
 

@@ -15,7 +15,7 @@ use Rattle.crq_rule.specs.Core.{Holding, DeadNames, listed}
 use Rattle.crq_rule.specs.Parts.{Covers, Ground, IsGuarded, rows_of}
 use Rattle.crq_rule.specs.ListParts.{IsFinal, Marks, MarkFits, TwinFits, Standing, Lanes, Writing, Naming}
 use Rattle.crq_rule.specs.HistoryParts.{Carriers, Walkers, IsLive, StandsFrom}
-use Rattle.crq_rule.specs.Ranks.{head_of, IsOpen}
+use Rattle.crq_rule.specs.Ranks.{Shape, head_of, IsOpen}
 use Rattle.crq_base.specs.Histories.{puts, outs}
 use Rattle.crq_base.specs.Lists.{In}
 use Rattle.std.specs.Prelude.{Contains}
@@ -23,10 +23,10 @@ use Rattle.crq_rule.proofs.Puts.{put_else, put_all, snoc_in}
 use Rattle.crq_rule.proofs.PartLaws.{sort}
 use Rattle.crq_rule.proofs.CoverLaws.{covered_guard, covered_less}
 
-module _ (l : Layout) (control : Control) (ground : Ground) (event : ℕ → Event) where
+module _ (l : Layout) (shape : ℕ → Shape) (ground : Ground) (event : ℕ → Event) where
   -- lanes, where what is covered was covered before
   pub lanes_before : (guard' : ℕ → Guard) (footing' : ℕ → List ℕ) → ((k g r : ℕ) → Covers (record ground { guard = guard'; footing = footing' }) k g r → Covers ground k g r)
-      → Lanes l control ground event → Lanes l control (record ground { guard = guard'; footing = footing' }) event
+      → Lanes l shape ground event → Lanes l shape (record ground { guard = guard'; footing = footing' }) event
   lanes_before guard' footing' before old = record {
     is_row = λ r v. old.is_row r (was r v);
     rises = λ r v. old.rises r (was r v);
@@ -37,10 +37,10 @@ module _ (l : Layout) (control : Control) (ground : Ground) (event : ℕ → Eve
       was : (r : ℕ) → IsGuarded (record ground { guard = guard'; footing = footing' }) r → IsGuarded ground r
       was r v = (v.0, v.1, before v.0 v.1 r v.2)
 
-  pub lanes_guard : (j : ℕ) (g : Guard) → (j < ground.workers → ground.footing j ≡ []) → Lanes l control ground event → Lanes l control (record ground { guard = put ground.guard j g }) event
+  pub lanes_guard : (j : ℕ) (g : Guard) → (j < ground.workers → ground.footing j ≡ []) → Lanes l shape ground event → Lanes l shape (record ground { guard = put ground.guard j g }) event
   lanes_guard j g none = lanes_before (put ground.guard j g) ground.footing (covered_guard ground j g none)
 
-  pub lanes_less : (footing : ℕ → List ℕ) → ((k a : ℕ) → In a (footing k) → In a (ground.footing k)) → Lanes l control ground event → Lanes l control (record ground { footing = footing }) event
+  pub lanes_less : (footing : ℕ → List ℕ) → ((k a : ℕ) → In a (footing k) → In a (ground.footing k)) → Lanes l shape ground event → Lanes l shape (record ground { footing = footing }) event
   lanes_less footing less = lanes_before ground.guard footing (covered_less ground footing less)
 
 -- a caller comes to stand nowhere
@@ -83,8 +83,8 @@ module _ (l : Layout) (link : ℕ → Link) (holding : ℕ → Holding) (r : ℕ
     twin_is = put_all holding r h (λ s g. IsRow l s → TwinFits g (twin s)) (λ b. (fits b).1) (λ s _. old.twin_is s);
   }
 
-  pub naming_held : (control : Control) (event : ℕ → Event) (names : ℕ → DeadNames) → sort h ≢ 1 → Naming l control link event names holding → Naming l control link event names (put holding r h)
-  naming_held control event names is old = record { named = λ s q b e. old.named s q b (listed_was is s q e); place = old.place }
+  pub naming_held : (head : ℕ → Link) (event : ℕ → Event) (names : ℕ → DeadNames) → sort h ≢ 1 → Naming l head link event names holding → Naming l head link event names (put holding r h)
+  naming_held head event names is old = record { named = λ s q b e. old.named s q b (listed_was is s q e); place = old.place }
 
   pub carriers_held : (history : List Entry) (event : ℕ → Event) → sort (holding r) ≢ 1 → sort h ≢ 1 → Carriers l history link event holding → Carriers l history link event (put holding r h)
   carriers_held history event was is old = record {

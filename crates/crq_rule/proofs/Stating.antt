@@ -2,7 +2,6 @@
 use Rattle.std.proofs.Common.{◌≡◌, ◌⊎◌, ⊎_elim, inl, inr, ℕ, zero, suc, ◌+◌, ◌^◌, ◌<◌, ◌≤◌, List, [], ◌∷◌, ◌++◌, sym, refl, ap, ◌∙◌, subst, arith}
 use mathlib.Core.Logic.{dite}
 use native.Mathlib.Decide.{ℕ_discrete}
-use Rattle.crq_base.specs.declared.words.Control.{Control}
 use Rattle.crq_base.specs.Lists.{In}
 use Rattle.crq_rule.specs.declared.view.Guard.{Guard}
 use Rattle.crq_rule.specs.declared.view.Guard.TheVariants.{Off, Entering, On}
@@ -47,8 +46,8 @@ module _ (c : Core) (inv : Inv c) where
     guards = λ j e b is. (on_low c inv j e b is).0;
     ticks = inv.reading.loaded;
     tags = inv.reading.tags;
-    currents = inv.reading.read_current;
-    generations = λ j x b is. (let e = ap (λ (z : Control). z.generation) (inv.reading.read_control j x b is) in omega arith);
+    currents = inv.finds.currents;
+    generations = λ j x b is. (inv.finds.controls j x b is).low;
   }
 
   -- 2. Holders

@@ -1,5 +1,5 @@
 -- The invariant that is kept implies what is stated of lists, carriers, the history and walkers.
-use Rattle.std.proofs.Common.{◌≡◌, ◌⊎◌, ⊎_elim, inl, inr, ℕ, ◌^◌, ◌<◌, true, List, [], ◌∷◌, length, Option, Some, None, sym, refl, ap, ◌∙◌, subst, arith}
+use Rattle.std.proofs.Common.{◌≡◌, ◌⊎◌, ⊎_elim, inl, inr, ℕ, ◌^◌, ◌<◌, true, List, [], ◌∷◌, length, sym, refl, ap, ◌∙◌, subst, arith}
 use Rattle.std.specs.List.{Contains}
 use Rattle.std.specs.Ordering.{nat_cmp, ordering_then, is_lt, MatchOrdering}
 use Rattle.std.specs.declared.cmp.Ordering.{Ordering}
@@ -12,16 +12,15 @@ use Rattle.crq_base.specs.Histories.{puts, outs, IsPending}
 use Rattle.crq_base.proofs.HistoryLaws.{began_one}
 use Rattle.crq_base.proofs.Verdicts.{contains_or}
 use Rattle.crq_base.specs.Lists.{In}
-use Rattle.crq_rule.specs.declared.debts.CutDebt.{CutDebt}
 use Rattle.crq_rule.specs.declared.view.Walk.{Walk}
 use Rattle.crq_rule.specs.Places.{IsRow, IsHead}
-use Rattle.crq_rule.specs.Core.{Core, DeadNames, Holding, in_hand, listed, cut_by, retired}
+use Rattle.crq_rule.specs.Core.{Core, Holding, in_hand, listed, cut_by, retired}
 use Rattle.crq_rule.specs.Parts.{ground_of, IsEvent, Leads}
 use Rattle.crq_rule.specs.Ranks.{rank, head_of, Rises}
-use Rattle.crq_rule.specs.ListParts.{ranks, MarkFits, TwinFits, IsNamed}
+use Rattle.crq_rule.specs.ListParts.{ranks, MarkFits, TwinFits}
 use Rattle.crq_rule.specs.HistoryParts.{StandsFrom}
 use Rattle.crq_rule.specs.Invariant.{Inv}
-use Rattle.crq_rule.specs.Stated.{IsCovered, Precedes, Ascends, IsListOf, LeadsOn, IsInHand, OwesCut, ListsHold, CarriersHold, HistoryHolds, IsWalking, WalkersHold}
+use Rattle.crq_rule.specs.Stated.{IsCovered, Precedes, Ascends, IsListOf, LeadsOn, IsInHand, ListsHold, CarriersHold, HistoryHolds, IsWalking, WalkersHold}
 use Rattle.crq_rule.proofs.CoverLaws.{names_covered}
 use Rattle.crq_rule.proofs.SearchLaws.{stand_covered}
 
@@ -44,13 +43,6 @@ rank_precedes e f r s fits fits' low low' less = go (nat_cmp e.time f.time) (nat
     go Greater b c t x q = absurd (let u = fits'.src in let v = fits'.seq in omega arith)
 
 -- 5. Lists
-
-owes : (d : DeadNames) (r : ℕ) (e : Event) → IsNamed d.first r e ⊎ IsNamed d.second r e → OwesCut d r e
-owes d r e named = ⊎_elim (λ (n : IsNamed d.first r e). let o = one d.first n in (o.0, inl o.1, o.2, o.3)) (λ (n : IsNamed d.second r e). let o = one d.second n in (o.0, inr o.1, o.2, o.3)) named
-  where
-    one : (o : Option CutDebt) → IsNamed o r e → (x : CutDebt) × (o ≡ Some x) × (x.row ≡ r) × (x.event ≡ e)
-    one None n = absurd n
-    one (Some x) n = (x, refl, n.0, n.1)
 
 del_val : Del ≡ Val → ⊥
 del_val e = cc
@@ -103,6 +95,7 @@ module _ (c : Core) (inv : Inv c) where
 
   pub lists_hold : ListsHold c
   lists_hold = record {
+    shaped = inv.sizes.now.size;
     opened = λ q b o. (inv.heads.opened q b o, list_of q b);
     shut = λ q b o. let s = inv.heads.shut q b o in (s, no_rows q (c.chain q) b (λ r i. (inv.holders.in_chain q r b i).0) s.1 (inv.chains.leads q b));
     covered = λ k g r v. (inv.lanes.is_row r (k, g, v), leads_on k g r v);
@@ -111,7 +104,7 @@ module _ (c : Core) (inv : Inv c) where
     cut = λ r j b is. fits r (cut_by j) b is;
     retired = λ r t b is. fits r (retired t) b is;
     twins = λ r b. no_twin r (c.holding r) refl (inv.marks.twin_is r b);
-    named = λ r q b is dead. let n = inv.naming.named r q b is dead in (n.0, n.1, owes (c.named n.0) r (c.words.event r) n.2);
+    named = λ r q b is dead. let n = inv.naming.named r q b is dead in (n.0, n.1, (n.2.0, n.2.1, n.2.2.row, n.2.2.event));
   }
 
   -- 6. Carriers

@@ -21,7 +21,7 @@ use Rattle.crq_rule.specs.Places.{IsRow, IsHomeRow, IsHead}
 use Rattle.crq_rule.specs.Core.{Core, Holding, in_hand, listed, cut_by, retired}
 use Rattle.crq_rule.specs.Parts.{Leads}
 use Rattle.crq_rule.specs.ListParts.{ranks, MarkFits}
-use Rattle.crq_rule.specs.Ranks.{rank, head_of, Cell, at_head, at_row, link_at, Rises, after_cell, without_row}
+use Rattle.crq_rule.specs.Ranks.{rank, list_in, head_of, Cell, at_head, at_row, link_at, Rises, after_cell, without_row}
 use Rattle.crq_rule.specs.ScarceParts.{WasOut, Swept}
 use Rattle.crq_rule.specs.Invariant.{Inv}
 use Rattle.crq_rule.specs.ListKinds.{put_entries, is_val, is_passing, swept_head, taken_on, sweep_on, clean_on}
@@ -30,6 +30,7 @@ use Rattle.crq_rule.proofs.HistoryLaws.{not_out}
 use Rattle.crq_rule.proofs.ChainLaws.{in_cell}
 use Rattle.crq_rule.proofs.Pendings.{split_entry, both}
 use Rattle.crq_rule.proofs.CoverLaws.{guarded_by}
+use Rattle.crq_rule.proofs.SteadyLaws.{found_now, guarded_now, open_list}
 use Rattle.crq_rule.proofs.Lawfuls.{stand_covered}
 
 pub none_sweep : (s : Sweep) → None ≡ Some s → ⊥
@@ -91,10 +92,10 @@ swept_cut l history event chain sweep clean q x old = swept_chains l history eve
     (λ k p r _ _ _ i. put_all chain q (without_row x (chain q)) (λ p rows. In r rows → In r (chain p)) (still_in x r (chain q)) (λ _ _ i. i) p i) old
 
 -- a row whose event was never put comes into a list
-pub swept_linked : (c : Core) (j : ℕ) (cell : Cell) (r : ℕ) (e : Event) → j < c.start.layout.workers → IsHomeRow c.start.layout j r → c.words.event r ≡ e → (Contains (puts c.history) e → ⊥) → Inv c
+pub swept_linked : (c : Core) (j : ℕ) (cell : Cell) (q r : ℕ) (e : Event) → j < c.start.layout.workers → IsHomeRow c.start.layout j r → c.words.event r ≡ e → (Contains (puts c.history) e → ⊥) → Inv c
     → Swept c.start.layout (c.history ++ put_entries j e) c.words.event c.chain c.sweep c.clean → ((k : ℕ) → In (Begin k) (put_entries j e) → ⊥)
-    → Swept c.start.layout (c.history ++ put_entries j e) c.words.event (put c.chain (head_of c.words.control e) (after_cell cell r (c.chain (head_of c.words.control e)))) c.sweep c.clean
-swept_linked c j cell r e b home is new inv old none = let q = head_of c.words.control e in swept_chains _ _ _ _ _ _ (put c.chain q (after_cell cell r (c.chain q)))
+    → Swept c.start.layout (c.history ++ put_entries j e) c.words.event (put c.chain q (after_cell cell r (c.chain q))) c.sweep c.clean
+swept_linked c j cell q r e b home is new inv old none = swept_chains _ _ _ _ _ _ (put c.chain q (after_cell cell r (c.chain q)))
     (λ k p s _ _ w i. put_all c.chain q (after_cell cell r (c.chain q)) (λ p rows. In s rows → In s (c.chain p))
     (λ i. ⊎_elim (λ (same : s ≡ r). absurd (not_out _ _ _ _ _ e inv.told new (was_out c.history k e (was_before c.history (put_entries j e) k e (none k) (subst (WasOut (c.history ++ put_entries j e) k) (ap c.words.event same ∙ is) w))))) (λ t. t) (in_cell cell r s (c.chain q) i)) (λ _ _ i. i) p i) old
 
@@ -172,8 +173,9 @@ module _ (c : Core) (j : ℕ) (b : j < c.start.layout.workers) (inv : Inv c) whe
       let holds : c.words.event p ≡ t.stand.event = ap c.words.event (sym t.row) ∙ inv.standing.holds j t.stand b t.stands in
       let row : IsRow c.start.layout p = subst (IsRow c.start.layout) t.row (inv.lanes.is_row t.stand.row (guarded_by j v)) in
       let at = present_listed (c.holding p) (c.words.link p).mark val (λ k held. inv.cover.free j v.0 t.stand.row k v.1 (ap c.holding t.row ∙ held)) (inv.marks.mark p row) in
-      let in_list = inv.holders.of_chain at.0 p row at.1 in let control : t.control ≡ x = inv.reading.read_control j t.control b t.found in
-      let list : at.0 ≡ s.head = sym (inv.sorted.belongs at.0 p in_list.0 in_list.1) ∙ ((λ k. head_of (sym control k) (holds k)) ∙ t.head) in
+      let in_list = inv.holders.of_chain at.0 p row at.1 in let control : t.control ≡ x = found_now c inv j t.control b t.found in
+      let now = sym (inv.sorted.generation at.0 p in_list.0 in_list.1) ∙ subst (λ z. (c.words.link z).generation ≡ x.generation) t.row (guarded_now c inv t.stand.row (guarded_by j v)) in
+      let list : at.0 ≡ s.head = sym (inv.sorted.belongs at.0 p in_list.0 in_list.1) ∙ ((λ k. list_in c.shape (now k) (holds k)) ∙ (open_list c inv t.stand.event ∙ (ap (λ z. head_of z t.stand.event) (sym control) ∙ t.head))) in
       let here : In p (c.chain s.head) = subst (λ q. In p (c.chain q)) list in_list.1 in
       let apart : r ≢ p = λ same. (inv.carriers.pending p (row, (at.0, at.1), val)).kept (was_out c.history j (c.words.event p) (subst (λ z. WasOut c.history j (c.words.event z)) same w)) in
       let high = inv.swept.left j r s b is head home i w in let low : ranks c.words.event p ≤ s.rank = subst (λ e. rank e p ≤ s.rank) (sym holds) t.low in

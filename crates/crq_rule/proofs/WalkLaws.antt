@@ -1,5 +1,5 @@
 -- A walk keeps the invariant: it comes to rows that its guard covers, or to the first row of a list.
-use Rattle.std.proofs.Common.{◌≡◌, ◌≢◌, ◌⊎◌, ⊎_elim, inl, inr, ℕ, ◌<◌, ◌≤◌, Bool, true, false, cond, eqb, ltb, leb, ◌&&◌, ◌||◌, List, [], ◌∷◌, ◌++◌, length, Option, Some, None, sym, refl, ap, ◌∙◌, subst, arith}
+use Rattle.std.proofs.Common.{◌≡◌, ◌≢◌, ◌⊎◌, ⊎_elim, inl, inr, ℕ, ◌<◌, ◌≤◌, Bool, true, false, cond, eqb, ltb, leb, ◌&&◌, ◌||◌, List, [], ◌∷◌, ◌++◌, length, Option, Some, None, sym, refl, ap, ◌∙◌, subst, eq-eqb, arith}
 use Rattle.std.proofs.lemmas.Bool.{cond_both, eqb-true, ltb-true, leb-true, and_parts, or_cases, cases_lt, false≢true}
 use Rattle.std.proofs.lemmas.Option.{same_Some, none-some}
 use Rattle.std.proofs.lemmas.List.Elements.{Contains-append_left, filter_map-append}
@@ -22,17 +22,19 @@ use Rattle.crq_rule.specs.declared.view.Stand.{Stand}
 use Rattle.crq_rule.specs.declared.view.Walk.{Walk}
 use Rattle.crq_rule.specs.Lists.{put}
 use Rattle.crq_rule.specs.Places.{IsRow, IsHead}
-use Rattle.crq_rule.specs.Core.{Core, DeadNames, Holding, in_hand, listed, cut_by, retired}
-use Rattle.crq_rule.specs.Parts.{ground_of, IsEvent, Covers, IsGuarded, HasTag, IsOn, Names, IsPath, Reaches, rows_of, rows_of_old, rows_of_copy}
+use Rattle.crq_rule.specs.Core.{Core, DeadNames, HasName, Holding, in_hand, listed, cut_by, retired}
+use Rattle.crq_rule.specs.Parts.{ground_of, Covers, IsGuarded, HasTag, IsOn, Names, IsPath, Reaches, rows_of, rows_of_old, rows_of_copy}
 use Rattle.crq_rule.specs.ListParts.{ranks, MarkFits, TwinFits, IsFinal, IsNamed}
 use Rattle.crq_rule.specs.HistoryParts.{StandsFrom}
 use Rattle.crq_rule.specs.Invariant.{Inv}
-use Rattle.crq_rule.specs.Ranks.{rank, head_of, IsOpen, Cell, at_head, at_row, link_at}
-use Rattle.crq_rule.specs.ListKinds.{is_final, is_passed, is_val, stands_after, walk_after, walked, is_beyond, relieved, next_stand, walked_from, MayWalk, MaySeek}
+use Rattle.crq_rule.specs.Ranks.{rank, list_in, head_of, IsOpen, Cell, at_head, at_row, link_at}
+use Rattle.crq_rule.specs.ListKinds.{is_final, is_passed, is_val, stands_after, walk_after, walked, is_cell, is_beyond, is_past, is_other_front, relieved, next_stand, walked_from, MayWalk, MaySeek}
 use Rattle.crq_rule.proofs.SweepLaws.{val_is, swept_walked}
 use Rattle.crq_rule.proofs.Puts.{put_here, put_else, put_all}
 use Rattle.crq_rule.proofs.PartLaws.{sort}
 use Rattle.crq_rule.proofs.CoverLaws.{row_footing}
+use Rattle.crq_rule.proofs.SizeLaws.{fitting_list, dues_named}
+use Rattle.crq_rule.proofs.SteadyLaws.{open_list, outside_now, steady_names}
 use Rattle.crq_rule.proofs.Standings.{least, first_in, next_above, adjacent, longer, reached, path_in, in_join, join_in, rows_in, next_in, stood, row_stood, row_stays, row_next}
 
 -- the row is in a list
@@ -55,8 +57,9 @@ new_names c j cell = record (c.named j) { first = relieved (c.found j).control c
 abbrev new_walk : Core → ℕ → Cell → Bool → Option Walk
 new_walk c j cell seeks = walk_after cell seeks (cell_link c cell) (c.walk j)
 
-val_del : Val ≡ Del → ⊥
-val_del e = cc
+-- a cell isn't dead
+cell_live : (m : Mark) → is_cell m ≡ true → m ≡ Del → ⊥
+cell_live m cell dead = false≢true (sym (ap is_cell dead) ∙ cell)
 
 module _ (c : Core) (inv : Inv c) where
   listed_some : (q : ℕ) → IsHead q → (r : ℕ) → In r (c.chain q) → 0 < r
@@ -67,6 +70,11 @@ module _ (c : Core) (inv : Inv c) where
 
   chain_next : (q r : ℕ) → IsHead q → In r (c.chain q) → 0 < (c.words.link r).row → In (c.words.link r).row (c.chain q) × (ranks c.words.event r < ranks c.words.event (c.words.link r).row)
   chain_next q r b i some = next_above c.words.link (ranks c.words.event) (c.words.head q).row 0 r (c.chain q) (inv.chains.leads q b) (inv.sorted.rises q b) i some
+
+  -- the next row holds an event of the same list
+  chain_stays : (q r : ℕ) → IsHead q → In r (c.chain q) → 0 < (c.words.link r).row → list_in c.shape (c.words.link r).generation (c.words.event (c.words.link r).row) ≡ list_in c.shape (c.words.link r).generation (c.words.event r)
+  chain_stays q r b i some = let g = inv.sorted.generation q r b i in subst (λ g. list_in c.shape g (c.words.event (c.words.link r).row) ≡ list_in c.shape g (c.words.event r)) (sym g)
+      (inv.sorted.belongs q (c.words.link r).row b (chain_next q r b i some).0 ∙ sym (inv.sorted.belongs q r b i))
 
   -- what a listed row names is listed after it
   names_listed : (q : ℕ) → IsHead q → (r s : ℕ) → In r (c.chain q) → Names c.words.link c.words.twin r s → In s (c.chain q)
@@ -87,7 +95,7 @@ module _ (c : Core) (inv : Inv c) where
       (λ (is : (j : ℕ) × (x : CutRow) × (j < c.start.layout.workers) × (c.cut j ≡ Some x) × (x.row ≡ r) × In t x.tags).
       let d : sort (c.holding r) ≡ 2 = subst (λ z. sort (c.holding z) ≡ 2) is.4 (ap sort (inv.holders.is_cut is.0 is.1 is.2 is.3).1) in omega arith) has
 
-  -- a covered row has no twin, and one that is present is listed
+  -- a covered row has no twin, and one that may be followed by another row is listed
   covered_twin : (r : ℕ) → IsGuarded (ground_of c) r → c.words.twin r ≡ 0
   covered_twin r v = go (c.holding r) refl (inv.marks.twin_is r (inv.lanes.is_row r v))
     where
@@ -97,8 +105,8 @@ module _ (c : Core) (inv : Inv c) where
       go (cut_by i) e f = f
       go (retired t) e f = f
 
-  covered_present : (r : ℕ) → IsGuarded (ground_of c) r → (c.words.link r).mark ≡ Val → IsListed c r
-  covered_present r v val = go (c.holding r) refl (inv.marks.mark r row)
+  covered_cell : (r : ℕ) → IsGuarded (ground_of c) r → is_cell (c.words.link r).mark ≡ true → IsListed c r
+  covered_cell r v cell = go (c.holding r) refl (inv.marks.mark r row)
     where
       row : IsRow c.start.layout r
       row = inv.lanes.is_row r v
@@ -106,8 +114,8 @@ module _ (c : Core) (inv : Inv c) where
       go : (h : Holding) → c.holding r ≡ h → MarkFits h (c.words.link r).mark → IsListed c r
       go (in_hand i) e f = absurd (inv.cover.free v.0 v.1 r i v.2 e)
       go (listed q) e f = let o = inv.holders.of_chain q r row e in (q, o.0, o.1)
-      go (cut_by i) e f = absurd (val_del (sym val ∙ f))
-      go (retired t) e f = absurd (val_del (sym val ∙ f))
+      go (cut_by i) e f = absurd (cell_live (c.words.link r).mark cell f)
+      go (retired t) e f = absurd (cell_live (c.words.link r).mark cell f)
 
   -- what the cell's link leads to is led to from a row that the caller stands on, or listed
   from_cell : (j : ℕ) (cell : Cell) (r : ℕ) → MayWalk (c.rows j) cell → 0 < (cell_link c cell).row
@@ -159,30 +167,58 @@ final_is Invalid e = absurd (false≢true e)
 final_is Mov e = tt
 final_is Del e = tt
 
--- what the walk found where it goes past a debt
-beyond_is : (x : Option Control) (p : ℕ) (ss : List Stand) (d : CutDebt) → is_beyond x (at_row p) ss d ≡ true
-    → (y : Control) × (x ≡ Some y) × ((s : Stand) × In s ss × (s.row ≡ p) × (head_of y s.event ≡ d.head) × (rank s.event p ≤ rank d.event d.row))
+-- the caller stands on the row p, in the list of the name and at its place or before it
+record Beyond (x : Option Control) (p : ℕ) (ss : List Stand) (d : CutDebt) : Type 0 where
+  control : Control
+  found : x ≡ Some control
+  generation : control.generation ≡ d.generation
+  stand : Stand
+  stands : In stand ss
+  row : stand.row ≡ p
+  head : head_of control stand.event ≡ d.head
+  low : rank stand.event p ≤ rank d.event d.row
+
+beyond_is : (x : Option Control) (p : ℕ) (ss : List Stand) (d : CutDebt) → is_beyond x (at_row p) ss d ≡ true → Beyond x p ss d
 beyond_is None p ss d t = absurd (false≢true t)
 beyond_is (Some y) p [] d t = absurd (false≢true t)
-beyond_is (Some y) p (s ∷ ss) d t = cond_both (eqb s.row p) (eqb (head_of y s.event) d.head && leb (rank s.event p) (rank d.event d.row)) (is_beyond (Some y) (at_row p) ss d)
-    (λ b. b ≡ true → (z : Control) × (Some y ≡ Some z) × ((u : Stand) × In u (s ∷ ss) × (u.row ≡ p) × (head_of z u.event ≡ d.head) × (rank u.event p ≤ rank d.event d.row)))
-    (λ yes h. let parts = and_parts (eqb (head_of y s.event) d.head) (leb (rank s.event p) (rank d.event d.row)) h in
-    (y, refl, (s, inl refl, eqb-true s.row p yes, eqb-true (head_of y s.event) d.head parts.0, leb-true (rank s.event p) (rank d.event d.row) parts.1)))
-    (λ _ h. let r = beyond_is (Some y) p ss d h in (r.0, r.1, (r.2.0, inr r.2.1, r.2.2, r.2.3, r.2.4))) t
+beyond_is (Some y) p (s ∷ ss) d t = let same = eqb y.generation d.generation in let head = eqb (head_of y s.event) d.head in let low = leb (rank s.event p) (rank d.event d.row) in
+    cond_both (eqb s.row p) (same && (head && low)) (is_beyond (Some y) (at_row p) ss d) (λ b. b ≡ true → Beyond (Some y) p (s ∷ ss) d)
+    (λ yes h. let first = and_parts same (head && low) h in let rest = and_parts head low first.1 in record {
+      control = y;
+      found = refl;
+      generation = eqb-true y.generation d.generation first.0;
+      stand = s;
+      stands = inl refl;
+      row = eqb-true s.row p yes;
+      head = eqb-true (head_of y s.event) d.head rest.0;
+      low = leb-true (rank s.event p) (rank d.event d.row) rest.1;
+    })
+    (λ _ h. let r = beyond_is (Some y) p ss d h in
+    record { control = r.control; found = r.found; generation = r.generation; stand = r.stand; stands = inr r.stands; row = r.row; head = r.head; low = r.low }) t
 
--- the walk found the dead row gone
-abbrev is_past : Option Control → Cell → List Stand → Link → Event → CutDebt → Bool
-is_past x cell ss l e d = is_val l.mark && (is_beyond x cell ss d && (eqb l.row 0 || ltb (rank d.event d.row) (rank e l.row)))
+-- what the walk found where it goes past a name
+record Past (x : Option Control) (cell : Cell) (ss : List Stand) (l : Link) (e : Event) (d : CutDebt) : Type 0 where
+  cell_is : is_cell l.mark ≡ true
+  generation : l.generation ≡ d.generation
+  beyond : is_beyond x cell ss d ≡ true
+  gone : (eqb l.row 0 || ltb (rank d.event d.row) (rank e l.row)) ≡ true
 
--- a debt that the walk isn't past stays, and one that is left was there
-relieved_named : (x : Option Control) (cell : Cell) (ss : List Stand) (l : Link) (e : Event) (o : Option CutDebt) (r : ℕ) (f : Event)
-    → ((d : CutDebt) → o ≡ Some d → d.row ≡ r → d.event ≡ f → is_past x cell ss l e d ≡ true → ⊥) → IsNamed o r f → IsNamed (relieved x cell ss l e o) r f
-relieved_named x cell ss l e None r f still named = absurd named
-relieved_named x cell ss l e (Some d) r f still named = cond_both (is_past x cell ss l e d) None (Some d) (λ o. IsNamed o r f) (λ t. absurd (still d refl named.0 named.1 t)) (λ _. named)
+past_is : (x : Option Control) (cell : Cell) (ss : List Stand) (l : Link) (e : Event) (d : CutDebt) → is_past x cell ss l e d ≡ true → Past x cell ss l e d
+past_is x cell ss l e d t = let gone = eqb l.row 0 || ltb (rank d.event d.row) (rank e l.row) in
+    let one = and_parts (is_cell l.mark) (eqb l.generation d.generation && (is_beyond x cell ss d && gone)) t in
+    let two = and_parts (eqb l.generation d.generation) (is_beyond x cell ss d && gone) one.1 in
+    let three = and_parts (is_beyond x cell ss d) gone two.1 in
+    record { cell_is = one.0; generation = eqb-true l.generation d.generation two.0; beyond = three.0; gone = three.1 }
+
+-- a name that the walk isn't past stays, and one that is left was there
+relieved_stays : (x : Option Control) (cell : Cell) (ss : List Stand) (l : Link) (e : Event) (o : Option CutDebt) (d : CutDebt) → o ≡ Some d → (is_past x cell ss l e d ≡ true → ⊥) → (is_other_front cell l d ≡ true → ⊥)
+    → relieved x cell ss l e o ≡ Some d
+relieved_stays x cell ss l e o d is here first = subst (λ o. relieved x cell ss l e o ≡ Some d) (sym is)
+    (cond_both (is_past x cell ss l e d || is_other_front cell l d) None (Some d) (λ o. o ≡ Some d) (λ t. absurd (⊎_elim here first (or_cases (is_past x cell ss l e d) (is_other_front cell l d) t))) (λ _. refl))
 
 relieved_some : (x : Option Control) (cell : Cell) (ss : List Stand) (l : Link) (e : Event) (o : Option CutDebt) (d : CutDebt) → relieved x cell ss l e o ≡ Some d → o ≡ Some d
 relieved_some x cell ss l e None d is = is
-relieved_some x cell ss l e (Some a) d is = cond_both (is_past x cell ss l e a) None (Some a) (λ o. o ≡ Some d → Some a ≡ Some d) (λ _ n. absurd (none-some d n)) (λ _ i. i) is
+relieved_some x cell ss l e (Some a) d is = cond_both (is_past x cell ss l e a || is_other_front cell l a) None (Some a) (λ o. o ≡ Some d → Some a ≡ Some d) (λ _ n. absurd (none-some d n)) (λ _ i. i) is
 
 module _ (c : Core) (j g : ℕ) (b : j < c.start.layout.workers) (on : c.guard j ≡ On g) (inv : Inv c) where
   -- the rows that the caller stands on are covered
@@ -197,29 +233,41 @@ module _ (c : Core) (j g : ℕ) (b : j < c.start.layout.workers) (on : c.guard j
       (λ z. let e = ltb-true (rank d.event d.row) (rank (c.words.event l.row) l.row) z in omega arith)
       (or_cases (eqb l.row 0) (ltb (rank d.event d.row) (rank (c.words.event l.row) l.row)) t)
 
-  -- a dead row that is listed stays owed
-  still_owed : (cell : Cell) (d : CutDebt) (q r : ℕ) → MayWalk (c.rows j) cell → d.head ≡ head_of c.words.control d.event → IsHead q → In r (c.chain q) → (c.words.link r).mark ≡ Del → d.row ≡ r → d.event ≡ c.words.event r
-      → is_past (c.found j).control cell (c.rows j) (cell_link c cell) (cell_event c cell) d ≡ true → ⊥
-  still_owed (at_head p) d q r may place h i del row event past = let l = c.words.head p in
-      let t = (and_parts (is_val l.mark) (eqb d.head p && (eqb l.row 0 || ltb (rank d.event d.row) (rank (c.words.event l.row) l.row))) past).1 in
-      let u = and_parts (eqb d.head p) (eqb l.row 0 || ltb (rank d.event d.row) (rank (c.words.event l.row) l.row)) t in
-      let same : q ≡ p = sym (inv.sorted.belongs q r h i) ∙ (ap (head_of c.words.control) (sym event) ∙ (sym place ∙ eqb-true d.head p u.0)) in
-      let m = least c.words.link (ranks c.words.event) l.row 0 r (c.chain p) (inv.chains.leads p may) (inv.sorted.rises p may) (subst (λ z. In r (c.chain z)) same i) in
-      not_past p r l d may m.0 m.1 (λ k. rank (event k) (row k)) u.1
-  still_owed (at_row p) d q r may place h i del row event past = let l = c.words.link p in let x = (c.found j).control in let ss = (c.rows j) in
-      let t = and_parts (is_val l.mark) (is_beyond x (at_row p) ss d && (eqb l.row 0 || ltb (rank d.event d.row) (rank (c.words.event l.row) l.row))) past in
-      let u = and_parts (is_beyond x (at_row p) ss d) (eqb l.row 0 || ltb (rank d.event d.row) (rank (c.words.event l.row) l.row)) t.1 in
-      let s = beyond_is x p ss d u.0 in
-      let val = val_is l.mark t.0 in
-      let in_list = covered_present c inv p (covered_at p (subst (λ z. In z (rows_of ss)) s.2.2 (rows_in ss s.2.0 s.2.1))) val in
-      let holds : c.words.event p ≡ s.2.0.event = ap c.words.event (sym s.2.2) ∙ inv.standing.holds j s.2.0 b s.2.1 in
-      let control : s.0 ≡ c.words.control = inv.reading.read_control j s.0 b s.1 in
-      let same : in_list.0 ≡ q = sym (inv.sorted.belongs in_list.0 p in_list.1 in_list.2) ∙ ((λ k. head_of (sym control k) (holds k)) ∙ (s.2.3 ∙ (place ∙ (ap (head_of c.words.control) event ∙ inv.sorted.belongs q r h i)))) in
-      let rank_is : rank d.event d.row ≡ ranks c.words.event r = λ k. rank (event k) (row k) in
-      let low : ranks c.words.event p ≤ ranks c.words.event r = subst (λ z. ranks c.words.event p ≤ z) rank_is (subst (λ z. rank z p ≤ rank d.event d.row) (sym holds) s.2.4) in
-      let m = adjacent c.words.link (ranks c.words.event) (c.words.head q).row 0 p r (c.chain q) (inv.chains.leads q h) (inv.sorted.rises q h) (subst (λ z. In p (c.chain z)) same in_list.2) i
-      (λ e. val_del (sym val ∙ (ap (λ z. (c.words.link z).mark) e ∙ del))) low in
-      not_past q r l d h m.0 m.1 rank_is u.1
+  -- the name d is of the dead row r, which is listed
+  module _ (d : CutDebt) (q r : ℕ) (place : d.head ≡ list_in c.shape d.generation d.event) (h : IsHead q) (i : In r (c.chain q)) (del : (c.words.link r).mark ≡ Del)
+      (is : IsNamed c.words.head d r (c.words.event r) (c.words.link r)) where
+    -- its list by the name
+    list_is : q ≡ d.head
+    list_is = sym (inv.sorted.belongs q r h i) ∙ ((λ k. list_in c.shape ((sym (inv.sorted.generation q r h i) ∙ sym is.generation) k) (sym is.event k)) ∙ sym place)
+
+    rank_is : rank d.event d.row ≡ ranks c.words.event r
+    rank_is = λ k. rank (is.event k) (is.row k)
+
+    -- the name stays
+    still_owed : (cell : Cell) → MayWalk (c.rows j) cell → is_past (c.found j).control cell (c.rows j) (cell_link c cell) (cell_event c cell) d ≡ true → ⊥
+    still_owed (at_head p) may t = let past = past_is (c.found j).control (at_head p) (c.rows j) (c.words.head p) (cell_event c (at_head p)) d t in
+        let same : q ≡ p = list_is ∙ eqb-true d.head p past.beyond in
+        let m = least c.words.link (ranks c.words.event) (c.words.head p).row 0 r (c.chain p) (inv.chains.leads p may) (inv.sorted.rises p may) (subst (λ z. In r (c.chain z)) same i) in
+        not_past p r (c.words.head p) d may m.0 m.1 rank_is past.gone
+    still_owed (at_row p) may t = let past = past_is (c.found j).control (at_row p) (c.rows j) (c.words.link p) (cell_event c (at_row p)) d t in
+        let s = beyond_is (c.found j).control p (c.rows j) d past.beyond in
+        let in_list = covered_cell c inv p (covered_at p (subst (λ z. In z (rows_of (c.rows j))) s.row (rows_in (c.rows j) s.stand s.stands))) past.cell_is in
+        let holds : c.words.event p ≡ s.stand.event = ap c.words.event (sym s.row) ∙ inv.standing.holds j s.stand b s.stands in
+        let generation : (c.words.head in_list.0).generation ≡ s.control.generation = sym (inv.sorted.generation in_list.0 p in_list.1 in_list.2) ∙ (past.generation ∙ sym s.generation) in
+        let fits = inv.finds.controls j s.control b s.found in
+        let same : in_list.0 ≡ q = sym (inv.sorted.belongs in_list.0 p in_list.1 in_list.2)
+        ∙ ((λ k. list_in c.shape (generation k) (holds k)) ∙ (fitting_list c.start c.words.control c.shape s.control fits s.stand.event ∙ (s.head ∙ sym list_is))) in
+        let low : ranks c.words.event p ≤ ranks c.words.event r = subst (λ z. ranks c.words.event p ≤ z) rank_is (subst (λ z. rank z p ≤ rank d.event d.row) (sym holds) s.low) in
+        let m = adjacent c.words.link (ranks c.words.event) (c.words.head q).row 0 p r (c.chain q) (inv.chains.leads q h) (inv.sorted.rises q h) (subst (λ z. In p (c.chain z)) same in_list.2) i
+        (λ e. cell_live (c.words.link p).mark past.cell_is (ap (λ z. (c.words.link z).mark) e ∙ del)) low in
+        not_past q r (c.words.link p) d h m.0 m.1 rank_is past.gone
+
+    -- and it isn't of a front that another row took the place of
+    still_front : (cell : Cell) → is_other_front cell (cell_link c cell) d ≡ true → ⊥
+    still_front (at_row p) t = false≢true t
+    still_front (at_head p) t = let l = c.words.head p in let other = cond (eqb l.row d.row) false true in let one = and_parts d.front (eqb d.head p && other) t in let two = and_parts (eqb d.head p) other one.1 in
+        let first : l.row ≡ d.row = ap (λ z. (c.words.head z).row) (sym (eqb-true d.head p two.0)) ∙ ((is.front one.0).1 ∙ sym is.row) in
+        false≢true (sym (ap (λ b. cond b false true) (eq-eqb l.row d.row first)) ∙ two.1)
 
 -- what is known of the walk w of the caller j, which stands on these rows
 record WalkFits (c : Core) (j : ℕ) (rows : List ℕ) (w : Walk) : Type 0 where
@@ -255,7 +303,8 @@ module _ (c : Core) (j g : ℕ) (b : j < c.start.layout.workers) (on : c.guard j
         } in
         let y = inv.carriers.carried e pending in
         let in_list = inv.holders.of_chain y.1.1.0 y.0 y.1.0 y.1.1.1 in
-        let same : y.1.1.0 ≡ q = sym (inv.sorted.belongs y.1.1.0 y.0 in_list.0 in_list.1) ∙ (ap (head_of c.words.control) y.2 ∙ at) in
+        let same : y.1.1.0 ≡ q = sym (inv.sorted.belongs y.1.1.0 y.0 in_list.0 in_list.1)
+        ∙ ((λ k. list_in c.shape ((sym (inv.sorted.generation y.1.1.0 y.0 in_list.0 in_list.1) ∙ outside_now c inv y.0 y.1.0 (λ i. listed_free c inv y.1.1.0 y.0 i in_list.0 in_list.1)) k) (y.2 k)) ∙ (open_list c inv e ∙ at)) in
         let to = reached c.words.link c.words.twin (c.words.head q).row y.0 (c.chain q) (listed_some c inv q h) (inv.chains.leads q h) (subst (λ z. In y.0 (c.chain z)) same in_list.1) in
         record { row = y.0; some_row = to.0; live = y.1; holds = y.2; reached = to.1 };
   }
@@ -293,6 +342,7 @@ pub walk_keeps : (c : Core) (j : ℕ) (cell : Cell) (seeks : Bool) → j < c.sta
 walk_keeps c j cell seeks b is_on may seek inv = record {
   spelled = inv.spelled;
   reading = inv.reading;
+  finds = inv.finds;
   guards = inv.guards;
   holders = inv.holders;
   cutting = inv.cutting;
@@ -303,6 +353,9 @@ walk_keeps c j cell seeks b is_on may seek inv = record {
     tags = λ k x r t v has. ⊎_elim (λ o. inv.cover.tags k x r t o has) (λ h. absurd (listed_untagged c inv h.0 r t h.1 h.2 has)) (old k x r v);
     resting = λ k d off. dite (ℕ_discrete k j) (λ (e : k ≡ j). absurd (off (subst (λ z. IsOn (c.guard z)) (sym e) is_on))) (λ ne. stands_else c j cell seeks k ne ∙ inv.cover.resting k d off);
   };
+  sizes = inv.sizes;
+  dues = dues_named _ _ _ _ _ _ _ (λ k d _ has. inl (names_before k d has)) inv.dues;
+  steady = steady_names _ _ _ _ _ _ (λ k d _ has. inl (names_before k d has)) inv.steady;
   heads = inv.heads;
   sorted = inv.sorted;
   marks = inv.marks;
@@ -324,23 +377,25 @@ walk_keeps c j cell seeks b is_on may seek inv = record {
   lanes = record {
     is_row = λ r v. ⊎_elim (inv.lanes.is_row r) (λ h. (inv.holders.in_chain h.0 r h.1 h.2).0) (guarded r v);
     rises = λ r v some. ⊎_elim (λ o. inv.lanes.rises r o some) (λ h. (chain_next c inv h.0 r h.1 h.2 some).1) (guarded r v);
-    stays = λ r v some. ⊎_elim (λ o. inv.lanes.stays r o some)
-        (λ h. inv.sorted.belongs h.0 (c.words.link r).row h.1 (chain_next c inv h.0 r h.1 h.2 some).0 ∙ sym (inv.sorted.belongs h.0 r h.1 h.2)) (guarded r v);
+    stays = λ r v some. ⊎_elim (λ o. inv.lanes.stays r o some) (λ h. chain_stays c inv h.0 r h.1 h.2 some) (guarded r v);
     generation = λ r v some. ⊎_elim (λ o. inv.lanes.generation r o some)
         (λ h. inv.sorted.generation h.0 (c.words.link r).row h.1 (chain_next c inv h.0 r h.1 h.2 some).0 ∙ sym (inv.sorted.generation h.0 r h.1 h.2)) (guarded r v);
   };
   writing = inv.writing;
   naming = record {
-    named = λ r q row held del. let o = inv.naming.named r q row held del in let in_list = inv.holders.of_chain q r row held in (
+    named = λ r q row held del. let o = inv.naming.named r q row held del in let in_list = inv.holders.of_chain q r row held in let x = o.2.0 in let place = (inv.dues.named o.0 x o.1 o.2.1).1 in (
       o.0,
       o.1,
-      put_all c.named j (new_names c j cell) (λ k t. k < c.start.layout.workers → IsNamed (c.named k).first r (c.words.event r) ⊎ IsNamed (c.named k).second r (c.words.event r) → IsNamed t.first r (c.words.event r) ⊎ IsNamed t.second r (c.words.event r))
-          (λ d h. ⊎_elim (λ named. inl (relieved_named (c.found j).control cell (c.rows j) (cell_link c cell) (cell_event c cell) (c.named j).first r (c.words.event r)
-          (λ x is same same' past. still_owed c j on.0 b on.1 inv cell x q r may (inv.naming.place j x d is).0 in_list.0 in_list.1 del same same' past) named)) inr h)
-          (λ k _ _ h. h) o.0 o.1 o.2,
+      (
+        x,
+        put_all c.named j (new_names c j cell) (λ k t. HasName (c.named k) x → HasName t x)
+            (⊎_elim (λ is. inl (relieved_stays (c.found j).control cell (c.rows j) (cell_link c cell) (cell_event c cell) (c.named j).first x is
+            (still_owed c j on.0 b on.1 inv x q r place in_list.0 in_list.1 del o.2.2 cell may) (still_front c j on.0 b on.1 inv x q r place in_list.0 in_list.1 del o.2.2 cell))) inr)
+            (λ _ _ h. h) o.0 o.2.1,
+        o.2.2,
+      ),
     );
-    place = λ k x. put_all c.named j (new_names c j cell) (λ k t. k < c.start.layout.workers → t.first ≡ Some x → (x.head ≡ head_of c.words.control x.event) × IsRow c.start.layout x.row × IsEvent x.event)
-        (λ d is. inv.naming.place j x d (relieved_some (c.found j).control cell (c.rows j) (cell_link c cell) (cell_event c cell) (c.named j).first x is)) (λ k _. inv.naming.place k x) k;
+    place = λ k x d has. inv.naming.place k x d (names_before k x has);
   };
   carriers = inv.carriers;
   told = inv.told;
@@ -363,6 +418,10 @@ walk_keeps c j cell seeks b is_on may seek inv = record {
 
     old : (k x r : ℕ) → Covers (ground_of (walked_from c j cell seeks)) k x r → Covers (ground_of c) k x r ⊎ IsListed c r
     old k x r v = before c j cell seeks may inv k x r v
+
+    names_before : (k : ℕ) (d : CutDebt) → HasName (put c.named j (new_names c j cell) k) d → HasName (c.named k) d
+    names_before k d = put_all c.named j (new_names c j cell) (λ k x. HasName x d → HasName (c.named k) d)
+        (⊎_elim (λ is. inl (relieved_some (c.found j).control cell (c.rows j) (cell_link c cell) (cell_event c cell) (c.named j).first d is)) inr) (λ _ _ h. h) k
 
     guarded : (r : ℕ) → IsGuarded (ground_of (walked_from c j cell seeks)) r → IsGuarded (ground_of c) r ⊎ IsListed c r
     guarded r v = ⊎_elim (λ o. inl (v.0, v.1, o)) inr (old v.0 v.1 r v.2)

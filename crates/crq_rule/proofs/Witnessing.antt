@@ -24,7 +24,7 @@ use Rattle.crq_rule.specs.Lists.{put}
 use Rattle.crq_rule.specs.Places.{IsRow, IsHomeRow, IsHead}
 use Rattle.crq_rule.specs.Core.{Core, Holding, in_hand, listed, cut_by, retired}
 use Rattle.crq_rule.specs.Parts.{Holders, Stamps, Leads, IsPath, ground_of, rows_of, stamp_of}
-use Rattle.crq_rule.specs.Ranks.{rank, head_of, IsOpen, Rises}
+use Rattle.crq_rule.specs.Ranks.{rank, head_for, bucket, list_in, IsOpen, Rises}
 use Rattle.crq_rule.specs.ListParts.{Heads, Sorted, Marks, Standing, Lanes, Naming, IsOpenHead, IsShutHead, MarkFits, TwinFits, IsFinal, ranks}
 use Rattle.crq_rule.specs.HistoryParts.{Carriers, Told, EndsInBegin}
 use Rattle.crq_rule.specs.Invariant.{Inv}
@@ -177,6 +177,10 @@ reached : (a r : ℕ) (xs : List ℕ) → IsPath core.words.link core.words.twin
 reached a r [] path = path
 reached a r (x ∷ xs) path = let above = path.0.0 in let none = last a in absurd (⊎_elim (λ (e : (links a).row ≡ x). omega arith) (λ (e : 0 ≡ x). omega arith) path.0.1)
 
+-- all rows are of the open table
+generation : (r : ℕ) → (links r).generation ≡ 1
+generation = put_all (λ _. dead) 1 present (λ r l. l.generation ≡ 1) refl (λ _ _. refl)
+
 -- the one row that is covered
 covered_one : (k g r : ℕ) → IsCovered core k g r → r ≡ 1
 covered_one k g r v = put_all (λ _. []) 0 (stand ∷ []) (λ k ss. In v.at (rows_of ss ++ []) → r ≡ 1)
@@ -201,17 +205,16 @@ marks = record {
 
 next_head : Heads core.words.control core.words.head
 next_head = record {
-  steady = refl;
-  one = refl;
   opened = put_all (opening_head 1) q head_link (λ p l. IsHead p → IsOpen core.words.control p → IsOpenHead core.words.control l) (λ _ _. (refl, refl)) (λ p _. old.heads.opened p);
   shut = put_all (opening_head 1) q head_link (λ p l. IsHead p → (IsOpen core.words.control p → ⊥) → IsShutHead core.words.control l) (λ _ out. absurd (out (omega arith, omega arith))) (λ p _. old.heads.shut p);
 }
 
-sorted : Sorted core.words.control core.words.head links core.words.event chain
-unfolding rank head_of
+sorted : Sorted core.shape core.words.head links core.words.event chain
+unfolding rank head_for bucket
 sorted = record {
   rises = put_all (λ _. []) q (1 ∷ []) (λ p xs. IsHead p → Rises (ranks core.words.event) 0 xs) (λ _. (omega arith, tt)) (λ _ _ _. tt);
-  belongs = λ p r. put_all (λ _. []) q (1 ∷ []) (λ p xs. IsHead p → In r xs → head_of core.words.control event ≡ p) (λ _ _. omega arith) (λ _ _ _ n. absurd n) p;
+  belongs = λ p r. put_all (λ _. []) q (1 ∷ []) (λ p xs. IsHead p → In r xs → list_in core.shape (core.words.head p).generation event ≡ p)
+      (λ _ _. ap (λ g. list_in core.shape g event) (ap (λ (l : Link). l.generation) (put_here (opening_head 1) q head_link)) ∙ omega arith) (λ _ _ _ n. absurd n) p;
   generation = λ p r. put_all (λ _. []) q (1 ∷ []) (λ p xs. IsHead p → In r xs → (links r).generation ≡ (core.words.head p).generation)
       (λ _ i. ⊎_elim (λ (e : r ≡ 1). ap (λ z. (links z).generation) e ∙ (ap (λ (l : Link). l.generation) present_one ∙ sym (ap (λ (l : Link). l.generation) (put_here (opening_head 1) q head_link)))) (λ n. absurd n) i)
       (λ _ _ _ n. absurd n) p;
@@ -227,7 +230,7 @@ stands = record {
     no_last : (l : Link) → None ≡ Some l → ⊥
     no_last l e = cc
 
-lanes : Lanes layout core.words.control (ground_of core) core.words.event
+lanes : Lanes layout core.shape (ground_of core) core.words.event
 lanes = record {
   is_row = λ r v. subst (IsRow layout) (sym (covered_one v.0 v.1 r v.2)) (omega arith, omega arith);
   rises = λ r v above. let none = last r in absurd (omega arith);
@@ -235,7 +238,7 @@ lanes = record {
   generation = λ r v above. let none = last r in absurd (omega arith);
 }
 
-naming : Naming layout core.words.control links core.words.event core.named holding
+naming : Naming layout core.words.head links core.words.event core.named holding
 naming = record {
   named = λ r p _ at dead. absurd (val_del (sym (ap (λ (l : Link). l.mark) present_one) ∙ (ap (λ z. (links z).mark) (sym (listed_only r p at)) ∙ dead)));
   place = λ k d b at. old.naming.place k d b at;
@@ -299,9 +302,8 @@ core_inv = record {
     scanned = old.reading.scanned;
     tags = λ j t x _ e i. put_all (λ _. None) 1 (Some cut_row) (λ j o. o ≡ Some x → t ≤ 0)
         (λ e. ⊎_elim (λ (z : t ≡ 0). omega arith) (λ n. absurd n) (subst (λ (y : CutRow). In t y.tags) (sym (some_some cut_row x e)) i)) (λ _ _ e. absurd (none_some x e)) j e;
-    read_current = old.reading.read_current;
-    read_control = old.reading.read_control;
   };
+  finds = old.finds;
   guards = record { each = λ _ _. (omega arith, omega arith, omega arith, omega arith); passed = λ k j a _ _ i _. absurd i };
   holders = holders;
   cutting = record { on = λ _ _ _ _. tt; tags = λ j t g x _ _ on _. let z = on_on g on in omega arith };
@@ -318,6 +320,13 @@ core_inv = record {
     tags = λ k g r t v _. let z = on_on g v.on in omega arith;
     resting = λ k _ off. absurd (off tt);
   };
+  sizes = record {
+    now = old.sizes.now;
+    heads = put_all (opening_head 1) q head_link (λ p l. IsHead p → l.generation ≤ 1) (λ _. omega arith) (λ p _. old.sizes.heads p);
+    rows = λ r _ _. let g = generation r in omega arith;
+  };
+  dues = old.dues;
+  steady = record { still = refl; first = refl; one = refl; rows = λ r _ _. generation r; named = old.steady.named };
   heads = next_head;
   sorted = sorted;
   marks = marks;

@@ -15,9 +15,9 @@ use Rattle.crq_rule.specs.declared.view.Walk.{Walk}
 use Rattle.crq_rule.specs.declared.view.Wrote.{Wrote}
 use Rattle.crq_rule.specs.Lists.{put}
 use Rattle.crq_rule.specs.Places.{IsRow, IsHead}
-use Rattle.crq_rule.specs.Core.{Core, in_hand, listed}
+use Rattle.crq_rule.specs.Core.{Core, HasName, in_hand, listed}
 use Rattle.crq_rule.specs.Parts.{Ground, ground_of, footings, IsEvent, IsGuarded, Leads, Names, IsPath, Reaches, Covers, rows_of}
-use Rattle.crq_rule.specs.Ranks.{rank, head_of, Rises}
+use Rattle.crq_rule.specs.Ranks.{rank, list_in, Rises}
 use Rattle.crq_rule.specs.ListParts.{ranks, MarkFits, TwinFits, IsNamed, row_word}
 use Rattle.crq_rule.specs.HistoryParts.{IsLive}
 use Rattle.crq_rule.specs.Invariant.{Inv}
@@ -25,6 +25,9 @@ use Rattle.crq_rule.specs.ListKinds.{Content, new_link, no_twin, new_time, new_s
 use Rattle.crq_rule.proofs.SweepLaws.{swept_events}
 use Rattle.crq_rule.proofs.Puts.{put_here, put_else, put_all}
 use Rattle.crq_rule.proofs.PartLaws.{sort, of_whom}
+use Rattle.crq_rule.specs.declared.debts.CutDebt.{CutDebt}
+use Rattle.crq_rule.proofs.SizeLaws.{sizes_rows}
+use Rattle.crq_rule.proofs.SteadyLaws.{steady_rows}
 use Rattle.crq_rule.proofs.CoverLaws.{stand_row, row_footing, names_covered, footing_covered}
 
 -- Links and twins that change at the row r alone
@@ -216,6 +219,7 @@ module _ (c : Core) (j r : ℕ) (x : Content) (b : j < c.start.layout.workers) (
       events = put_all c.words.event r (event_after x (c.words.event r)) (λ s e. IsRow c.start.layout s → IsEvent e) (λ d. event_fits x (c.words.event r) is (inv.spelled.events r d)) (λ s _. inv.spelled.events s);
     };
     reading = inv.reading;
+    finds = inv.finds;
     guards = inv.guards;
     holders = inv.holders;
     cutting = inv.cutting;
@@ -229,10 +233,13 @@ module _ (c : Core) (j r : ℕ) (x : Content) (b : j < c.start.layout.workers) (
       tags = λ k g s t v. inv.cover.tags k g s t (covers_old k g s v);
       resting = inv.cover.resting;
     };
+    sizes = sizes_rows _ _ _ _ _ _ _ _ _ (λ _ _. refl) (λ s _ out. inl (out, ap (λ (l : Link). l.generation) (links_else s (λ e. out j (ap c.holding e ∙ held))))) inv.sizes;
+    dues = inv.dues;
+    steady = steady_rows _ _ _ _ _ _ _ (λ s _ out. inl (out, ap (λ (l : Link). l.generation) (links_else s (λ e. out j (ap c.holding e ∙ held))))) inv.steady;
     heads = inv.heads;
     sorted = record {
       rises = λ q d. rises_same (ranks c.words.event) (ranks event) 0 (c.chain q) (λ s i. ap (λ e. rank e s) (events_else s (chained_else q s d i))) (inv.sorted.rises q d);
-      belongs = λ q s d i. ap (head_of c.words.control) (events_else s (chained_else q s d i)) ∙ inv.sorted.belongs q s d i;
+      belongs = λ q s d i. ap (list_in c.shape (c.words.head q).generation) (events_else s (chained_else q s d i)) ∙ inv.sorted.belongs q s d i;
       generation = λ q s d i. ap (λ (l : Link). l.generation) (links_else s (chained_else q s d i)) ∙ inv.sorted.generation q s d i;
     };
     marks = record {
@@ -248,8 +255,8 @@ module _ (c : Core) (j r : ℕ) (x : Content) (b : j < c.start.layout.workers) (
       rises = λ s v. let o = guarded_old s v in subst (λ (l : Link). 0 < l.row → ranks event s < ranks event l.row) (sym (links_else s (covered_else o.0 o.1 s o.2)))
           (λ above. subst (λ (e : Event). rank e s < ranks event (c.words.link s).row) (sym (events_else s (covered_else o.0 o.1 s o.2)))
           (subst (λ (e : Event). ranks c.words.event s < rank e (c.words.link s).row) (sym (events_else (c.words.link s).row (next_else o.0 o.1 s o.2 above))) (inv.lanes.rises s o above)));
-      stays = λ s v. let o = guarded_old s v in subst (λ (l : Link). 0 < l.row → head_of c.words.control (event l.row) ≡ head_of c.words.control (event s)) (sym (links_else s (covered_else o.0 o.1 s o.2)))
-          (λ above. ap (head_of c.words.control) (events_else (c.words.link s).row (next_else o.0 o.1 s o.2 above)) ∙ (inv.lanes.stays s o above ∙ ap (head_of c.words.control) (sym (events_else s (covered_else o.0 o.1 s o.2)))));
+      stays = λ s v. let o = guarded_old s v in subst (λ (l : Link). 0 < l.row → list_in c.shape l.generation (event l.row) ≡ list_in c.shape l.generation (event s)) (sym (links_else s (covered_else o.0 o.1 s o.2)))
+          (λ above. ap (list_in c.shape (c.words.link s).generation) (events_else (c.words.link s).row (next_else o.0 o.1 s o.2 above)) ∙ (inv.lanes.stays s o above ∙ ap (list_in c.shape (c.words.link s).generation) (sym (events_else s (covered_else o.0 o.1 s o.2)))));
       generation = λ s v. let o = guarded_old s v in subst (λ (l : Link). 0 < l.row → (link l.row).generation ≡ l.generation) (sym (links_else s (covered_else o.0 o.1 s o.2)))
           (λ above. ap (λ (l : Link). l.generation) (links_else (c.words.link s).row (next_else o.0 o.1 s o.2 above)) ∙ inv.lanes.generation s o above);
     };
@@ -260,8 +267,8 @@ module _ (c : Core) (j r : ℕ) (x : Content) (b : j < c.start.layout.workers) (
           (λ k ne d i. word_old k y d i (λ e _. ne (ap of_whom (sym (inv.holders.held k r d (subst (λ z. In z (c.hand k)) e (inv.writing.in_hand_is k y d i))).1 ∙ held)))) k;
     };
     naming = record {
-      named = λ s q d at. subst (λ (l : Link). l.mark ≡ Del → (k : ℕ) × (k < c.start.layout.workers) × (IsNamed (c.named k).first s (event s) ⊎ IsNamed (c.named k).second s (event s))) (sym (links_else s (listed_else s q at)))
-          (subst (λ (e : Event). (c.words.link s).mark ≡ Del → (k : ℕ) × (k < c.start.layout.workers) × (IsNamed (c.named k).first s e ⊎ IsNamed (c.named k).second s e)) (sym (events_else s (listed_else s q at))) (inv.naming.named s q d at));
+      named = λ s q d at. subst (λ (z : Link × Event). z.0.mark ≡ Del → (k : ℕ) × (k < c.start.layout.workers) × ((n : CutDebt) × HasName (c.named k) n × IsNamed c.words.head n s z.1 z.0))
+          (λ i. (sym (links_else s (listed_else s q at)) i, sym (events_else s (listed_else s q at)) i)) (inv.naming.named s q d at);
       place = inv.naming.place;
     };
     carriers = record {

@@ -1,6 +1,6 @@
 -- The core state: what the words say, the one history, and what each caller knows, as plain data. It is given as separate functions by caller, by row and by head, so that a part of
 -- the invariant can be stated over those alone that it reads.
-use Rattle.std.specs.Prelude.{ℕ, List, Option, Bool}
+use Rattle.std.specs.Prelude.{◌≡◌, ◌⊎◌, ℕ, List, Option, Some, Bool}
 use Rattle.crq_base.specs.declared.event.Event.{Event}
 use Rattle.crq_base.specs.declared.entry.Entry.{Entry}
 use Rattle.crq_rule.specs.declared.debts.Debts.{Debts}
@@ -23,6 +23,7 @@ use Rattle.crq_rule.specs.declared.view.Told.{Told}
 use Rattle.crq_rule.specs.declared.view.Made.{Made}
 use Rattle.crq_rule.specs.declared.view.Caller.{Caller}
 use Rattle.crq_rule.specs.Places.{Words}
+use Rattle.crq_rule.specs.Ranks.{Shape}
 
 -- who holds a row: a caller that has it in hand, the list of a head, the caller that cut it, or nobody, since it was retired with a tag
 pub data Holding : Type 0 where
@@ -30,6 +31,10 @@ pub data Holding : Type 0 where
   listed : ℕ → Holding
   cut_by : ℕ → Holding
   retired : ℕ → Holding
+
+-- the row is in no hand
+abbrev pub IsOutside : (ℕ → Holding) → ℕ → Type 0
+IsOutside holding r = (j : ℕ) → holding r ≡ in_hand j → ⊥
 
 -- the dead rows that a caller still has to cut. Where there is one, it is the first
 pub record DeadNames : Type 0 where
@@ -41,6 +46,8 @@ pub record Core : Type 0 where
   pub words : Words
   pub history : List Entry
   pub deal : Deal
+  -- by generation, the shape of its table
+  pub shape : ℕ → Shape
   -- by head, the rows of its list in order
   pub chain : ℕ → List ℕ
   -- by row
@@ -74,6 +81,10 @@ pub record Core : Type 0 where
   pub clean : ℕ → List ℕ
   pub refused : ℕ → List Event
   pub told : ℕ → Told
+
+-- the name is one of these
+abbrev pub HasName : DeadNames → CutDebt → Type 0
+HasName names d = (names.first ≡ Some d) ⊎ (names.second ≡ Some d)
 
 -- all that a caller owes
 abbrev pub owed_by : Option SettleDebt → Option CopyDebt → DeadNames → Debts

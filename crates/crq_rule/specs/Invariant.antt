@@ -1,26 +1,31 @@
 -- The invariant that every step keeps.
 use Rattle.crq_rule.specs.Core.{Core}
-use Rattle.crq_rule.specs.Parts.{ground_of, Spelled, Reading, Guards, Holders, Cutting, Stamps, Chains, Cover}
-use Rattle.crq_rule.specs.ListParts.{Heads, Sorted, Marks, Standing, Lanes, Writing, Naming}
+use Rattle.crq_rule.specs.Parts.{ground_of, Spelled, Reading, Finds, Guards, Holders, Cutting, Stamps, Chains, Cover}
+use Rattle.crq_rule.specs.ListParts.{Sizes, Dues, Heads, Sorted, Marks, Standing, Lanes, Writing, Naming}
+use Rattle.crq_rule.specs.Steady.{Steady}
 use Rattle.crq_rule.specs.HistoryParts.{Carriers, Told, Walkers}
 use Rattle.crq_rule.specs.ScarceParts.{Scarce, Refusals, Swept}
 
 pub record Inv (c : Core) : Type 0 where
   pub spelled : Spelled c.start.layout c.words.control c.words.current c.words.pin c.words.head c.words.link c.words.twin c.words.event
-  pub reading : Reading c.start.layout.workers c.words.epoch c.words.current c.words.control c.epochs c.tick c.cut c.found
+  pub reading : Reading c.start.layout.workers c.words.epoch c.epochs c.tick c.cut
+  pub finds : Finds c.start c.words.control c.shape c.words.current c.found
   pub guards : Guards c.start.layout.workers c.words.epoch c.words.announced c.guard c.tick
   pub holders : Holders c.start.layout c.hand c.cut c.chain c.holding
   pub cutting : Cutting c.start.layout.workers c.guard c.cut
   pub stamps : Stamps c.start.layout c.words.epoch c.words.stamp c.ripening c.holding
   pub chains : Chains c.words.head c.words.link c.words.twin c.chain
   pub cover : Cover (ground_of c) c.cut c.holding
+  pub sizes : Sizes c.start c.words.control c.shape c.words.head c.words.link c.holding
+  pub dues : Dues c.start.layout.workers c.words.control c.shape c.settling c.copying c.named
+  pub steady : Steady c.start c.words.control c.words.link c.holding c.named
   pub heads : Heads c.words.control c.words.head
-  pub sorted : Sorted c.words.control c.words.head c.words.link c.words.event c.chain
+  pub sorted : Sorted c.shape c.words.head c.words.link c.words.event c.chain
   pub marks : Marks c.start.layout c.words.link c.words.twin c.holding
   pub standing : Standing c.start.layout.workers c.words.link c.words.event c.rows
-  pub lanes : Lanes c.start.layout c.words.control (ground_of c) c.words.event
+  pub lanes : Lanes c.start.layout c.shape (ground_of c) c.words.event
   pub writing : Writing c.start.layout.workers c.words.link c.words.twin c.words.event c.hand c.written
-  pub naming : Naming c.start.layout c.words.control c.words.link c.words.event c.named c.holding
+  pub naming : Naming c.start.layout c.words.head c.words.link c.words.event c.named c.holding
   pub carriers : Carriers c.start.layout c.history c.words.link c.words.event c.holding
   pub told : Told c.start.layout.workers c.history c.deal c.own c.begun
   pub walkers : Walkers c.start.layout c.words.control c.history c.begun c.words.link c.words.twin c.words.event c.holding c.rows c.walk

@@ -18,6 +18,7 @@ pub mod Stated
 -- stated, so that its own records need no belief.
 pub mod Parts
 pub mod ListParts
+pub mod Steady
 pub mod HistoryParts
 pub mod ScarceParts
 pub mod Invariant

@@ -22,7 +22,7 @@ use Rattle.crq_rule.specs.Core.{Core, listed, cut_by}
 use Rattle.crq_rule.specs.Parts.{IsEvent, IsOn}
 use Rattle.crq_rule.specs.ListParts.{row_word}
 use Rattle.crq_rule.specs.HistoryParts.{EndsInBegin}
-use Rattle.crq_rule.specs.Ranks.{rank, head_of, Cell, at_head, at_row, link_at, heads_set, links_set, after_cell, without_row}
+use Rattle.crq_rule.specs.Ranks.{rank, Shape, list_in, head_of, Cell, at_head, at_row, link_at, heads_set, links_set, after_cell, without_row}
 
 -- the word of an event at a place of its row
 abbrev pub event_word : Event → ℕ → ℕ
@@ -158,17 +158,33 @@ abbrev pub walk_after : Cell → Bool → Link → Option Walk → Option Walk
 walk_after (at_head q) seeks l w = cond (seeks && is_val l.mark) (Some (record { head = q; at = l.row })) None
 walk_after (at_row r) seeks l w = cond seeks (walked l w) None
 
+-- a cell with this mark may be followed by another row
+abbrev pub is_cell : Mark → Bool
+is_cell Val = true
+is_cell Inv = true
+is_cell Mov = false
+is_cell Del = false
+
 -- the dead row d is of the cell's list, and stands after the cell, or at it
 abbrev pub is_beyond : Option Control → Cell → List Stand → CutDebt → Bool
 is_beyond x (at_head q) ss d = d.head == q
 is_beyond None (at_row r) ss d = false
 is_beyond (Some x) (at_row r) [] d = false
-is_beyond (Some x) (at_row r) (s ∷ ss) d = cond (s.row == r) ((head_of x s.event == d.head) && nat_le (rank s.event r) (rank d.event d.row)) (is_beyond (Some x) (at_row r) ss d)
+is_beyond (Some x) (at_row r) (s ∷ ss) d = cond (s.row == r) ((x.generation == d.generation) && ((head_of x s.event == d.head) && nat_le (rank s.event r) (rank d.event d.row))) (is_beyond (Some x) (at_row r) ss d)
 
--- and the row that the cell's link names comes after it: so the dead row isn't listed any more, and isn't owed
+-- and the row that the cell's link l names comes after it: so the dead row isn't listed any more
+abbrev pub is_past : Option Control → Cell → List Stand → Link → Event → CutDebt → Bool
+is_past x cell ss l e d = is_cell l.mark && ((l.generation == d.generation) && (is_beyond x cell ss d && ((l.row == 0) || nat_lt (rank d.event d.row) (rank e l.row))))
+
+-- another row is the first of the list of a front
+abbrev pub is_other_front : Cell → Link → CutDebt → Bool
+is_other_front (at_head q) l d = d.front && ((d.head == q) && cond (l.row == d.row) false true)
+is_other_front (at_row r) l d = false
+
+-- so it isn't owed
 abbrev pub relieved : Option Control → Cell → List Stand → Link → Event → Option CutDebt → Option CutDebt
 relieved x cell ss l e None = None
-relieved x cell ss l e (Some d) = cond (is_val l.mark && (is_beyond x cell ss d && ((l.row == 0) || nat_lt (rank d.event d.row) (rank e l.row)))) None (Some d)
+relieved x cell ss l e (Some d) = cond (is_past x cell ss l e d || is_other_front cell l d) None (Some d)
 
 -- The sweep, which each walk but that of a take takes on: at a present head it begins anew, and at a present row up to which it has come it goes on to the row that is named, or ends. A caller has swept a list with that last step
 
@@ -230,7 +246,7 @@ abbrev pub links : ℕ → Event → Caller → Caller
 links r e p = record p { hand = unhanded r p.hand; written = forgotten r p.written; base = None; own = p.own ++ put_entries p.number e }
 
 abbrev pub linked : Core → ℕ → Cell → Link → ℕ → Event → Core
-linked c j cell l r e = let q = head_of c.words.control e in let new : Link = record l { row = r } in record c {
+linked c j cell l r e = let q = list_in c.shape l.generation e in let new : Link = record l { row = r } in record c {
   words = record c.words { head = heads_set c.words.head cell new; link = links_set c.words.link cell new };
   history = c.history ++ put_entries j e;
   own = put c.own j (c.own j ++ put_entries j e);
@@ -270,7 +286,11 @@ control_loaded c j = record c { found = put c.found j (record (c.found j) { cont
 -- Mark: the row r, which holds the event e, is dead from now on, and its event taken
 
 abbrev pub cut_debt : Control → ℕ → Event → CutDebt
-cut_debt x r e = record { generation = x.generation; head = head_of x e; event = e; row = r }
+cut_debt x r e = record { generation = x.generation; head = head_of x e; event = e; row = r; front = false }
+
+-- the same for a row of the table of generation g
+abbrev pub name_in : (ℕ → Shape) → ℕ → ℕ → Event → CutDebt
+name_in shape g r e = record { generation = g; head = list_in shape g e; event = e; row = r; front = false }
 
 abbrev pub marks : Control → ℕ → Event → Caller → Caller
 marks x r e p = record p { own = p.own ++ Take p.number e ∷ []; walk = None; debts = record p.debts { cut = Some (cut_debt x r e) } }
@@ -281,7 +301,7 @@ marked c j r e = record c {
   history = c.history ++ Take j e ∷ [];
   own = put c.own j (c.own j ++ Take j e ∷ []);
   walk = put c.walk j None;
-  named = put c.named j (record (c.named j) { first = Some (cut_debt c.words.control r e) });
+  named = put c.named j (record (c.named j) { first = Some (name_in c.shape (c.words.link r).generation r e) });
 }
 
 -- Cut: the dead row x, whose last link is l, leaves the list behind the cell
@@ -304,7 +324,7 @@ cuts x p = record p {
 }
 
 abbrev pub cut_from : Core → ℕ → Cell → ℕ → Link → Core
-cut_from c j cell x l = let q = head_of c.words.control (c.words.event x) in let new : Link = record (link_at c.words.head c.words.link cell) { row = l.row } in record c {
+cut_from c j cell x l = let q = list_in c.shape (c.words.link x).generation (c.words.event x) in let new : Link = record (link_at c.words.head c.words.link cell) { row = l.row } in record c {
   words = record c.words { head = heads_set c.words.head cell new; link = links_set c.words.link cell new };
   chain = put c.chain q (without_row x (c.chain q));
   holding = put c.holding x (cut_by j);
@@ -367,7 +387,7 @@ pub record MayLink (n : ℕ) (x : Control) (cell : Cell) (l : Link) (r : ℕ) (e
   pub control : p.found.control ≡ Some x
   pub in_hand_is : In r p.hand
   pub event : IsEvent e
-  pub expected : IsLink l × (l.mark ≡ Val)
+  pub expected : IsLink l × (l.mark ≡ Val) × (l.generation ≡ x.generation)
   pub written : IsWritten p.written r e l
   pub after : ComesAfter x p.position.rows cell r e
   pub before : ComesBefore p.position.rows l.row r e

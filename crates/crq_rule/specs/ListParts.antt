@@ -1,5 +1,5 @@
 -- The parts of the invariant on lists: their heads, their order, marks, rows that callers stand on, words that they wrote, and dead rows. Each is a record over just the components that it reads.
-use Rattle.std.specs.Prelude.{◌≡◌, ◌⊎◌, ℕ, zero, suc, ◌+◌, ◌*◌, ◌^◌, ◌<◌, false, List, Option, Some, None}
+use Rattle.std.specs.Prelude.{◌≡◌, ◌⊎◌, ◌≤◌, true, ℕ, zero, suc, ◌+◌, ◌*◌, ◌^◌, ◌<◌, List, Option, Some}
 use Rattle.crq_base.specs.declared.event.Event.{Event}
 use Rattle.crq_base.specs.declared.words.Link.{Link}
 use Rattle.crq_base.specs.declared.words.Mark.{Mark}
@@ -7,19 +7,35 @@ use Rattle.crq_base.specs.declared.words.Mark.TheVariants.{Val, Inv as Invalid, 
 use Rattle.crq_base.specs.declared.words.Control.{Control}
 use Rattle.crq_base.specs.Words.{link_word}
 use Rattle.crq_base.specs.Lists.{In}
+use Rattle.crq_rule.specs.declared.debts.SettleDebt.{SettleDebt}
+use Rattle.crq_rule.specs.declared.debts.CopyDebt.{CopyDebt}
 use Rattle.crq_rule.specs.declared.debts.CutDebt.{CutDebt}
 use Rattle.crq_rule.specs.declared.layout.Layout.{Layout}
+use Rattle.crq_rule.specs.declared.layout.Start.{Start}
 use Rattle.crq_rule.specs.declared.view.Stand.{Stand}
 use Rattle.crq_rule.specs.declared.view.Wrote.{Wrote}
 use Rattle.crq_rule.specs.Places.{IsRow, IsHead}
-use Rattle.crq_rule.specs.Core.{Holding, DeadNames, in_hand, listed, cut_by, retired}
-use Rattle.crq_rule.specs.Parts.{Ground, IsGuarded, IsEvent}
-use Rattle.crq_rule.specs.Ranks.{rank, head_of, IsOpen, Rises}
+use Rattle.crq_rule.specs.Core.{Holding, IsOutside, DeadNames, HasName, in_hand, listed, cut_by, retired}
+use Rattle.crq_rule.specs.Parts.{newest, Fits, Ground, IsGuarded, IsEvent}
+use Rattle.crq_rule.specs.Ranks.{rank, Shape, list_in, IsOpen, Rises}
 
 abbrev pub ranks : (ℕ → Event) → ℕ → ℕ
 ranks event r = rank (event r) r
 
--- 7. Heads: those of the open table are open and of its generation, all others shut, older and empty
+-- 7. Sizes: the control word fits itself, and no head, row outside hands or debt is of a later table than the newest
+
+pub record Sizes (start : Start) (control : Control) (shape : ℕ → Shape) (head link : ℕ → Link) (holding : ℕ → Holding) : Type 0 where
+  pub now : Fits start control shape control
+  pub heads : (q : ℕ) → IsHead q → (head q).generation ≤ newest control
+  pub rows : (r : ℕ) → IsRow start.layout r → IsOutside holding r → (link r).generation ≤ newest control
+
+-- an event to settle was linked in the open table or an older one, with that table's shift
+pub record Dues (n : ℕ) (control : Control) (shape : ℕ → Shape) (settling : ℕ → Option SettleDebt) (copying : ℕ → Option CopyDebt) (names : ℕ → DeadNames) : Type 0 where
+  pub settles : (k : ℕ) (d : SettleDebt) → k < n → settling k ≡ Some d → (d.generation ≤ control.generation) × (d.shift ≡ (shape d.generation).shift)
+  pub copies : (k : ℕ) (d : CopyDebt) → k < n → copying k ≡ Some d → (d.generation ≤ newest control) × (d.head ≡ list_in shape d.generation d.event)
+  pub named : (k : ℕ) (d : CutDebt) → k < n → HasName (names k) d → (d.generation ≤ newest control) × (d.head ≡ list_in shape d.generation d.event)
+
+-- Heads: those of the open table are open and of its generation, all others shut, older and empty
 
 abbrev pub IsOpenHead : Control → Link → Type 0
 IsOpenHead c l = (l.mark ≡ Val) × (l.generation ≡ c.generation)
@@ -28,17 +44,14 @@ abbrev pub IsShutHead : Control → Link → Type 0
 IsShutHead c l = (l.mark ≡ Mov) × (l.row ≡ 0) × (l.generation < c.generation)
 
 pub record Heads (control : Control) (head : ℕ → Link) : Type 0 where
-  pub steady : control.moving ≡ false
-  -- the open table has one list
-  pub one : control.log ≡ 0
   pub opened : (q : ℕ) → IsHead q → IsOpen control q → IsOpenHead control (head q)
   pub shut : (q : ℕ) → IsHead q → (IsOpen control q → ⊥) → IsShutHead control (head q)
 
 -- 8. Order: the rows of each list rise by key and row, are of its head's generation, and hold events of that list
 
-pub record Sorted (control : Control) (head link : ℕ → Link) (event : ℕ → Event) (chain : ℕ → List ℕ) : Type 0 where
+pub record Sorted (shape : ℕ → Shape) (head link : ℕ → Link) (event : ℕ → Event) (chain : ℕ → List ℕ) : Type 0 where
   pub rises : (q : ℕ) → IsHead q → Rises (ranks event) 0 (chain q)
-  pub belongs : (q r : ℕ) → IsHead q → In r (chain q) → head_of control (event r) ≡ q
+  pub belongs : (q r : ℕ) → IsHead q → In r (chain q) → list_in shape (head q).generation (event r) ≡ q
   pub generation : (q r : ℕ) → IsHead q → In r (chain q) → (link r).generation ≡ (head q).generation
 
 -- 9. Marks: a listed row is present or dead, a row that was cut or retired is dead, and none of them has a twin
@@ -74,10 +87,10 @@ pub record Standing (n : ℕ) (link : ℕ → Link) (event : ℕ → Event) (row
 
 -- 11. Lanes: from a row that a guard covers links lead on to greater rows of the same list
 
-pub record Lanes (l : Layout) (control : Control) (ground : Ground) (event : ℕ → Event) : Type 0 where
+pub record Lanes (l : Layout) (shape : ℕ → Shape) (ground : Ground) (event : ℕ → Event) : Type 0 where
   pub is_row : (r : ℕ) → IsGuarded ground r → IsRow l r
   pub rises : (r : ℕ) → IsGuarded ground r → 0 < (ground.link r).row → ranks event r < ranks event (ground.link r).row
-  pub stays : (r : ℕ) → IsGuarded ground r → 0 < (ground.link r).row → head_of control (event (ground.link r).row) ≡ head_of control (event r)
+  pub stays : (r : ℕ) → IsGuarded ground r → 0 < (ground.link r).row → list_in shape (ground.link r).generation (event (ground.link r).row) ≡ list_in shape (ground.link r).generation (event r)
   pub generation : (r : ℕ) → IsGuarded ground r → 0 < (ground.link r).row → (ground.link (ground.link r).row).generation ≡ (ground.link r).generation
 
 -- 12. Writing: the words that a caller wrote stand in its rows in hand
@@ -96,12 +109,20 @@ pub record Writing (n : ℕ) (link : ℕ → Link) (twin : ℕ → ℕ) (event :
   pub in_hand_is : (j : ℕ) (x : Wrote) → j < n → In x (written j) → In x.row (hand j)
   pub stands : (j : ℕ) (x : Wrote) → j < n → In x (written j) → row_word (link x.row) (twin x.row) (event x.row) x.place ≡ x.word
 
--- 13. Dead rows: each one that is still listed is owed to be cut by a caller that names it, by row and event
+-- 13. Dead rows: each one that is still listed is owed to be cut by a caller that names it, by its event, its row and the generation of its table
 
-abbrev pub IsNamed : Option CutDebt → ℕ → Event → Type 0
-IsNamed None r e = ⊥
-IsNamed (Some d) r e = (d.row ≡ r) × (d.event ≡ e)
+-- A front is a row that was discarded as the first of a frozen list. It is named so only while it is the first
+pub record IsNamed (head : ℕ → Link) (d : CutDebt) (r : ℕ) (e : Event) (l : Link) : Type 0 where
+  pub row : d.row ≡ r
+  pub event : d.event ≡ e
+  pub generation : d.generation ≡ l.generation
+  pub front : d.front ≡ true → ((head d.head).mark ≡ Mov) × ((head d.head).row ≡ r)
 
-pub record Naming (l : Layout) (control : Control) (link : ℕ → Link) (event : ℕ → Event) (names : ℕ → DeadNames) (holding : ℕ → Holding) : Type 0 where
-  pub named : (r q : ℕ) → IsRow l r → holding r ≡ listed q → (link r).mark ≡ Del → (k : ℕ) × (k < l.workers) × (IsNamed (names k).first r (event r) ⊎ IsNamed (names k).second r (event r))
-  pub place : (k : ℕ) (d : CutDebt) → k < l.workers → (names k).first ≡ Some d → (d.head ≡ head_of control d.event) × IsRow l d.row × IsEvent d.event
+-- where a name leads
+pub record NameFits (l : Layout) (d : CutDebt) : Type 0 where
+  pub row : IsRow l d.row
+  pub event : IsEvent d.event
+
+pub record Naming (l : Layout) (head link : ℕ → Link) (event : ℕ → Event) (names : ℕ → DeadNames) (holding : ℕ → Holding) : Type 0 where
+  pub named : (r q : ℕ) → IsRow l r → holding r ≡ listed q → (link r).mark ≡ Del → (k : ℕ) × (k < l.workers) × ((d : CutDebt) × HasName (names k) d × IsNamed head d r (event r) (link r))
+  pub place : (k : ℕ) (d : CutDebt) → k < l.workers → HasName (names k) d → NameFits l d

@@ -39,6 +39,7 @@ pub record Lawful (p : Caller) : Type 0 where
   pub on : (s : Stand) → In s p.position.rows → IsOn p.guard
   pub agree : (s t : Stand) → In s p.position.rows → In t p.position.rows → s.row ≡ t.row → s.event ≡ t.event
   pub owed_at : (d : CutDebt) (x : Control) → p.debts.cut ≡ Some d → p.found.control ≡ Some x → d.head ≡ head_of x d.event
+  pub owed_now : (d : CutDebt) (x : Control) → p.debts.cut ≡ Some d → p.found.control ≡ Some x → d.generation ≡ x.generation
   pub owed_fits : (d : CutDebt) → p.debts.cut ≡ Some d → IsRow p.start.layout d.row × IsEvent d.event
   -- a recovery that found no row began where there were enough events
   pub scarce : (b : Base) → FoundNoRow p b → p.start.layout.rows ≤ 2 * length b.events
@@ -68,10 +69,10 @@ abbrev pub WalksOn : Cell → Link → Event → Caller → Type 0
 WalksOn (at_head q) l e p = (x : Control) → p.found.control ≡ Some x → 0 < l.row → head_of x e ≡ q
 WalksOn (at_row r) l e p = (f : Event) → StandsOn p.position.rows r f → 0 < l.row → (rank f r < rank e l.row) × ((x : Control) → p.found.control ≡ Some x → head_of x e ≡ head_of x f)
 
--- a head of the open table is open and of its generation, and a row is present or dead: no list is frozen yet
+-- a head of the open table is open and of its generation, and a row of the list is of that too, and present or dead: no list is frozen yet
 abbrev pub IsWalkable : Cell → Link → Caller → Type 0
 IsWalkable (at_head q) l p = (x : Control) → p.found.control ≡ Some x → IsOpen x q → (l.mark ≡ Val) × (l.generation ≡ x.generation)
-IsWalkable (at_row r) l p = (l.mark ≡ Val) ⊎ (l.mark ≡ Del)
+IsWalkable (at_row r) l p = ((l.mark ≡ Val) ⊎ (l.mark ≡ Del)) × ((x : Control) → p.found.control ≡ Some x → l.generation ≡ x.generation)
 
 -- a walk found the link of the cell, and the event of the row that it names
 pub record Walked (cell : Cell) (seeks : Bool) (found : ℕ) (p q : Caller) : Type 0 where

@@ -13,7 +13,7 @@ use Rattle.atomic_table.specs.declared.shared.Seat.{Seat}
 use Rattle.crq_rule.specs.declared.pass.Table.{Table}
 use Rattle.crq_rule.specs.declared.view.View.{View}
 use Rattle.crq_rule.specs.Places.{Words}
-use Rattle.crq_rule.specs.Ranks.{first_head_of}
+use Rattle.crq_rule.specs.Ranks.{first_head_of, shape_of}
 use Rattle.crq_rule.specs.Core.{Core, in_hand}
 use Rattle.crq_rule.specs.Rule.{fresh, first_view, rows_from}
 
@@ -55,6 +55,7 @@ opening_core s = record {
   words = opening_words s;
   history = [];
   deal = (fresh s 0).deal;
+  shape = λ _. shape_of (opening_words s).control;
   chain = λ _. [];
   holding = λ r. in_hand (home_of s.layout r);
   begun = λ _. 0;

@@ -1,14 +1,15 @@
 -- The parts of the invariant. Each is a record over the components that it reads, and no others: a step that leaves these leaves the part as it stands.
-use Rattle.std.specs.Prelude.{◌≡◌, ◌⊎◌, ℕ, ◌+◌, ◌^◌, ◌<◌, ◌≤◌, List, [], ◌∷◌, ◌++◌, Option, Some, None}
+use Rattle.std.specs.Prelude.{◌≡◌, ◌⊎◌, true, ℕ, ◌+◌, ◌^◌, ◌<◌, ◌≤◌, List, [], ◌∷◌, ◌++◌, Option, Some, None}
 use Rattle.crq_base.specs.declared.event.Event.{Event}
 use Rattle.crq_base.specs.declared.words.Link.{Link}
 use Rattle.crq_base.specs.declared.words.Control.{Control}
 use Rattle.crq_base.specs.declared.words.Current.{Current}
 use Rattle.crq_base.specs.declared.words.Pin.{Pin}
-use Rattle.crq_base.specs.Words.{IsLink, IsControl, IsCurrent, IsPin}
+use Rattle.crq_base.specs.Words.{flag_number, IsLink, IsControl, IsCurrent, IsPin}
 use Rattle.crq_base.specs.Lists.{In, IsOnce}
 use Rattle.crq_rule.specs.declared.debts.CopyDebt.{CopyDebt}
 use Rattle.crq_rule.specs.declared.layout.Layout.{Layout}
+use Rattle.crq_rule.specs.declared.layout.Start.{Start}
 use Rattle.crq_rule.specs.declared.view.Guard.{Guard}
 use Rattle.crq_rule.specs.declared.view.Guard.TheVariants.{Off, Entering, On}
 use Rattle.crq_rule.specs.declared.view.Tick.{Tick}
@@ -16,6 +17,7 @@ use Rattle.crq_rule.specs.declared.view.CutRow.{CutRow}
 use Rattle.crq_rule.specs.declared.view.Found.{Found}
 use Rattle.crq_rule.specs.declared.view.Stand.{Stand}
 use Rattle.crq_rule.specs.Places.{IsRow, IsHomeRow, IsHead}
+use Rattle.crq_rule.specs.Ranks.{Shape, shape_of, next_of}
 use Rattle.crq_rule.specs.Core.{Core, Holding, in_hand, listed, cut_by, retired}
 
 -- 1. Spelling: each word has a value
@@ -36,21 +38,35 @@ pub record Spelled (l : Layout) (control : Control) (current : Current) (pin : P
   pub twins : (r : ℕ) → IsRow l r → twin r ≤ l.all
   pub events : (r : ℕ) → IsRow l r → IsEvent (event r)
 
--- 2. Reading: what a caller read of the epoch, of current and of the generation isn't above what the word has now
+-- 2. Reading: what a caller read of the epoch isn't above what the word has now, and what it found of control and current may be told of them still
 
--- the position a isn't after the position b
-abbrev pub NotAfter : Current → Current → Type 0
-NotAfter a b = (a.epoch < b.epoch) ⊎ ((a.epoch ≡ b.epoch) × (a.tick ≤ b.tick))
-
-pub record Reading (n epoch : ℕ) (current : Current) (control : Control) (epochs : ℕ → List ℕ) (tick : ℕ → Tick) (cut : ℕ → Option CutRow) (found : ℕ → Found) : Type 0 where
+pub record Reading (n epoch : ℕ) (epochs : ℕ → List ℕ) (tick : ℕ → Tick) (cut : ℕ → Option CutRow) : Type 0 where
   pub limit : epoch ≤ 2 ^ 62
   pub read : (j e : ℕ) → j < n → In e (epochs j) → e ≤ epoch
   pub loaded : (j : ℕ) → j < n → (tick j).loaded ≤ epoch
   pub scanned : (j k a : ℕ) → j < n → In (k, a) (tick j).found → a ≤ epoch + 1
   pub tags : (j t : ℕ) (x : CutRow) → j < n → cut j ≡ Some x → In t x.tags → t ≤ epoch
-  pub read_current : (j : ℕ) (x : Current) → j < n → (found j).current ≡ Some x → NotAfter x current
-  -- no step changes the control word yet
-  pub read_control : (j : ℕ) (x : Control) → j < n → (found j).control ≡ Some x → x ≡ control
+
+-- the position a isn't after the position b
+abbrev pub NotAfter : Current → Current → Type 0
+NotAfter a b = (a.epoch < b.epoch) ⊎ ((a.epoch ≡ b.epoch) × (a.tick ≤ b.tick))
+
+-- the generation of the newest table: while a table moves, that is the one that it moves into
+abbrev pub newest : Control → ℕ
+newest x = x.generation + flag_number x.moving
+
+-- what a control word that was found says now: its table is no later one, a generation keeps its shape, and a move that hasn't ended has its word still
+pub record Fits (start : Start) (control : Control) (shape : ℕ → Shape) (x : Control) : Type 0 where
+  pub spelled : IsControl x
+  pub first : start.first.generation ≤ x.generation
+  pub low : x.generation ≤ control.generation
+  pub size : shape x.generation ≡ shape_of x
+  pub next : x.moving ≡ true → shape (x.generation + 1) ≡ next_of x
+  pub same : x.moving ≡ true → x.generation ≡ control.generation → x ≡ control
+
+pub record Finds (start : Start) (control : Control) (shape : ℕ → Shape) (current : Current) (found : ℕ → Found) : Type 0 where
+  pub controls : (j : ℕ) (x : Control) → j < start.layout.workers → (found j).control ≡ Some x → Fits start control shape x
+  pub currents : (j : ℕ) (x : Current) → j < start.layout.workers → (found j).current ≡ Some x → NotAfter x current
 
 -- 3. Guards
 

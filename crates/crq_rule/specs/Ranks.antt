@@ -10,17 +10,47 @@ use Rattle.crq_rule.specs.Places.{Place, head, link}
 unfoldable pub rank : Event → ℕ → ℕ
 rank e r = ((e.time * 2 ^ 32 + e.src) * 2 ^ 64 + e.seq) * 2 ^ 24 + r
 
+-- a table has 2 ^ log lists, and each of its buckets is 2 ^ shift ticks wide
+pub record Shape : Type 0 where
+  pub log : ℕ
+  pub shift : ℕ
+
+-- the shape of the table of a control word, and of the one that it moves into
+abbrev pub shape_of : Control → Shape
+shape_of x = record { log = x.log; shift = x.shift }
+
+abbrev pub next_of : Control → Shape
+next_of x = record { log = x.new_log; shift = x.new_shift }
+
+-- the bucket of a tick
+unfoldable pub bucket : Shape → ℕ → ℕ
+bucket s t = t / 2 ^ s.shift
+
 -- the first of the heads that a table of this generation uses: its bank's
 abbrev pub first_head_of : ℕ → ℕ
 first_head_of g = g % 2 * 32768
 
--- the list of the event e in the open table: the bucket of its time, and the head of that bucket in the table's bank
-unfoldable pub head_of : Control → Event → ℕ
-head_of c e = first_head_of c.generation + e.time / 2 ^ c.shift % 2 ^ c.log
+-- the head of a bucket in a table of the generation g: it has the buckets that differ by a multiple of the number of lists
+unfoldable pub head_for : ℕ → Shape → ℕ → ℕ
+head_for g s b = first_head_of g + b % 2 ^ s.log
 
--- the head q is one of the open table
+-- the head of an event
+abbrev pub head_in : ℕ → Shape → Event → ℕ
+head_in g s e = head_for g s (bucket s e.time)
+
+-- the same by a control word, and where each generation has its shape
+abbrev pub head_of : Control → Event → ℕ
+head_of x e = head_in x.generation (shape_of x) e
+
+abbrev pub list_in : (ℕ → Shape) → ℕ → Event → ℕ
+list_in shape g e = head_in g (shape g) e
+
+-- the head q is one of the table
+abbrev pub IsHeadIn : ℕ → Shape → ℕ → Type 0
+IsHeadIn g s q = (first_head_of g ≤ q) × (q < first_head_of g + 2 ^ s.log)
+
 abbrev pub IsOpen : Control → ℕ → Type 0
-IsOpen c q = (first_head_of c.generation ≤ q) × (q < first_head_of c.generation + 2 ^ c.log)
+IsOpen x q = IsHeadIn x.generation (shape_of x) q
 
 -- where a link stands: in a head, or in a row
 pub data Cell : Type 0 where

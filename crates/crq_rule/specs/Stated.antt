@@ -25,7 +25,7 @@ use Rattle.crq_rule.specs.declared.view.Walk.{Walk}
 use Rattle.crq_rule.specs.Places.{Place, spare, epoch, announced, control, current, pin, head, link, stamp, twin, time, source, sequence, load, IsPlace, IsRow, IsHomeRow, IsHead, word_of}
 use Rattle.crq_rule.specs.Core.{Core, DeadNames, Holding, in_hand, listed, cut_by, retired}
 use Rattle.crq_rule.specs.Parts.{ground_of, NotAfter, IsOn, LetsRise, Leads, Names, Reaches, Covers, HasTag}
-use Rattle.crq_rule.specs.Ranks.{head_of, IsOpen}
+use Rattle.crq_rule.specs.Ranks.{shape_of, list_in, head_of, IsOpen}
 use Rattle.crq_rule.specs.ListParts.{IsOpenHead, IsShutHead}
 use Rattle.crq_rule.specs.HistoryParts.{IsLive, EndsInBegin}
 use Rattle.crq_rule.specs.ScarceParts.{IsLate, pending}
@@ -127,12 +127,12 @@ pub record IsListOf (c : Core) (q : ℕ) (rows : List ℕ) : Type 0 where
   pub holds : (r : ℕ) → In r rows ↔ (IsRow c.start.layout r × (c.holding r ≡ listed q))
   pub ascends : Ascends c.words.event rows
   pub generation : (r : ℕ) → In r rows → (c.words.link r).generation ≡ (c.words.head q).generation
-  pub belongs : (r : ℕ) → In r rows → head_of c.words.control (c.words.event r) ≡ q
+  pub belongs : (r : ℕ) → In r rows → list_in c.shape (c.words.head q).generation (c.words.event r) ≡ q
 
 -- the row a leads on to the row b: to a later one, with an event of the same list, and of the link's generation
 pub record LeadsOn (c : Core) (a b : ℕ) : Type 0 where
   pub precedes : Precedes (c.words.event a) a (c.words.event b) b
-  pub same_list : head_of c.words.control (c.words.event b) ≡ head_of c.words.control (c.words.event a)
+  pub same_list : list_in c.shape (c.words.link a).generation (c.words.event b) ≡ list_in c.shape (c.words.link a).generation (c.words.event a)
   pub generation : (c.words.link b).generation ≡ (c.words.link a).generation
 
 abbrev pub IsInHand : Core → ℕ → Type 0
@@ -142,10 +142,11 @@ IsInHand c r = (j : ℕ) × (c.holding r ≡ in_hand j)
 abbrev pub OwesCut : DeadNames → ℕ → Event → Type 0
 OwesCut d r e = (x : CutDebt) × ((d.first ≡ Some x) ⊎ (d.second ≡ Some x)) × (x.row ≡ r) × (x.event ≡ e)
 
--- The heads of the open table are open and of its generation, and have their lists; all others are shut and empty. Links of covered rows lead on as those of listed ones do. A listed row is VAL or DEL;
+-- The generation of the open table has the shape that the control word says. The heads of that table are open and of its generation, and have their lists; all others are shut and empty. Links of covered rows lead on as those of listed ones do. A listed row is VAL or DEL;
 -- a row that is VAL and not in hand is listed, and one that was cut or retired is DEL. No row that isn't in hand has a twin. Each listed row that is DEL is owed to be cut by a caller that names it by
 -- row and event; no caller names more than two, since `Debts` has two places for them
 pub record ListsHold (c : Core) : Type 0 where
+  pub shaped : c.shape c.words.control.generation ≡ shape_of c.words.control
   pub opened : (q : ℕ) → IsHead q → IsOpen c.words.control q → IsOpenHead c.words.control (c.words.head q) × IsListOf c q (c.chain q)
   pub shut : (q : ℕ) → IsHead q → (IsOpen c.words.control q → ⊥) → IsShutHead c.words.control (c.words.head q) × (c.chain q ≡ [])
   pub covered : (k g r : ℕ) → IsCovered c k g r → IsRow c.start.layout r × (0 < (c.words.link r).row → LeadsOn c r (c.words.link r).row)

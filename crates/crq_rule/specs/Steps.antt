@@ -4,6 +4,7 @@ use Rattle.crq_base.specs.declared.kinds.StepKind.{StepKind}
 use Rattle.crq_base.specs.declared.kinds.StepKind.TheVariants.{Split, Join, EpochLoad, Enter, Confirm, Leave, Scan, Tick, Retire, Look, Claim, Write, Read, ControlLoad, Begin, Walk, Link as LinkKind, Mark, Cut, Miss}
 use Rattle.crq_base.specs.declared.event.Event.{Event}
 use Rattle.crq_base.specs.declared.words.Link.{Link}
+use Rattle.crq_base.specs.declared.words.Control.{Control}
 use Rattle.crq_base.specs.declared.entry.Entry.{Entry}
 use Rattle.crq_base.specs.declared.entry.Entry.TheVariants.{Begin as BeginEntry, Take as TakeEntry, Miss as MissEntry}
 use Rattle.crq_rule.specs.declared.view.Guard.TheVariants.{Off}
@@ -62,15 +63,15 @@ May (claim r e) c j = In e (c.epochs j) × IsRipe (c.ripening j) r e
 May (write r x) c j = In r (c.hand j) × IsContent x
 May (read r p) c j = (e : Event) × StandsOn (c.rows j) r e
 May (walk cell seeks) c j = IsOn (c.guard j) × MayWalk (c.rows j) cell × MaySeek (c.own j) (c.walk j) cell seeks
-May (link cell l r e) c j = MayLink c.start.layout.workers c.words.control cell l r e (caller_of c j) × (link_at c.words.head c.words.link cell ≡ l)
+May (link cell l r e) c j = ((x : Control) × MayLink c.start.layout.workers x cell l r e (caller_of c j)) × (link_at c.words.head c.words.link cell ≡ l)
 May (link_fails cell) c j = Unit {0}
 May control_load c j = Unit {0}
 May begin c j = Unit {0}
-May (mark r e) c j = MayMark c.words.control r e (caller_of c j) × ((c.words.link r).mark ≡ Val)
+May (mark r e) c j = ((x : Control) × MayMark x r e (caller_of c j)) × ((c.words.link r).mark ≡ Val)
 May (mark_fails r) c j = Unit {0}
 May (cut cell x l) c j = MayCut cell x l (caller_of c j) × (((link_at c.words.head c.words.link cell).mark ≡ Val) × ((link_at c.words.head c.words.link cell).row ≡ x))
 May (cut_fails cell) c j = Unit {0}
-May (miss limit) c j = MayMiss c.words.control limit (caller_of c j)
+May (miss limit) c j = (x : Control) × MayMiss x limit (caller_of c j)
 
 -- the core state after it
 abbrev pub After : Kind → Core → ℕ → Core

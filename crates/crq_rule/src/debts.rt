@@ -1,6 +1,6 @@
 //! What a pass may owe between two calls.
 
-use crq_base::Event;
+use crq_base::{Event, Link};
 
 /// An event that this pass linked, and that isn't settled yet.
 #[derive(Clone, Copy, Debug, PartialEq, Eq)]
@@ -9,6 +9,8 @@ pub struct SettleDebt {
     pub event: Event,
     /// The generation of the table in which it was linked.
     pub generation: u32,
+    /// A bucket of that table is 2^shift ticks wide.
+    pub shift: u32,
 }
 
 /// A dead row that this pass still has to cut, named by its place in a list.
@@ -22,6 +24,8 @@ pub struct CutDebt {
     pub event: Event,
     /// The row.
     pub row: u32,
+    /// Whether it is a copy that was discarded as the first row of a frozen list.
+    pub front: bool,
 }
 
 /// A copy that this pass linked into the new table, and that isn't bound yet.
@@ -31,8 +35,14 @@ pub struct CopyDebt {
     pub old: u32,
     /// The copy.
     pub copy: u32,
+    /// The event that both hold.
+    pub event: Event,
     /// The generation of the new table.
     pub generation: u32,
+    /// The head of the copy's list, numbered over both banks.
+    pub head: u32,
+    /// The frozen row's last link.
+    pub last: Link,
 }
 
 /// All that a pass owes. It never names more than two dead rows.
