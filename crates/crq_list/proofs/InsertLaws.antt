@@ -25,7 +25,7 @@ use Rattle.crq_rule.specs.Places.{index, IsRow, IsHead, link}
 use Rattle.crq_rule.specs.Parts.{IsOn, IsEvent}
 use Rattle.crq_rule.specs.Kinds.{makes}
 use Rattle.crq_rule.specs.Ranks.{rank, head_of, at_head, at_row, cell_place}
-use Rattle.crq_rule.specs.ListKinds.{Content, no_twin, new_time, new_source, new_sequence, new_load, IsContent, content_number, content_word, event_word, unwritten, wrote, writes, links, put_entries, StandsOn, IsWritten, ComesAfter, ComesBefore, MayLink}
+use Rattle.crq_rule.specs.ListKinds.{is_cell, Content, no_twin, new_time, new_source, new_sequence, new_load, IsContent, content_number, content_word, event_word, unwritten, wrote, writes, links, put_entries, StandsOn, IsWritten, ComesAfter, ComesBefore, MayLink}
 use Rattle.crq_rows.specs.Passes.{caller, IsPassOf, Stepped, step_made, store_made, counted}
 use Rattle.crq_rows.proofs.Reached.{hand_row, stand_row}
 use Rattle.crq_list.specs.declared.parts.Before.{Before}
@@ -154,7 +154,7 @@ may_link n table x op b pass of i = record {
   control = i.list_is.control;
   in_hand_is = i.held;
   event = i.event;
-  expected = (i.at.0.passed.bits, i.at.0.passed.present, i.at.0.passed.generation);
+  expected = (i.at.0.passed.bits, ap is_cell i.at.0.passed.present, i.at.0.passed.generation);
   written = i.at.1;
   after = comes_after x op.list op.event op.row b.spot (caller table pass) (row_low table.start.layout op.row (hand_row table pass of op.row i.held)) stands i.list_is.is_head i.of_list i.at.0.passed.reached;
   before = comes_before op.event op.row b.link.row (caller table pass).position.rows i.event (row_low table.start.layout op.row (hand_row table pass of op.row i.held)) i.at.0.after;

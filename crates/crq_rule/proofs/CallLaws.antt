@@ -57,9 +57,9 @@ finds_control start control shape current found j now old = record {
 }
 
 -- an entry that is neither a put nor a take
-pub carriers_same : (l : Layout) (history : List Entry) (x : Entry) (link : ℕ → Link) (event : ℕ → Event) (holding : ℕ → Holding) → puts (x ∷ []) ≡ [] → outs (x ∷ []) ≡ []
-    → Carriers l history link event holding → Carriers l (history ++ x ∷ []) link event holding
-carriers_same l history x link event holding none kept old = record {
+pub carriers_same : (l : Layout) (history : List Entry) (x : Entry) (link : ℕ → Link) (twin : ℕ → ℕ) (event : ℕ → Event) (holding : ℕ → Holding) → puts (x ∷ []) ≡ [] → outs (x ∷ []) ≡ []
+    → Carriers l history link twin event holding → Carriers l (history ++ x ∷ []) link twin event holding
+carriers_same l history x link twin event holding none kept old = record {
   carried = λ e p. old.carried e ((pending_same history x e none kept).0 p);
   pending = λ r v. (pending_same history x (event r) none kept).1 (old.pending r v);
   one = old.one;
@@ -131,7 +131,7 @@ begin_keeps c j b inv = record {
   lanes = inv.lanes;
   writing = inv.writing;
   naming = inv.naming;
-  carriers = carriers_same _ _ (Begin j) _ _ _ refl refl inv.carriers;
+  carriers = carriers_same _ _ (Begin j) _ _ _ _ refl refl inv.carriers;
   told = told_begin _ _ _ _ _ j b inv.told;
   walkers = walkers_entry _ _ _ _ _ _ _ _ _ _ _ _ j (Begin j) inv.told.begun_low (put_else c.begun j (length c.history)) (λ _ _ _ s. s) inv.walkers;
   scarce = scarce_drop _ _ _ _ _ _ _ _ j (λ k x _ ne. base_grown _ _ _ _ _ _ k x (other_begin j k ne)) inv.scarce;
@@ -173,7 +173,7 @@ miss_keeps c j limit b may inv = record {
   lanes = inv.lanes;
   writing = inv.writing;
   naming = inv.naming;
-  carriers = carriers_same _ _ (Miss j limit) _ _ _ refl refl inv.carriers;
+  carriers = carriers_same _ _ (Miss j limit) _ _ _ _ refl refl inv.carriers;
   told = told_other _ _ _ _ _ j (Miss j limit) b (miss_legal c j limit b may inv) refl refl (miss_begin j limit) inv.told;
   walkers = walkers_entry _ _ _ _ c.begun _ _ _ _ _ _ _ j (Miss j limit) inv.told.begun_low (λ _ _. refl) (λ _ _ _ s. s) inv.walkers;
   scarce = scarce_grown _ _ _ _ _ _ _ (λ k. no_begin j limit k) inv.scarce;

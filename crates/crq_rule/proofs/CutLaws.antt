@@ -1,12 +1,11 @@
 -- A cut takes a dead row out of its list, and keeps the invariant.
-use Rattle.std.proofs.Common.{◌≡◌, ◌≢◌, ◌⊎◌, ⊎_elim, inl, inr, ℕ, ◌^◌, ◌<◌, ◌≤◌, cond, List, [], ◌∷◌, ◌++◌, Option, Some, None, sym, refl, ap, ◌∙◌, eq-eqb, ne_eqb, subst, arith, le_refl}
+use Rattle.std.proofs.Common.{◌≡◌, ◌≢◌, ◌⊎◌, ⊎_elim, inl, inr, ℕ, ◌^◌, ◌<◌, ◌≤◌, cond, List, [], ◌∷◌, ◌++◌, Option, Some, None, sym, refl, ap, ◌∙◌, eq-eqb, ne_eqb, subst, arith, le_refl, true}
 use mathlib.Core.Logic.{dite}
 use native.Mathlib.Decide.{ℕ_discrete}
 use Rattle.crq_base.specs.declared.event.Event.{Event}
 use Rattle.crq_base.specs.declared.words.Link.{Link}
 use Rattle.crq_base.specs.declared.words.Mark.{Mark}
-use Rattle.crq_base.specs.declared.words.Mark.TheVariants.{Val, Mov, Del}
-use Rattle.crq_base.specs.declared.words.Control.{Control}
+use Rattle.crq_base.specs.declared.words.Mark.TheVariants.{Mov, Del}
 use Rattle.crq_base.specs.Words.{IsLink}
 use Rattle.crq_base.specs.Lists.{In}
 use Rattle.crq_rule.specs.declared.debts.CutDebt.{CutDebt}
@@ -19,9 +18,9 @@ use Rattle.crq_rule.specs.declared.view.Walk.{Walk}
 use Rattle.crq_rule.specs.Lists.{put}
 use Rattle.crq_rule.specs.Places.{IsRow, IsHead}
 use Rattle.crq_rule.specs.Core.{Core, IsOutside, DeadNames, HasName, Holding, in_hand, listed, cut_by, retired, caller_of}
-use Rattle.crq_rule.specs.Parts.{Spelled, Holders, Stamps, stamp_of, Chains, Leads, Cover, Covers, Ground, ground_of, footings, IsGuarded, HasTag, IsOn, rows_of, rows_of_old, rows_of_copy}
-use Rattle.crq_rule.specs.ListParts.{Heads, IsShutHead, Sorted, Marks, MarkFits, TwinFits, Standing, IsFinal, Lanes, Writing, row_word, Naming, IsNamed, ranks}
-use Rattle.crq_rule.specs.HistoryParts.{Carriers, IsLive, Walkers, StandsFrom}
+use Rattle.crq_rule.specs.Parts.{Spelled, Holders, Stamps, stamp_of, Chains, Leads, Cover, Covers, Ground, ground_of, footings, IsGuarded, HasTag, IsOn, rows_of, rows_of_old, rows_of_copy, newest}
+use Rattle.crq_rule.specs.ListParts.{Heads, Sorted, Marks, MarkFits, Standing, IsFinal, Lanes, Writing, row_word, Naming, IsNamed, ranks}
+use Rattle.crq_rule.specs.HistoryParts.{Carriers, IsLive, Walkers, StandsFrom, IsCarrying}
 use Rattle.crq_rule.specs.ScarceParts.{IsLate}
 use Rattle.crq_rule.specs.Invariant.{Inv}
 use Rattle.crq_rule.specs.Ranks.{list_in, IsOpen, Rises, Cell, at_head, at_row, link_at, heads_set, links_set, without_row}
@@ -29,8 +28,10 @@ use Rattle.crq_rule.specs.ListKinds.{cut_from, without_stand, unnamed, StandsOn,
 use Rattle.crq_rule.proofs.Puts.{put_here, put_else, put_all}
 use Rattle.crq_rule.proofs.PartLaws.{sort, of_whom, read_cut, cutting_cut}
 use Rattle.crq_rule.proofs.HolderLaws.{none_some, some_some}
+use Rattle.crq_rule.specs.ListKinds.{is_cell}
+use Rattle.crq_rule.proofs.HeadLaws.{cell_final, cell_frozen, cell_listed, dead_carries, heads_rows}
 use Rattle.crq_rule.proofs.SizeLaws.{sizes_rows, dues_named}
-use Rattle.crq_rule.proofs.SteadyLaws.{steady_rows, steady_names}
+use Rattle.crq_rule.proofs.SteadyLaws.{steady_rows, steady_names, guarded_out, outside_twin}
 use Rattle.crq_rule.proofs.CoverLaws.{guarded_by, stand_row, row_footing, footing_covered}
 use Rattle.crq_rule.proofs.ScarceLaws.{since_low, scarce_lasts, lasts_held}
 use Rattle.crq_rule.proofs.SweepLaws.{swept_cut}
@@ -39,15 +40,8 @@ use Rattle.crq_rule.proofs.WithoutLaws.{first_in, next_in, leads_else, leads_fir
 on_is : (g : Guard) (x : ℕ) → g ≡ On x → IsOn g
 on_is g x is = subst IsOn (sym is) tt
 
-del_val : Del ≡ Val → ⊥
-del_val e = cc
-
-mov_val : Mov ≡ Val → ⊥
-mov_val e = cc
-
--- a present link isn't a last one
-val_final : (m : Mark) → m ≡ Val → IsFinal m → ⊥
-val_final m is final = subst IsFinal is final
+del_mov : Del ≡ Mov → ⊥
+del_mov e = cc
 
 -- Stands, and what is left of them without the row x
 
@@ -113,10 +107,10 @@ module _ (heads links : ℕ → Link) (w : ℕ) where
   link_spelled l low all (at_head h) = all
   link_spelled l low all (at_row p) = put_all links p (record (links p) { row = w }) (λ k z. IsRow l k → IsLink z) (λ b. record { generation = (all p b).generation; row = low }) (λ k _. all k)
 
-  -- a shut head isn't changed
-  head_shut : (control : Control) (cell : Cell) → (link_at heads links cell).mark ≡ Val → (q : ℕ) → IsShutHead control (heads q) → IsShutHead control (heads_cut cell q)
-  head_shut control (at_head h) val q = put_all heads h (record (heads h) { row = w }) (λ k z. IsShutHead control (heads k) → IsShutHead control z) (λ s. absurd (mov_val (sym s.0 ∙ val))) (λ k _ s. s) q
-  head_shut control (at_row p) val q = λ s. s
+  -- a frozen head isn't changed
+  frozen_stays : (cell : Cell) → is_cell (link_at heads links cell).mark ≡ true → (q : ℕ) → (heads q).mark ≡ Mov → heads_cut cell q ≡ heads q
+  frozen_stays (at_row p) may q frozen = refl
+  frozen_stays (at_head h) may q frozen = put_else heads h (record (heads h) { row = w }) q (λ e. cell_frozen (heads h).mark may (ap (λ z. (heads z).mark) (sym e) ∙ frozen))
 
   -- each row's link is as it was, or the row is the cell
   link_is : (cell : Cell) (r : ℕ) → (links_cut cell r ≡ links r) ⊎ ((cell ≡ at_row r) × ((links_cut cell r).row ≡ w))
@@ -156,7 +150,7 @@ module _ (l : Layout) (hand : ℕ → List ℕ) (cut : ℕ → Option CutRow) (c
   }
 
 module _ (c : Core) (j : ℕ) (cell : Cell) (x : ℕ) (l : Link) (b : j < c.start.layout.workers) (may : MayCut cell x l (caller_of c j))
-    (val : (link_at c.words.head c.words.link cell).mark ≡ Val) (names : (link_at c.words.head c.words.link cell).row ≡ x) (inv : Inv c) where
+    (val : is_cell (link_at c.words.head c.words.link cell).mark ≡ true) (names : (link_at c.words.head c.words.link cell).row ≡ x) (inv : Inv c) where
   abbrev n : ℕ
   n = c.start.layout.workers
 
@@ -208,23 +202,13 @@ module _ (c : Core) (j : ℕ) (cell : Cell) (x : ℕ) (l : Link) (b : j < c.star
   row_x : IsRow c.start.layout x
   row_x = inv.lanes.is_row x (guarded_by j covered_x)
 
-  -- a covered row that is present is listed
-  present_listed : (r : ℕ) → IsGuarded (ground_of c) r → (c.words.link r).mark ≡ Val → (k : ℕ) × (c.holding r ≡ listed k)
-  present_listed r v present = held (c.holding r) refl
-    where
-      held : (h : Holding) → c.holding r ≡ h → (k : ℕ) × (c.holding r ≡ listed k)
-      held (in_hand i) is = absurd (inv.cover.free v.0 v.1 r i v.2 is)
-      held (listed k) is = (k, is)
-      held (cut_by i) is = absurd (del_val (sym (subst (λ h. MarkFits h (c.words.link r).mark) is (inv.marks.mark r (inv.lanes.is_row r v))) ∙ present))
-      held (retired t) is = absurd (del_val (sym (subst (λ h. MarkFits h (c.words.link r).mark) is (inv.marks.mark r (inv.lanes.is_row r v))) ∙ present))
-
   abbrev IsCellOf : ℕ → Cell → Type 0
   IsCellOf k (at_head h) = h ≡ k
   IsCellOf k (at_row p) = In p (c.chain k)
 
-  cell_list : (z : Cell) → MayWalk (c.rows j) z → (link_at c.words.head c.words.link z).mark ≡ Val → (link_at c.words.head c.words.link z).row ≡ x → (k : ℕ) × IsHead k × In x (c.chain k) × IsCellOf k z
+  cell_list : (z : Cell) → MayWalk (c.rows j) z → is_cell (link_at c.words.head c.words.link z).mark ≡ true → (link_at c.words.head c.words.link z).row ≡ x → (k : ℕ) × IsHead k × In x (c.chain k) × IsCellOf k z
   cell_list (at_head h) is present to = (h, is, first_in c.words.link x (c.chain h) row_x.0 (subst (λ z. Leads c.words.link z (c.chain h)) to (inv.chains.leads h is)), refl)
-  cell_list (at_row p) is present to = let v : IsGuarded (ground_of c) p = guarded_by j (covered p is.0 is.1) in let k = present_listed p v present in let o = inv.holders.of_chain k.0 p (inv.lanes.is_row p v) k.1 in
+  cell_list (at_row p) is present to = let v : IsGuarded (ground_of c) p = guarded_by j (covered p is.0 is.1) in let row = inv.lanes.is_row p v in let k = cell_listed (c.holding p) (c.words.link p).mark present (guarded_out c inv p v) (inv.marks.mark p row) in let o = inv.holders.of_chain k.0 p row k.1 in
       (k.0, o.0, next_in c.words.link (c.words.head k.0).row p x (c.chain k.0) row_x.0 to (inv.chains.leads k.0 o.0) o.1, o.1)
 
   -- the list of a row by its own link
@@ -238,15 +222,15 @@ module _ (c : Core) (j : ℕ) (cell : Cell) (x : ℕ) (l : Link) (b : j < c.star
   was = (inv.holders.in_chain q x place.0 place.1).1
 
   lone : c.words.twin x ≡ 0
-  lone = subst (λ h. TwinFits h (c.words.twin x)) was (inv.marks.twin_is x row_x)
+  lone = inv.marks.bare x row_x (guarded_out c inv x (guarded_by j covered_x)) (λ m. del_mov (sym dead ∙ m))
 
   -- The change of the links
 
   changed : (r : ℕ) → (links r ≡ c.words.link r) ⊎ ((cell ≡ at_row r) × ((links r).row ≡ l.row))
   changed = link_is c.words.head c.words.link l.row cell
 
-  present : (r : ℕ) → cell ≡ at_row r → (c.words.link r).mark ≡ Val
-  present r e = subst (λ z. (link_at c.words.head c.words.link z).mark ≡ Val) e val
+  present : (r : ℕ) → cell ≡ at_row r → is_cell (c.words.link r).mark ≡ true
+  present r e = subst (λ z. is_cell (link_at c.words.head c.words.link z).mark ≡ true) e val
 
   to_x : (r : ℕ) → cell ≡ at_row r → (c.words.link r).row ≡ x
   to_x r e = subst (λ z. (link_at c.words.head c.words.link z).row ≡ x) e names
@@ -259,11 +243,8 @@ module _ (c : Core) (j : ℕ) (cell : Cell) (x : ℕ) (l : Link) (b : j < c.star
 
   -- The parts
 
-  heads_part : Heads c.words.control heads
-  heads_part = record {
-    opened = λ h a o. let old = inv.heads.opened h a o in (head_mark c.words.head c.words.link l.row cell h ∙ old.0, head_generation c.words.head c.words.link l.row cell h ∙ old.1);
-    shut = λ h a s. head_shut c.words.head c.words.link l.row c.words.control cell val h (inv.heads.shut h a s);
-  }
+  heads_part : Heads c.words.control c.shape heads
+  heads_part = heads_rows c.words.control c.shape c.words.head heads (head_generation c.words.head c.words.link l.row cell) (head_mark c.words.head c.words.link l.row cell) (frozen_stays c.words.head c.words.link l.row cell val) inv.heads
 
   in_before : (k r : ℕ) → In r (put c.chain q left k) → In r (c.chain k)
   in_before k r = put_all c.chain q left (λ k xs. In r xs → In r (c.chain k)) (in_without_row x r (c.chain q)) (λ _ _ i. i) k
@@ -290,14 +271,28 @@ module _ (c : Core) (j : ℕ) (cell : Cell) (x : ℕ) (l : Link) (b : j < c.star
   chains_part : Chains heads links c.words.twin (put c.chain q left)
   chains_part = record {
     leads = leads_part cell place.2 names;
-    twins = λ k r a i. let h = inv.holders.in_chain k r a (in_before k r i) in inl (subst (λ z. TwinFits z (c.words.twin r)) h.1 (inv.marks.twin_is r h.0));
+    twins = λ k r a i. let h = inv.holders.in_chain k r a (in_before k r i) in inl (outside_twin c inv r h.0 (λ i held. let z : ◌≡◌ {A = ℕ} 1 0 = ap sort (sym h.1 ∙ held) in omega arith));
   }
 
-  marks_part : Marks c.start.layout links c.words.twin holding
+  front_stays : (h s : ℕ) → ((c.words.head h).mark ≡ Mov) × ((c.words.head h).row ≡ s) → ((heads h).mark ≡ Mov) × ((heads h).row ≡ s)
+  front_stays h s front = subst (λ (y : Link). (y.mark ≡ Mov) × (y.row ≡ s)) (sym (frozen_stays c.words.head c.words.link l.row cell val h front.0)) front
+
+  -- a row that is in no hand was in none, and one that is listed was listed
+  was_outside : (r : ℕ) → IsOutside holding r → IsOutside c.holding r
+  was_outside r out i at = dite (ℕ_discrete r x) (λ (e : r ≡ x). let z : ◌≡◌ {A = ℕ} 1 0 = ap sort (sym was ∙ (ap c.holding (sym e) ∙ at)) in absurd (omega arith)) (λ ne. out i (put_else c.holding x (cut_by j) r ne ∙ at))
+
+  listed_before : (r k : ℕ) → holding r ≡ listed k → (c.holding r ≡ listed k) × (r ≢ x)
+  listed_before r k = put_all c.holding x (cut_by j) (λ s h. h ≡ listed k → (c.holding s ≡ listed k) × (s ≢ x)) (λ e. let z : 2 ≡ 1 = ap sort e in absurd (omega arith)) (λ s ne e. (e, ne)) r
+
+  same_mark : (r : ℕ) → (links r).mark ≡ (c.words.link r).mark
+  same_mark = link_mark c.words.head c.words.link l.row cell
+
+  marks_part : Marks c.start.layout c.words.control heads links c.words.twin holding
   marks_part = record {
-    mark = λ r row. subst (MarkFits (holding r)) (sym (link_mark c.words.head c.words.link l.row cell r))
-        (put_all c.holding x (cut_by j) (λ s h. IsRow c.start.layout s → MarkFits h (c.words.link s).mark) (λ _. dead) (λ s _. inv.marks.mark s) r row);
-    twin_is = put_all c.holding x (cut_by j) (λ s h. IsRow c.start.layout s → TwinFits h (c.words.twin s)) (λ _. lone) (λ s _. inv.marks.twin_is s);
+    mark = λ r row. subst (MarkFits (holding r)) (sym (same_mark r)) (put_all c.holding x (cut_by j) (λ s h. IsRow c.start.layout s → MarkFits h (c.words.link s).mark) (λ _. subst IsFinal (sym dead) tt) (λ s _. inv.marks.mark s) r row);
+    first = λ k r row is frozen. front_stays k r (inv.marks.first k r row (listed_before r k is).0 (sym (same_mark r) ∙ frozen));
+    bare = λ r row out live. inv.marks.bare r row (was_outside r out) (λ m. live (same_mark r ∙ m));
+    aged = λ r row out frozen. subst (λ g. g < newest c.words.control) (sym (link_generation c.words.head c.words.link l.row cell r)) (inv.marks.aged r row (was_outside r out) (sym (same_mark r) ∙ frozen));
   }
 
   -- what is covered was covered
@@ -353,7 +348,7 @@ module _ (c : Core) (j : ℕ) (cell : Cell) (x : ℕ) (l : Link) (b : j < c.star
 
   still_last : (k : ℕ) (s : Stand) (m : Link) → k < n → In s (c.rows k) → s.last ≡ Some m → (links s.row ≡ m) × IsFinal m.mark
   still_last k s m a i is = let o = inv.standing.last k s m a i is in
-      (⊎_elim (λ e. e ∙ o.0) (λ (h : (cell ≡ at_row s.row) × ((links s.row).row ≡ l.row)). absurd (val_final m.mark (ap (λ (z : Link). z.mark) (sym o.0) ∙ present s.row h.0) o.1)) (changed s.row), o.1)
+      (⊎_elim (λ e. e ∙ o.0) (λ (h : (cell ≡ at_row s.row) × ((links s.row).row ≡ l.row)). absurd (cell_final m.mark (ap (λ (z : Link). is_cell z.mark) (sym o.0) ∙ present s.row h.0) o.1)) (changed s.row), o.1)
 
   standing_part : Standing n links c.words.event (put c.rows j now_rows)
   standing_part = record {
@@ -372,24 +367,11 @@ module _ (c : Core) (j : ℕ) (cell : Cell) (x : ℕ) (l : Link) (b : j < c.star
         (changed y.row);
   }
 
-  -- a row that is in no hand was in none
-  was_outside : (r : ℕ) → IsOutside holding r → IsOutside c.holding r
-  was_outside r out i at = dite (ℕ_discrete r x) (λ (e : r ≡ x). let z : ◌≡◌ {A = ℕ} 1 0 = ap sort (sym was ∙ (ap c.holding (sym e) ∙ at)) in absurd (omega arith)) (λ ne. out i (put_else c.holding x (cut_by j) r ne ∙ at))
-
-  listed_before : (r k : ℕ) → holding r ≡ listed k → (c.holding r ≡ listed k) × (r ≢ x)
-  listed_before r k = put_all c.holding x (cut_by j) (λ s h. h ≡ listed k → (c.holding s ≡ listed k) × (s ≢ x)) (λ e. let z : 2 ≡ 1 = ap sort e in absurd (omega arith)) (λ s ne e. (e, ne)) r
-
   names_before : (k : ℕ) (d : CutDebt) → HasName (put c.named j now_names k) d → HasName (c.named k) d
   names_before k d = put_all c.named j now_names (λ i t. HasName t d → HasName (c.named i) d) (⊎_elim (λ is. inl (debt_left x (c.named j).first d is)) inr) (λ _ _ h. h) k
 
-  -- a head that is frozen stays as it is
-  front_stays : (z : Cell) → (link_at c.words.head c.words.link z).mark ≡ Val → (h s : ℕ) → ((c.words.head h).mark ≡ Mov) × ((c.words.head h).row ≡ s)
-      → ((heads_cut c.words.head c.words.link l.row z h).mark ≡ Mov) × ((heads_cut c.words.head c.words.link l.row z h).row ≡ s)
-  front_stays (at_row p) is h s front = front
-  front_stays (at_head k) is h s front = subst (λ (y : Link). (y.mark ≡ Mov) × (y.row ≡ s)) (sym (put_else c.words.head k (record (c.words.head k) { row = l.row }) h (λ e. mov_val (sym front.0 ∙ (ap (λ z. (c.words.head z).mark) e ∙ is))))) front
-
   name_stays : (d : CutDebt) (r : ℕ) → IsNamed c.words.head d r (c.words.event r) (c.words.link r) → IsNamed heads d r (c.words.event r) (links r)
-  name_stays d r n = record { row = n.row; event = n.event; generation = n.generation ∙ sym (link_generation c.words.head c.words.link l.row cell r); front = λ is. front_stays cell val d.head r (n.front is) }
+  name_stays d r n = record { row = n.row; event = n.event; generation = n.generation ∙ sym (link_generation c.words.head c.words.link l.row cell r); front = λ is. front_stays d.head r (n.front is) }
 
   naming_part : Naming c.start.layout heads links c.words.event (put c.named j now_names) holding
   naming_part = record {
@@ -406,16 +388,20 @@ module _ (c : Core) (j : ℕ) (cell : Cell) (x : ℕ) (l : Link) (b : j < c.star
   }
 
   -- The row x was dead, so the same rows are live
-  not_x : (r : ℕ) → IsLive c.start.layout c.words.link c.holding r → r ≢ x
-  not_x r v e = del_val (sym dead ∙ (ap (λ z. (c.words.link z).mark) (sym e) ∙ v.2))
+  not_x : (r : ℕ) → IsLive c.start.layout c.words.link c.words.twin c.holding r → r ≢ x
+  not_x r v e = dead_carries (c.words.link r).mark (c.words.twin r) (c.words.link (c.words.twin r)).mark (ap (λ z. (c.words.link z).mark) e ∙ dead) v.2
 
-  live_now : (r : ℕ) → IsLive c.start.layout c.words.link c.holding r → IsLive c.start.layout links holding r
-  live_now r v = (v.0, (v.1.0, put_else c.holding x (cut_by j) r (not_x r v) ∙ v.1.1), link_mark c.words.head c.words.link l.row cell r ∙ v.2)
+  live_now : (r : ℕ) → IsLive c.start.layout c.words.link c.words.twin c.holding r → IsLive c.start.layout links c.words.twin holding r
+  live_now r v = (
+    v.0,
+    (v.1.0, put_else c.holding x (cut_by j) r (not_x r v) ∙ v.1.1),
+    subst (λ (z : Mark × Mark). IsCarrying z.0 (c.words.twin r) z.1) (λ i. (sym (same_mark r) i, sym (same_mark (c.words.twin r)) i)) v.2,
+  )
 
-  live_before : (r : ℕ) → IsLive c.start.layout links holding r → IsLive c.start.layout c.words.link c.holding r
-  live_before r v = (v.0, (v.1.0, (listed_before r v.1.0 v.1.1).0), sym (link_mark c.words.head c.words.link l.row cell r) ∙ v.2)
+  live_before : (r : ℕ) → IsLive c.start.layout links c.words.twin holding r → IsLive c.start.layout c.words.link c.words.twin c.holding r
+  live_before r v = (v.0, (v.1.0, (listed_before r v.1.0 v.1.1).0), subst (λ (z : Mark × Mark). IsCarrying z.0 (c.words.twin r) z.1) (λ i. (same_mark r i, same_mark (c.words.twin r) i)) v.2)
 
-  carriers_part : Carriers c.start.layout c.history links c.words.event holding
+  carriers_part : Carriers c.start.layout c.history links c.words.twin c.words.event holding
   carriers_part = record {
     carried = λ e p. let o = inv.carriers.carried e p in (o.0, live_now o.0 o.1, o.2);
     pending = λ r v. inv.carriers.pending r (live_before r v);
@@ -469,7 +455,7 @@ module _ (c : Core) (j : ℕ) (cell : Cell) (x : ℕ) (l : Link) (b : j < c.star
     cover = cover_part;
     sizes = sizes_rows _ _ _ _ _ _ _ _ _ (λ h _. head_generation c.words.head c.words.link l.row cell h) (λ r _ out. inl (was_outside r out, link_generation c.words.head c.words.link l.row cell r)) inv.sizes;
     dues = dues_named _ _ _ _ _ _ _ (λ k d _ has. inl (names_before k d has)) inv.dues;
-    steady = steady_names _ _ _ _ _ _ (λ k d _ has. inl (names_before k d has)) (steady_rows _ _ _ _ _ _ _ (λ r _ out. inl (was_outside r out, link_generation c.words.head c.words.link l.row cell r)) inv.steady);
+    steady = steady_names _ _ _ _ _ _ (λ k d _ has. inl (names_before k d has)) (steady_rows _ _ _ _ _ _ _ (λ r _ out. inl (was_outside r out, link_generation c.words.head c.words.link l.row cell r, inl (same_mark r))) inv.steady);
     heads = heads_part;
     sorted = sorted_part;
     marks = marks_part;
@@ -487,6 +473,6 @@ module _ (c : Core) (j : ℕ) (cell : Cell) (x : ℕ) (l : Link) (b : j < c.star
   }
 
 -- Cut
-pub cut_keeps : (c : Core) (j : ℕ) (cell : Cell) (x : ℕ) (l : Link) → j < c.start.layout.workers → MayCut cell x l (caller_of c j) → (link_at c.words.head c.words.link cell).mark ≡ Val → (link_at c.words.head c.words.link cell).row ≡ x
+pub cut_keeps : (c : Core) (j : ℕ) (cell : Cell) (x : ℕ) (l : Link) → j < c.start.layout.workers → MayCut cell x l (caller_of c j) → is_cell (link_at c.words.head c.words.link cell).mark ≡ true → (link_at c.words.head c.words.link cell).row ≡ x
     → Inv c → Inv (cut_from c j cell x l)
 cut_keeps = cut_inv

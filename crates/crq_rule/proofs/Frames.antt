@@ -67,10 +67,10 @@ pub frame_rows : (c : Core) (stamp : ℕ → ℕ) (hand : ℕ → List ℕ) (rip
     → Cover (ground_of c) cut holding
     → Sizes c.start c.words.control c.shape c.words.head c.words.link holding
     → Steady c.start c.words.control c.words.link holding c.named
-    → Marks c.start.layout c.words.link c.words.twin holding
+    → Marks c.start.layout c.words.control c.words.head c.words.link c.words.twin holding
     → Writing c.start.layout.workers c.words.link c.words.twin c.words.event hand c.written
     → Naming c.start.layout c.words.head c.words.link c.words.event c.named holding
-    → Carriers c.start.layout c.history c.words.link c.words.event holding
+    → Carriers c.start.layout c.history c.words.link c.words.twin c.words.event holding
     → Walkers c.start.layout c.words.control c.history c.begun c.words.link c.words.twin c.words.event holding c.rows c.walk
     → Scarce c.start.layout c.words.epoch c.history base c.guard holding
     → Refusals c.start.layout.workers c.history refused

@@ -4,6 +4,7 @@ pub mod PartLaws
 pub mod HolderLaws
 pub mod CoverLaws
 pub mod StandLaws
+pub mod HeadLaws
 pub mod SizeLaws
 pub mod SteadyLaws
 pub mod ChainLaws

@@ -1,5 +1,5 @@
 -- A row in hand that comes after a cell of its list keeps the invariant.
-use Rattle.std.proofs.Common.{◌≡◌, ◌≢◌, ◌⊎◌, ⊎_elim, inl, inr, ℕ, ◌+◌, ◌*◌, ◌^◌, ◌<◌, ◌≤◌, List, [], ◌∷◌, ◌++◌, cond, Some, le_refl, sym, refl, ap, ◌∙◌, subst, arith, eq-eqb, ne_eqb}
+use Rattle.std.proofs.Common.{◌≡◌, ◌≢◌, ◌⊎◌, ⊎_elim, inl, inr, ℕ, ◌+◌, ◌*◌, ◌^◌, ◌<◌, ◌≤◌, List, [], ◌∷◌, ◌++◌, cond, true, Some, le_refl, sym, refl, ap, ◌∙◌, subst, arith, eq-eqb, ne_eqb}
 use Rattle.std.specs.Prelude.{Contains}
 use mathlib.Core.Logic.{dite}
 use native.Mathlib.Decide.{ℕ_discrete}
@@ -20,15 +20,16 @@ use Rattle.crq_rule.specs.declared.view.Wrote.{Wrote}
 use Rattle.crq_rule.specs.Lists.{put}
 use Rattle.crq_rule.specs.Places.{IsRow, IsHomeRow, IsHead}
 use Rattle.crq_rule.specs.Core.{Core, IsOutside, HasName, caller_of, Holding, in_hand, listed, cut_by, retired}
-use Rattle.crq_rule.specs.Parts.{Fits, Spelled, IsEvent, Holders, Stamps, stamp_of, Chains, Leads, Names, IsPath, Reaches, Ground, ground_of, footings, Covers, IsGuarded, Cover, HasTag, IsOn}
-use Rattle.crq_rule.specs.ListParts.{ranks, Heads, IsShutHead, Sorted, MarkFits, TwinFits, Marks, IsFinal, Standing, Lanes, row_word, Writing, IsNamed, Naming}
-use Rattle.crq_rule.specs.HistoryParts.{IsLive, Carriers, Walkers}
-use Rattle.crq_rule.specs.Ranks.{rank, list_in, head_of, IsOpen, Cell, at_head, at_row, link_at, heads_set, links_set, Rises, after_cell}
+use Rattle.crq_rule.specs.Parts.{Fits, Spelled, IsEvent, Holders, Stamps, stamp_of, Chains, Leads, Names, IsPath, Reaches, Ground, ground_of, footings, Covers, IsGuarded, Cover, HasTag, IsOn, newest}
+use Rattle.crq_rule.specs.ListParts.{ranks, Heads, Sorted, MarkFits, Marks, IsFinal, Standing, Lanes, row_word, Writing, IsNamed, Naming}
+use Rattle.crq_rule.specs.HistoryParts.{IsCarrying, IsLive, Carriers, Walkers}
+use Rattle.crq_rule.specs.Ranks.{rank, list_in, head_of, Cell, at_head, at_row, link_at, heads_set, links_set, Rises, after_cell}
 use Rattle.crq_rule.specs.Invariant.{Inv}
-use Rattle.crq_rule.specs.ListKinds.{unhanded, forgotten, put_entries, linked, StandsOn, ComesAfter, MayLink}
+use Rattle.crq_rule.specs.ListKinds.{is_cell, unhanded, forgotten, put_entries, linked, StandsOn, ComesAfter, MayLink}
 use Rattle.crq_rule.proofs.Puts.{put_here, put_else, put_all}
 use Rattle.crq_rule.proofs.PartLaws.{home_is_row, one_home, sort, of_whom, apart}
 use Rattle.crq_rule.specs.declared.debts.CutDebt.{CutDebt}
+use Rattle.crq_rule.proofs.HeadLaws.{cell_final, cell_frozen, cell_listed, val_carries, heads_rows}
 use Rattle.crq_rule.proofs.SizeLaws.{fitting_list, sizes_rows}
 use Rattle.crq_rule.proofs.SteadyLaws.{found_now, steady_rows}
 use Rattle.crq_rule.proofs.CoverLaws.{stand_row, row_footing}
@@ -136,20 +137,10 @@ val_del e = cc
 val_mov : Val ≡ Mov → ⊥
 val_mov e = cc
 
-not_final : (m : Mark) → m ≡ Val → IsFinal m → ⊥
-not_final m is final = subst IsFinal is final
-
 on_is : (g : Guard) → IsOn g → (x : ℕ) × (g ≡ On x)
 on_is Off on = absurd on
 on_is (Entering y) on = absurd on
 on_is (On x) on = (x, refl)
-
--- a present row that isn't in hand is listed
-listed_is : (h : Holding) (m : Mark) → MarkFits h m → m ≡ Val → ((k : ℕ) → h ≡ in_hand k → ⊥) → (q : ℕ) × (h ≡ listed q)
-listed_is (in_hand k) m fits is none = absurd (none k refl)
-listed_is (listed q) m fits is none = (q, refl)
-listed_is (cut_by k) m fits is none = absurd (val_del (sym is ∙ fits))
-listed_is (retired t) m fits is none = absurd (val_del (sym is ∙ fits))
 
 -- events with the same words are the same
 event_one : (a b : Event) → IsEvent a → IsEvent b → a.time * 2 ^ 32 + a.dst ≡ b.time * 2 ^ 32 + b.dst → a.src ≡ b.src → a.seq ≡ b.seq → a.load ≡ b.load → a ≡ b
@@ -170,11 +161,11 @@ record Linking (c : Core) (j : ℕ) (cell : Cell) (l : Link) (r q : ℕ) (e : Ev
   hand : In r (c.hand j)
   held : c.holding r ≡ in_hand j
   spelled : IsLink l
-  link_is : c.words.link r ≡ l
+  link_is : c.words.link r ≡ record l { mark = Val }
   twin_is : c.words.twin r ≡ 0
   event_is : c.words.event r ≡ e
   cell_is : link_at c.words.head c.words.link cell ≡ l
-  mark_is : l.mark ≡ Val
+  mark_is : is_cell l.mark ≡ true
   now : l.generation ≡ c.words.control.generation
   is_head : IsHead q
   of : IsOf cell q (c.chain q)
@@ -182,7 +173,7 @@ record Linking (c : Core) (j : ℕ) (cell : Cell) (l : Link) (r q : ℕ) (e : Ev
   next : (l.row ≡ 0) ⊎ (ranks c.words.event r < ranks c.words.event l.row)
 
 -- the list of a cell whose link is of the table of a control word that was found
-cell_of : (c : Core) (j : ℕ) (x : Control) (cell : Cell) (r : ℕ) (e : Event) → j < c.start.layout.workers → IsOn (c.guard j) → Fits c.start c.words.control c.shape x → (link_at c.words.head c.words.link cell).mark ≡ Val
+cell_of : (c : Core) (j : ℕ) (x : Control) (cell : Cell) (r : ℕ) (e : Event) → j < c.start.layout.workers → IsOn (c.guard j) → Fits c.start c.words.control c.shape x → is_cell (link_at c.words.head c.words.link cell).mark ≡ true
     → (link_at c.words.head c.words.link cell).generation ≡ x.generation → c.words.event r ≡ e → ComesAfter x (c.rows j) cell r e → Inv c → let q = head_of x e in IsHead q × IsOf cell q (c.chain q) × IsBelow (ranks c.words.event) cell r
 cell_of c j x (at_head h) r e b on fits mark same event after inv = (subst IsHead (sym after.1) after.0, sym after.1, tt)
 cell_of c j x (at_row p) r e b on fits mark same event after inv =
@@ -195,7 +186,7 @@ cell_of c j x (at_row p) r e b on fits mark same event after inv =
       reaches = record { through = []; path = refl };
     } in
     let row = inv.lanes.is_row p (j, g.0, covers) in
-    let lists = listed_is (c.holding p) (c.words.link p).mark (inv.marks.mark p row) mark (λ k h. inv.cover.free j g.0 p k covers h) in
+    let lists = cell_listed (c.holding p) (c.words.link p).mark mark (λ k h. inv.cover.free j g.0 p k covers h) (inv.marks.mark p row) in
     let found = inv.holders.of_chain lists.0 p row lists.1 in
     let holds : c.words.event p ≡ f = subst (λ z. c.words.event z ≡ f) s.2 (inv.standing.holds j s.0 b s.1 ∙ s.3) in
     let generation : (c.words.head lists.0).generation ≡ x.generation = sym (inv.sorted.generation lists.0 p found.0 found.1) ∙ same in
@@ -211,18 +202,17 @@ known c j x cell l r e b may is inv =
     let held = inv.holders.held j r b may.in_hand_is in
     let row = home_is_row c.start.layout j r b held.0 in
     let w = may.written in let word = inv.writing.stands j in
-    let present : record l { mark = Val } ≡ l = λ i. record l { mark = sym may.expected.1 i } in
     let event = event_one (c.words.event r) e (inv.spelled.events r row) may.event (word _ b w.time_is) (word _ b w.source_is) (word _ b w.sequence_is) (word _ b w.load_is) in
     let fits = inv.finds.controls j x b may.control in
     let list : head_of x e ≡ list_in c.shape l.generation e = sym (fitting_list c.start c.words.control c.shape x fits e) ∙ ap (λ g. list_in c.shape g e) (sym may.expected.2) in
     let at = subst (λ q. IsHead q × IsOf cell q (c.chain q) × IsBelow (ranks c.words.event) cell r) list
-    (cell_of c j x cell r e b may.on fits (ap (λ (y : Link). y.mark) is ∙ may.expected.1) (ap (λ (y : Link). y.generation) is ∙ may.expected.2) event may.after inv) in record {
+    (cell_of c j x cell r e b may.on fits (ap (λ (y : Link). is_cell y.mark) is ∙ may.expected.1) (ap (λ (y : Link). y.generation) is ∙ may.expected.2) event may.after inv) in record {
       inside = b;
       row = row;
       hand = may.in_hand_is;
       held = held.1;
       spelled = may.expected.0;
-      link_is = link_one (c.words.link r) (record l { mark = Val }) (inv.spelled.links r row) (record { generation = may.expected.0.generation; row = may.expected.0.row }) (word _ b w.link_is) ∙ present;
+      link_is = link_one (c.words.link r) (record l { mark = Val }) (inv.spelled.links r row) (record { generation = may.expected.0.generation; row = may.expected.0.row }) (word _ b w.link_is);
       twin_is = word _ b w.twin_is;
       event_is = event;
       cell_is = is;
@@ -278,7 +268,7 @@ module _ (c : Core) (j : ℕ) (cell : Cell) (l : Link) (r : ℕ) (e : Event) whe
     same_generation s = links_same (λ (y : Link). y.generation) cell c.words.head c.words.link new s (ap (λ (y : Link). y.generation) (sym f.cell_is))
 
     same_row : (c.words.link r).row ≡ (link_at c.words.head c.words.link cell).row
-    same_row = ap (λ (y : Link). y.row) (f.link_is ∙ sym f.cell_is)
+    same_row = ap (λ (y : Link). y.row) f.link_is ∙ ap (λ (y : Link). y.row) (sym f.cell_is)
 
     -- a row that is held otherwise stays with its holder
     stays : (s : ℕ) (h : Holding) → c.holding s ≡ h → 0 ≢ sort h → holding' s ≡ h
@@ -351,12 +341,40 @@ module _ (c : Core) (j : ℕ) (cell : Cell) (l : Link) (r : ℕ) (e : Event) whe
       ripe = λ k s t b i. let h = old.ripe k s t b i in (h.0, stays s (retired t) h.1 (omega arith));
     }
 
-    marks_after : Marks c.start.layout link' c.words.twin holding'
+    -- the mark of the row r, and of a head that is frozen
+    own_mark : (link' r).mark ≡ Val
+    own_mark = same_mark r ∙ ap (λ (y : Link). y.mark) f.link_is
+
+    frozen_stays : (cell : Cell) → link_at c.words.head c.words.link cell ≡ l → (h : ℕ) → (c.words.head h).mark ≡ Mov → heads_set c.words.head cell new h ≡ c.words.head h
+    frozen_stays (at_row p) is h frozen = refl
+    frozen_stays (at_head k) is h frozen = put_else c.words.head k new h (λ e. cell_frozen l.mark f.mark_is (ap (λ (y : Link). y.mark) (sym is) ∙ (ap (λ z. (c.words.head z).mark) (sym e) ∙ frozen)))
+
+    front_stays : (h s : ℕ) → ((c.words.head h).mark ≡ Mov) × ((c.words.head h).row ≡ s) → ((head' h).mark ≡ Mov) × ((head' h).row ≡ s)
+    front_stays h s front = subst (λ (y : Link). (y.mark ≡ Mov) × (y.row ≡ s)) (sym (frozen_stays cell f.cell_is h front.0)) front
+
+    -- a row in no hand is the row r, which is present, or was in none
+    was_else : (s : ℕ) → IsOutside holding' s → ((s ≡ r) × ((link' s).mark ≡ Val)) ⊎ IsOutside c.holding s
+    was_else s out = ⊎_elim (λ (z : s ≡ r). inl (z, ap (λ y. (link' y).mark) z ∙ own_mark)) inr (was_outside s out)
+
+    marks_after : Marks c.start.layout c.words.control head' link' c.words.twin holding'
     marks_after = let old = inv.marks in record {
-      mark = λ s. put_all c.holding r (listed q) (λ s h. IsRow c.start.layout s → MarkFits h (link' s).mark) (λ _. inl (same_mark r ∙ (ap (λ (y : Link). y.mark) f.link_is ∙ f.mark_is)))
-          (λ s _ b. subst (MarkFits (c.holding s)) (sym (same_mark s)) (old.mark s b)) s;
-      twin_is = λ s. put_all c.holding r (listed q) (λ s h. IsRow c.start.layout s → TwinFits h (c.words.twin s)) (λ _. f.twin_is) (λ s _. old.twin_is s) s;
+      mark = λ s. put_all c.holding r (listed q) (λ s h. IsRow c.start.layout s → MarkFits h (link' s).mark) (λ _. tt) (λ s _ b. subst (MarkFits (c.holding s)) (sym (same_mark s)) (old.mark s b)) s;
+      first = λ h s b at frozen. put_all c.holding r (listed q) (λ s x. IsRow c.start.layout s → x ≡ listed h → (link' s).mark ≡ Mov → ((head' h).mark ≡ Mov) × ((head' h).row ≡ s))
+          (λ _ _ m. absurd (val_mov (sym own_mark ∙ m))) (λ s _ b at m. front_stays h s (old.first h s b at (sym (same_mark s) ∙ m))) s b at frozen;
+      bare = λ s b out live. ⊎_elim (λ z. ap c.words.twin z.0 ∙ f.twin_is) (λ was. old.bare s b was (λ m. live (same_mark s ∙ m))) (was_else s out);
+      aged = λ s b out m. ⊎_elim (λ z. absurd (val_mov (sym z.1 ∙ m))) (λ was. subst (λ g. g < newest c.words.control) (sym (same_generation s)) (old.aged s b was (sym (same_mark s) ∙ m))) (was_else s out);
     }
+
+    -- the twin of the row s is 0 or listed
+    abbrev TwinIn : (ℕ → List ℕ) → ℕ → Type 0
+    TwinIn chain s = (c.words.twin s ≡ 0) ⊎ ((p : ℕ) × IsHead p × In (c.words.twin s) (chain p))
+
+    twin_in : (s : ℕ) → TwinIn c.chain s → TwinIn chain' s
+    twin_in s was = ⊎_elim inl (λ (h : (p : ℕ) × IsHead p × In (c.words.twin s) (c.chain p)). inr (
+      h.0,
+      h.1,
+      put_all c.chain q more (λ p xs. In (c.words.twin s) (c.chain p) → In (c.words.twin s) xs) (λ i. cell_in cell q r (c.words.twin s) (c.chain q) f.of (inr i)) (λ _ _ i. i) h.0 h.2,
+    )) was
 
     chains_after : Chains head' link' c.words.twin chain'
     chains_after = record {
@@ -364,22 +382,15 @@ module _ (c : Core) (j : ℕ) (cell : Cell) (l : Link) (r : ℕ) (e : Event) whe
           (λ _. cell_leads cell c.words.head c.words.link (ranks c.words.event) q r new (c.chain q) f.of leads (inv.sorted.rises q f.is_head) refl same_row (unlisted q f.is_head))
           (λ h ne b. subst (λ (y : Link). Leads link' y.row (c.chain h)) (sym (heads_else cell c.words.head new q h (c.chain q) f.of ne))
           (leads_else c.words.link link' (c.words.head h).row (c.chain h) (λ s i. link_else s (other_list h s b ne i)) (inv.chains.leads h b)));
-      twins = λ h s b i. let t = holders_after.in_chain h s b i in inl (subst (λ x. TwinFits x (c.words.twin s)) t.1 (marks_after.twin_is s t.0));
+      twins = λ h s. put_all c.chain q more (λ h xs. IsHead h → In s xs → TwinIn chain' s)
+          (λ b i. ⊎_elim (λ (z : s ≡ r). inl (ap c.words.twin z ∙ f.twin_is)) (λ i. twin_in s (inv.chains.twins q s b i)) (in_cell cell r s (c.chain q) i)) (λ h _ b i. twin_in s (inv.chains.twins h s b i)) h;
     }
 
     same_head : (h : ℕ) → (head' h).generation ≡ (c.words.head h).generation
     same_head h = heads_same (λ (y : Link). y.generation) cell c.words.head c.words.link new h (ap (λ (y : Link). y.generation) (sym f.cell_is))
 
-    shut : (cell : Cell) → link_at c.words.head c.words.link cell ≡ l → (h : ℕ) → IsHead h → (IsOpen c.words.control h → ⊥) → IsShutHead c.words.control (heads_set c.words.head cell new h)
-    shut (at_row p) is h = inv.heads.shut h
-    shut (at_head k) is h = put_all c.words.head k new (λ h y. IsHead h → (IsOpen c.words.control h → ⊥) → IsShutHead c.words.control y)
-        (λ b out. absurd (val_mov (sym f.mark_is ∙ (ap (λ (y : Link). y.mark) (sym is) ∙ (inv.heads.shut k b out).0)))) (λ h _. inv.heads.shut h) h
-
-    heads_after : Heads c.words.control head'
-    heads_after = record {
-      opened = λ h b is_open. let o = inv.heads.opened h b is_open in (heads_same (λ (y : Link). y.mark) cell c.words.head c.words.link new h (ap (λ (y : Link). y.mark) (sym f.cell_is)) ∙ o.0, same_head h ∙ o.1);
-      shut = shut cell f.cell_is;
-    }
+    heads_after : Heads c.words.control c.shape head'
+    heads_after = heads_rows c.words.control c.shape c.words.head head' same_head (λ h. heads_same (λ (y : Link). y.mark) cell c.words.head c.words.link new h (ap (λ (y : Link). y.mark) (sym f.cell_is))) (frozen_stays cell f.cell_is) inv.heads
 
     -- the link found is of the list's generation
     generation_is : (cell : Cell) → link_at c.words.head c.words.link cell ≡ l → IsOf cell q (c.chain q) → l.generation ≡ (c.words.head q).generation
@@ -430,7 +441,7 @@ module _ (c : Core) (j : ℕ) (cell : Cell) (l : Link) (r : ℕ) (e : Event) whe
     -- a link that is the last one stays
     link_last : (cell : Cell) → link_at c.words.head c.words.link cell ≡ l → (s : ℕ) → IsFinal (c.words.link s).mark → links_set c.words.link cell new s ≡ c.words.link s
     link_last (at_head h) is s final = refl
-    link_last (at_row p) is s final = put_else c.words.link p new s (λ (z : s ≡ p). not_final (c.words.link s).mark (ap (λ y. (c.words.link y).mark) z ∙ (ap (λ (y : Link). y.mark) is ∙ f.mark_is)) final)
+    link_last (at_row p) is s final = put_else c.words.link p new s (λ (z : s ≡ p). cell_final (c.words.link s).mark (ap (λ y. is_cell (c.words.link y).mark) z ∙ (ap (λ (y : Link). is_cell y.mark) is ∙ f.mark_is)) final)
 
     standing_after : Standing c.start.layout.workers link' c.words.event c.rows
     standing_after = record {
@@ -494,36 +505,34 @@ module _ (c : Core) (j : ℕ) (cell : Cell) (l : Link) (r : ℕ) (e : Event) whe
         still : (k : ℕ) (x : Wrote) → k < c.start.layout.workers → In x (c.written k) → row_word (link' x.row) (c.words.twin x.row) (c.words.event x.row) x.place ≡ x.word
         still k x b i = subst (λ y. row_word y (c.words.twin x.row) (c.words.event x.row) x.place ≡ x.word) (sym (link_of_hand k x.row (inv.holders.held k x.row b (inv.writing.in_hand_is k x b i)).1)) (inv.writing.stands k x b i)
 
-    -- a head that is frozen stays as it is
-    front_stays : (cell : Cell) → link_at c.words.head c.words.link cell ≡ l → (h s : ℕ) → ((c.words.head h).mark ≡ Mov) × ((c.words.head h).row ≡ s) → ((heads_set c.words.head cell new h).mark ≡ Mov) × ((heads_set c.words.head cell new h).row ≡ s)
-    front_stays (at_row p) is h s front = front
-    front_stays (at_head k) is h s front = subst (λ (y : Link). (y.mark ≡ Mov) × (y.row ≡ s))
-        (sym (put_else c.words.head k new h (λ e. val_mov (sym f.mark_is ∙ (ap (λ (y : Link). y.mark) (sym is) ∙ (ap (λ z. (c.words.head z).mark) (sym e) ∙ front.0)))))) front
-
     name_stays : (d : CutDebt) (s : ℕ) → IsNamed c.words.head d s (c.words.event s) (c.words.link s) → IsNamed head' d s (c.words.event s) (link' s)
-    name_stays d s n = record { row = n.row; event = n.event; generation = n.generation ∙ sym (same_generation s); front = λ is. front_stays cell f.cell_is d.head s (n.front is) }
+    name_stays d s n = record { row = n.row; event = n.event; generation = n.generation ∙ sym (same_generation s); front = λ is. front_stays d.head s (n.front is) }
 
     naming_after : Naming c.start.layout head' link' c.words.event c.named holding'
     naming_after = record {
       named = λ s h. put_all c.holding r (listed q)
           (λ s x. IsRow c.start.layout s → x ≡ listed h → (link' s).mark ≡ Del → (k : ℕ) × (k < c.start.layout.workers) × ((d : CutDebt) × HasName (c.named k) d × IsNamed head' d s (c.words.event s) (link' s)))
-          (λ _ _ is. absurd (val_del (sym f.mark_is ∙ (ap (λ (y : Link). y.mark) (sym f.link_is) ∙ (sym (same_mark r) ∙ is)))))
+          (λ _ _ is. absurd (val_del (sym own_mark ∙ is)))
           (λ s _ b at is. let o = inv.naming.named s h b at (sym (same_mark s) ∙ is) in (o.0, o.1, (o.2.0, o.2.1, name_stays o.2.0 s o.2.2))) s;
       place = inv.naming.place;
     }
 
     -- the row r is live now, and all that were stay so
-    live_here : IsLive c.start.layout link' holding' r
-    live_here = (f.row, (q, put_here c.holding r (listed q)), same_mark r ∙ (ap (λ (y : Link). y.mark) f.link_is ∙ f.mark_is))
+    live_here : IsLive c.start.layout link' c.words.twin holding' r
+    live_here = (f.row, (q, put_here c.holding r (listed q)), val_carries (link' r).mark (c.words.twin r) (link' (c.words.twin r)).mark own_mark)
 
-    live_after : (s : ℕ) → IsLive c.start.layout c.words.link c.holding s → IsLive c.start.layout link' holding' s
-    live_after s live = (live.0, (live.1.0, stays s (listed live.1.0) live.1.1 (omega arith)), same_mark s ∙ live.2)
+    live_after : (s : ℕ) → IsLive c.start.layout c.words.link c.words.twin c.holding s → IsLive c.start.layout link' c.words.twin holding' s
+    live_after s live = (live.0, (live.1.0, stays s (listed live.1.0) live.1.1 (omega arith)), subst (λ (z : Mark × Mark). IsCarrying z.0 (c.words.twin s) z.1) (λ i. (sym (same_mark s) i, sym (same_mark (c.words.twin s)) i)) live.2)
 
-    live_before : (s : ℕ) → IsLive c.start.layout link' holding' s → (s ≡ r) ⊎ IsLive c.start.layout c.words.link c.holding s
-    live_before s live = dite (ℕ_discrete s r) inl (λ ne. inr (live.0, (live.1.0, sym (put_else c.holding r (listed q) s ne) ∙ live.1.1), sym (same_mark s) ∙ live.2))
+    live_before : (s : ℕ) → IsLive c.start.layout link' c.words.twin holding' s → (s ≡ r) ⊎ IsLive c.start.layout c.words.link c.words.twin c.holding s
+    live_before s live = dite (ℕ_discrete s r) inl (λ ne. inr (
+      live.0,
+      (live.1.0, sym (put_else c.holding r (listed q) s ne) ∙ live.1.1),
+      subst (λ (z : Mark × Mark). IsCarrying z.0 (c.words.twin s) z.1) (λ i. (same_mark s i, same_mark (c.words.twin s) i)) live.2,
+    ))
 
     module _ (none : Contains (puts c.history) e → ⊥) where
-      carriers_after : Carriers c.start.layout (c.history ++ put_entries j e) link' c.words.event holding'
+      carriers_after : Carriers c.start.layout (c.history ++ put_entries j e) link' c.words.twin c.words.event holding'
       carriers_after = let old = inv.carriers in record {
         carried = λ x pending. ⊎_elim (λ p. let t = old.carried x p in (t.0, live_after t.0 t.1, t.2)) (λ (is : x ≡ e). (r, live_here, f.event_is ∙ sym is)) (pending_put c.history j e x pending);
         pending = λ s live. put_pending c.history j e (c.words.event s) (⊎_elim
@@ -534,7 +543,7 @@ module _ (c : Core) (j : ℕ) (cell : Cell) (l : Link) (r : ℕ) (e : Event) whe
             (λ live. ⊎_elim (λ (y : t ≡ r). absurd (other s live (same ∙ (ap c.words.event y ∙ f.event_is)))) (λ live'. old.one s t live live' same) (live_before t at')) (live_before s at);
       }
         where
-          other : (s : ℕ) → IsLive c.start.layout c.words.link c.holding s → c.words.event s ≡ e → ⊥
+          other : (s : ℕ) → IsLive c.start.layout c.words.link c.words.twin c.holding s → c.words.event s ≡ e → ⊥
           other s live is = none (subst (Contains (puts c.history)) is (inv.carriers.pending s live).put)
 
     walkers_after : Walkers c.start.layout c.words.control (c.history ++ put_entries j e) c.begun link' c.words.twin c.words.event holding' c.rows c.walk
@@ -571,7 +580,8 @@ link_keeps c j cell l r e b (x, may) is inv = let f = known c j x cell l r e b m
   sizes = sizes_rows _ _ _ _ _ _ _ _ _ (λ h _. same_head c j cell l r e f inv h) (λ s b out. ⊎_elim (λ (z : s ≡ r). inr (let now = ap (λ z. (link' c j cell l r e z).generation) z ∙ new_now c j cell l r e f inv in omega arith))
       (λ h. inl (h, same_generation c j cell l r e f inv s)) (was_outside c j cell l r e f inv s out)) inv.sizes;
   dues = inv.dues;
-  steady = steady_rows _ _ _ _ _ _ _ (λ s b out. ⊎_elim (λ (z : s ≡ r). inr (ap (λ z. (link' c j cell l r e z).generation) z ∙ new_now c j cell l r e f inv)) (λ h. inl (h, same_generation c j cell l r e f inv s)) (was_outside c j cell l r e f inv s out)) inv.steady;
+  steady = steady_rows _ _ _ _ _ _ _ (λ s b out. ⊎_elim (λ (z : s ≡ r). inr (ap (λ z. (link' c j cell l r e z).generation) z ∙ new_now c j cell l r e f inv, ap (λ z. (link' c j cell l r e z).mark) z ∙ own_mark c j cell l r e f inv))
+      (λ h. inl (h, same_generation c j cell l r e f inv s, inl (same_mark c j cell l r e f inv s))) (was_outside c j cell l r e f inv s out)) inv.steady;
   heads = heads_after c j cell l r e f inv;
   sorted = sorted_after c j cell l r e f inv;
   marks = marks_after c j cell l r e f inv;

@@ -1,11 +1,12 @@
 -- A new table has empty lists, and all rows in hand: it meets the parts of the invariant on lists and on the history.
-use Rattle.std.proofs.Common.{◌≡◌, ◌⊎◌, ⊎_elim, le_refl, ℕ, ◌+◌, ◌<◌, ◌≤◌, cond, ◌&&◌, Bool, true, false, ltb, leb, List, [], ◌∷◌, ◌++◌, Some, None, sym, refl, ap, subst, arith}
+use Rattle.std.proofs.Common.{◌≡◌, ◌⊎◌, ⊎_elim, le_refl, ℕ, ◌+◌, ◌≤◌, cond, ◌&&◌, Bool, true, false, ltb, leb, List, [], ◌∷◌, ◌++◌, Some, None, sym, refl, ap, subst, arith, inl}
 use Rattle.std.proofs.lemmas.Bool.{false≢true, lt-ltb, ltb-true, le-leb, leb-true}
 use Rattle.crq_base.specs.declared.entry.Entry.{Entry}
 use Rattle.crq_base.specs.declared.entry.Entry.TheVariants.{Begin}
 use Rattle.crq_base.specs.declared.words.Link.{Link}
 use Rattle.crq_base.specs.Words.{IsControl}
 use Rattle.crq_base.specs.Starts.{IsFirst}
+use Rattle.crq_base.specs.declared.words.Mark.TheVariants.{Val}
 use Rattle.crq_rule.specs.declared.debts.SettleDebt.{SettleDebt}
 use Rattle.crq_rule.specs.declared.debts.CopyDebt.{CopyDebt}
 use Rattle.crq_rule.specs.declared.debts.CutDebt.{CutDebt}
@@ -16,7 +17,7 @@ use Rattle.crq_rule.specs.Core.{in_hand, listed}
 use Rattle.crq_rule.specs.Ranks.{first_head_of, IsOpen}
 use Rattle.crq_rule.specs.Parts.{ground_of, Fits}
 use Rattle.crq_rule.specs.Steady.{Steady}
-use Rattle.crq_rule.specs.ListParts.{Sizes, Dues, Heads, Sorted, Marks, Standing, Lanes, Writing, Naming, IsOpenHead, IsShutHead}
+use Rattle.crq_rule.specs.ListParts.{Sizes, Dues, Heads, Sorted, Marks, Standing, Lanes, Writing, Naming, IsShut}
 use Rattle.crq_rule.specs.HistoryParts.{Carriers, Told, Walkers, IsLive}
 use Rattle.crq_rule.specs.Opening.{home_of, opening_core, opening_head, open_head, shut_head}
 use Rattle.crq_rule.proofs.PartLaws.{sort}
@@ -51,24 +52,29 @@ no_begin [] j e = cc
 no_begin (x ∷ xs) j e = cc
 
 module _ (s : Start) (first : IsFirst s.first) where
-  pub opening_heads : Heads (opening_core s).words.control (opening_core s).words.head
-  opening_heads = record { opened = λ q _ o. opened q o.0 o.1; shut = λ q _ out. shut q (leb (first_head_of s.first.generation) q) (ltb q (first_head_of s.first.generation + 1)) refl refl out }
-    where
-      opened : (q : ℕ) → first_head_of s.first.generation ≤ q → q < first_head_of s.first.generation + 1 → IsOpenHead (opening_core s).words.control (opening_head s.first.generation q)
-      opened q low high = subst (λ (l : Link). IsOpenHead (opening_core s).words.control l)
-          (λ i. cond (sym (le-leb (first_head_of s.first.generation) q low) i && sym (lt-ltb q (first_head_of s.first.generation + 1) high) i) (open_head s.first.generation) shut_head) (refl, refl)
+  -- a head of the table, and one that isn't
+  opened : (q : ℕ) → IsOpen (opening_core s).words.control q → opening_head s.first.generation q ≡ open_head s.first.generation
+  opened q o = λ i. cond (le-leb (first_head_of s.first.generation) q o.0 i && lt-ltb q (first_head_of s.first.generation + 1) o.1 i) (open_head s.first.generation) shut_head
 
-      shut : (q : ℕ) (a b : Bool) → leb (first_head_of s.first.generation) q ≡ a → ltb q (first_head_of s.first.generation + 1) ≡ b → (IsOpen (opening_core s).words.control q → ⊥)
-          → IsShutHead (opening_core s).words.control (cond (a && b) (open_head s.first.generation) shut_head)
-      shut q true true e f out = absurd (out (leb-true (first_head_of s.first.generation) q e, ltb-true q (first_head_of s.first.generation + 1) f))
-      shut q false b e f out = (refl, refl, let above = first.from in omega arith)
-      shut q true false e f out = (refl, refl, let above = first.from in omega arith)
+  shut : (q : ℕ) (a b : Bool) → leb (first_head_of s.first.generation) q ≡ a → ltb q (first_head_of s.first.generation + 1) ≡ b → (IsOpen (opening_core s).words.control q → ⊥)
+      → IsShut s.first.generation q (cond (a && b) (open_head s.first.generation) shut_head)
+  shut q true true e f out = absurd (out (leb-true (first_head_of s.first.generation) q e, ltb-true q (first_head_of s.first.generation + 1) f))
+  shut q false b e f out = record { mark = refl; empty = refl; older = let above = first.from in omega arith; bank = inl refl }
+  shut q true false e f out = record { mark = refl; empty = refl; older = let above = first.from in omega arith; bank = inl refl }
+
+  pub opening_heads : Heads (opening_core s).words.control (opening_core s).shape (opening_core s).words.head
+  opening_heads = record {
+    old = λ q _ o. subst (λ (l : Link). (l.generation ≡ s.first.generation) × (l.mark ≡ Val)) (sym (opened q o)) (refl, refl);
+    new = λ q _ n. absurd (false≢true n.0);
+    other = λ q _ out _. shut q (leb (first_head_of s.first.generation) q) (ltb q (first_head_of s.first.generation + 1)) refl refl out;
+    order = λ p q _ _ _ _ n. absurd (false≢true n.0);
+  }
 
   pub opening_sorted : Sorted (opening_core s).shape (opening_core s).words.head (opening_core s).words.link (opening_core s).words.event (opening_core s).chain
   opening_sorted = record { rises = λ _ _. tt; belongs = λ _ _ _ i. absurd i; generation = λ _ _ _ i. absurd i }
 
-  pub opening_marks : Marks s.layout (opening_core s).words.link (opening_core s).words.twin (opening_core s).holding
-  opening_marks = record { mark = λ _ _. tt; twin_is = λ _ _. tt }
+  pub opening_marks : Marks s.layout (opening_core s).words.control (opening_core s).words.head (opening_core s).words.link (opening_core s).words.twin (opening_core s).holding
+  opening_marks = record { mark = λ _ _. tt; first = λ q r _ is _. absurd (hand_listed (home_of s.layout r) q is); bare = λ _ _ _ _. refl; aged = λ r _ out _. absurd (out (home_of s.layout r) refl) }
 
   pub opening_standing : Standing s.layout.workers (opening_core s).words.link (opening_core s).words.event (opening_core s).rows
   opening_standing = record { holds = λ _ _ _ i. absurd i; last = λ _ _ _ _ i _. absurd i }
@@ -102,12 +108,12 @@ module _ (s : Start) (first : IsFirst s.first) where
   opening_dues = record { settles = λ k d _ is. absurd (no_settle d is); copies = λ k d _ is. absurd (no_copy d is); named = λ k d _ has. absurd (no_name d has) }
 
   pub opening_steady : Steady s (opening_core s).words.control (opening_core s).words.link (opening_core s).holding (opening_core s).named
-  opening_steady = record { still = refl; first = refl; one = refl; rows = λ r _ out. absurd (out (home_of s.layout r) refl); named = λ k d _ has. absurd (no_name d has) }
+  opening_steady = record { still = refl; first = refl; one = refl; rows = λ r _ out. absurd (out (home_of s.layout r) refl); marks = λ r _ out. absurd (out (home_of s.layout r) refl); named = λ k d _ has. absurd (no_name d has) }
 
-  none_live : (r : ℕ) → IsLive s.layout (opening_core s).words.link (opening_core s).holding r → ⊥
+  none_live : (r : ℕ) → IsLive s.layout (opening_core s).words.link (opening_core s).words.twin (opening_core s).holding r → ⊥
   none_live r live = hand_listed _ live.1.0 live.1.1
 
-  pub opening_carriers : Carriers s.layout (opening_core s).history (opening_core s).words.link (opening_core s).words.event (opening_core s).holding
+  pub opening_carriers : Carriers s.layout (opening_core s).history (opening_core s).words.link (opening_core s).words.twin (opening_core s).words.event (opening_core s).holding
   opening_carriers = record { carried = λ e p. let low = p.put.1 in absurd (omega arith); pending = λ r live. absurd (none_live r live); one = λ r t live _ _. absurd (none_live r live) }
 
   pub opening_told : Told s.layout.workers (opening_core s).history (opening_core s).deal (opening_core s).own (opening_core s).begun

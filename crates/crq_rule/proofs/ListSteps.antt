@@ -1,5 +1,5 @@
 -- What a step function asks of each kind on lists.
-use Rattle.std.proofs.Common.{◌≡◌, ◌≢◌, ◌⊎◌, inl, inr, ℕ, zero, suc, ◌+◌, ◌*◌, ◌^◌, ◌<◌, ◌≤◌, Bool, false, List, [], ◌∷◌, ◌++◌, None, Some, cond, get_or, set, eqb, sym, refl, ap, ◌∙◌, subst, arith, eq-eqb, ne_eqb}
+use Rattle.std.proofs.Common.{◌≡◌, ◌≢◌, inl, ℕ, zero, suc, ◌+◌, ◌*◌, ◌^◌, ◌<◌, ◌≤◌, Bool, false, List, [], ◌∷◌, ◌++◌, None, Some, cond, get_or, set, eqb, sym, refl, ap, ◌∙◌, subst, arith, eq-eqb, ne_eqb}
 use mathlib.Core.Logic.{dite}
 use native.Mathlib.Decide.{ℕ_discrete}
 use prog.Atomic.{either}
@@ -8,7 +8,6 @@ use Rattle.crq_base.specs.declared.entry.Entry.TheVariants.{Begin as BeginEntry,
 use Rattle.crq_base.specs.declared.kinds.StepKind.{StepKind}
 use Rattle.crq_base.specs.declared.kinds.StepKind.TheVariants.{Write, Walk as WalkKind, Link as LinkKind, ControlLoad, Begin, Mark as MarkKind, Cut as CutKind, Miss}
 use Rattle.crq_base.specs.declared.words.Link.{Link}
-use Rattle.crq_base.specs.declared.words.Mark.{Mark}
 use Rattle.crq_base.specs.declared.words.Mark.TheVariants.{Val, Del}
 use Rattle.crq_base.specs.declared.words.Control.{Control}
 use Rattle.crq_base.specs.Words.{link_word, IsLink}
@@ -16,12 +15,12 @@ use Rattle.crq_rule.specs.declared.layout.Start.{Start}
 use Rattle.crq_rule.specs.declared.view.Stand.{Stand}
 use Rattle.crq_rule.specs.declared.view.Caller.{Caller}
 use Rattle.crq_rule.specs.Places.{index, control, link, IsPlace, IsRow, word_of}
-use Rattle.crq_rule.specs.Core.{Core, Holding, caller_of, owed_by, in_hand, listed, cut_by, retired}
+use Rattle.crq_rule.specs.Core.{Core, caller_of, owed_by}
 use Rattle.crq_rule.specs.Parts.{ground_of, IsOn, Leads, IsGuarded}
-use Rattle.crq_rule.specs.ListParts.{row_word, MarkFits}
+use Rattle.crq_rule.specs.ListParts.{row_word}
 use Rattle.crq_rule.specs.Invariant.{Inv}
 use Rattle.crq_rule.specs.Ranks.{rank, list_in, head_of, IsOpen, Cell, at_head, at_row, cell_place, link_at, heads_set, links_set}
-use Rattle.crq_rule.specs.ListKinds.{stands_after, walk_after, taken_on, sweep_on, clean_on, relieved, Content, new_link, no_twin, new_time, new_source, new_sequence, new_load, IsContent, content_number, content_word, row_place, wrote, writes, links, event_word, loads_control, begins, marks, cuts, misses, MayWalk, MaySeek, MayLink, MayMark, MayCut, MayMiss, ComesAfter, put_entries, unhanded, forgotten, cut_debt, name_in, StandsOn, without_stand, unnamed}
+use Rattle.crq_rule.specs.ListKinds.{is_cell, stands_after, walk_after, taken_on, sweep_on, clean_on, relieved, Content, new_link, no_twin, new_time, new_source, new_sequence, new_load, IsContent, content_number, content_word, row_place, wrote, writes, links, event_word, loads_control, begins, marks, cuts, misses, MayWalk, MaySeek, MayLink, MayMark, MayCut, MayMiss, ComesAfter, put_entries, unhanded, forgotten, cut_debt, name_in, StandsOn, without_stand, unnamed}
 use Rattle.crq_rule.specs.Steps.{Kind, write, walk, link as link_kind, link_fails, control_load, begin, mark, mark_fails, cut, cut_fails, miss, May, After, kind_of, place_of}
 use Rattle.crq_rule.specs.Rule.{IsWords}
 use Rattle.crq_rule.specs.Moves.{MovesBy, By, Walked, WalksOn, IsWalkable, FoundControl, wins, quiet}
@@ -33,7 +32,7 @@ use Rattle.crq_rule.proofs.CoverLaws.{guarded_by, names_covered}
 use Rattle.crq_rule.proofs.GuardSteps.{same_words}
 use Rattle.crq_rule.proofs.PartLaws.{sort}
 use Rattle.crq_rule.proofs.SizeLaws.{fitting_list}
-use Rattle.crq_rule.proofs.SteadyLaws.{steady_still, steady_one, found_now, outside_now, guarded_now, open_list}
+use Rattle.crq_rule.proofs.SteadyLaws.{open_is, outside_mark, guarded_out, steady_still, steady_one, found_now, outside_now, guarded_now, open_list}
 use Rattle.crq_rule.proofs.Lawfuls.{stand_covered}
 use Rattle.crq_rule.proofs.Keeps.{words_stay, rest_stays}
 
@@ -135,17 +134,9 @@ module _ (key : Start) (p : Caller) where
       )
 
   walkable : (cell : Cell) (c : Core) → j < c.start.layout.workers → Inv c → MayWalk (c.rows j) cell → IsWalkable cell (link_at c.words.head c.words.link cell) (caller_of c j)
-  walkable (at_head q) c b inv may = λ x is opened. let z = found_now c inv j x b is in let h = inv.heads.opened q may (subst (λ y. IsOpen y q) z opened) in (h.0, h.1 ∙ ap (λ (y : Control). y.generation) (sym z))
-  walkable (at_row r) c b inv may = let s = may.1.0 in let v = stand_covered c j s b may.1.1 inv in let row = inv.lanes.is_row s.row (guarded_by j v) in (
-    subst (λ r. ((c.words.link r).mark ≡ Val) ⊎ ((c.words.link r).mark ≡ Del)) may.1.2 (by_holder (c.holding s.row) (λ i is. inv.cover.free j v.0 s.row i v.1 is) (inv.marks.mark s.row row)),
-    λ x found. subst (λ r. (c.words.link r).generation ≡ c.words.control.generation) may.1.2 (guarded_now c inv s.row (guarded_by j v)) ∙ ap (λ (y : Control). y.generation) (sym (found_now c inv j x b found)),
-  )
-    where
-      by_holder : {m : Mark} (h : Holding) → ((i : ℕ) → h ≡ in_hand i → ⊥) → MarkFits h m → (m ≡ Val) ⊎ (m ≡ Del)
-      by_holder (in_hand i) free fits = absurd (free i refl)
-      by_holder (listed q) free fits = fits
-      by_holder (cut_by i) free fits = inr fits
-      by_holder (retired t) free fits = inr fits
+  walkable (at_head q) c b inv may = λ x is opened. let z = found_now c inv j x b is in let h = open_is c inv q may (subst (λ y. IsOpen y q) z opened) in (h.0, h.1 ∙ ap (λ (y : Control). y.generation) (sym z))
+  walkable (at_row r) c b inv may = let v : IsGuarded (ground_of c) r = subst (IsGuarded (ground_of c)) may.1.2 (guarded_by j (stand_covered c j may.1.0 b may.1.1 inv)) in
+      (outside_mark c inv r (inv.lanes.is_row r v) (guarded_out c inv r v), λ x found. guarded_now c inv r v ∙ ap (λ (y : Control). y.generation) (sym (found_now c inv j x b found)))
 
   pub walk_moves : (cell : Cell) (seeks : Bool) → IsOn p.guard → MayWalk p.position.rows cell → MaySeek p.own p.walk cell seeks → MovesBy WalkKind key p (index key.layout (cell_place cell)) (λ w. w) (Walked cell seeks)
   walk_moves cell seeks on may seek c ws inv words b is = let l = link_at c.words.head c.words.link cell in let e = c.words.event l.row in
@@ -233,7 +224,7 @@ module _ (key : Start) (p : Caller) where
       let place = cell_is cell c ws b inv words may'.cell_is in let at = words.shows.each (cell_place cell) place in
       dite (ℕ_discrete (get_or ws w 0) (link_word l))
       (λ hit. let found : link_at c.words.head c.words.link cell ≡ l = link_one _ _ (cell_link cell c b inv may'.cell_is) bits (sym (cell_word c cell) ∙ (sym at ∙ hit)) in let k = cut cell y last in
-      won CutKind k w (link_word l) (link_word new) (cuts y) refl c ws (may', (ap (λ (z : Link). z.mark) found ∙ val, ap (λ (z : Link). z.row) found ∙ row)) is hit
+      won CutKind k w (link_word l) (link_word new) (cuts y) refl c ws (may', (ap (λ (z : Link). is_cell z.mark) found ∙ ap is_cell val, ap (λ (z : Link). z.row) found ∙ row)) is hit
       (words_after key k c j ws (link_word new) place (set_there c (After k c j) cell (record (link_at c.words.head c.words.link cell) { row = last.row }) refl refl ∙ ap (λ (z : Link). link_word (record z { row = last.row })) found) words)
       (λ i. record (caller_of c j) {
         cut = sym (put_here c.cut j (Some (record { row = y; tags = [] }))) i;

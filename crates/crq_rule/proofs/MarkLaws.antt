@@ -7,7 +7,7 @@ use Rattle.crq_base.specs.declared.event.Event.{Event}
 use Rattle.crq_base.specs.declared.entry.Entry.{Entry}
 use Rattle.crq_base.specs.declared.entry.Entry.TheVariants.{Begin, Take}
 use Rattle.crq_base.specs.declared.words.Link.{Link}
-use Rattle.crq_base.specs.declared.words.Mark.TheVariants.{Val, Del}
+use Rattle.crq_base.specs.declared.words.Mark.TheVariants.{Val, Inv as Invalid, Mov, Del}
 use Rattle.crq_base.specs.declared.words.Control.{Control}
 use Rattle.crq_base.specs.Words.{IsLink}
 use Rattle.crq_base.specs.Histories.{puts, outs, IsPending, MayFollow}
@@ -25,20 +25,30 @@ use Rattle.crq_rule.specs.Places.{IsRow}
 use Rattle.crq_rule.specs.Core.{Core, IsOutside, DeadNames, HasName, Holding, in_hand, listed, cut_by, retired, caller_of}
 use Rattle.crq_rule.specs.Parts.{Ground, ground_of, newest, IsEvent, IsGuarded, Leads, Chains, IsPath, Reaches, Covers, Cover, rows_of}
 use Rattle.crq_rule.specs.ListParts.{ranks, Sorted, Marks, MarkFits, Standing, IsFinal, Lanes, Writing, row_word, Naming, NameFits, IsNamed}
-use Rattle.crq_rule.specs.HistoryParts.{IsLive, Carriers, StandsFrom}
+use Rattle.crq_rule.specs.HistoryParts.{IsCarrying, IsLive, Carriers, StandsFrom}
 use Rattle.crq_rule.specs.Ranks.{Shape, list_in}
 use Rattle.crq_rule.specs.Invariant.{Inv}
-use Rattle.crq_rule.specs.ListKinds.{MayMark, name_in, marked}
+use Rattle.crq_rule.specs.ListKinds.{is_cell, MayMark, name_in, marked}
 use Rattle.crq_rule.proofs.Puts.{put_here, put_else, put_all}
 use Rattle.crq_rule.proofs.PartLaws.{apart}
 use Rattle.crq_rule.proofs.CoverLaws.{guarded_by, stand_row}
 use Rattle.crq_rule.proofs.HistoryLaws.{told_other, out_later}
 use Rattle.crq_rule.proofs.CallLaws.{walkers_entry}
 use Rattle.crq_rule.proofs.ScarceLaws.{scarce_grown, refusals_grown}
-use Rattle.crq_rule.proofs.SweepLaws.{swept_grown, del_val, present_listed}
+use Rattle.crq_rule.proofs.SweepLaws.{swept_grown}
+use Rattle.crq_rule.proofs.HeadLaws.{cell_listed, val_carries, dead_carries, carries_on}
 use Rattle.crq_rule.proofs.SizeLaws.{sizes_rows, dues_named}
 use Rattle.crq_rule.proofs.SteadyLaws.{steady_one, steady_rows, steady_names}
 use Rattle.crq_rule.proofs.SearchLaws.{stand_covered, left_beyond, beyond_key}
+
+val_inv : Val ≡ Invalid → ⊥
+val_inv e = cc
+
+val_mov : Val ≡ Mov → ⊥
+val_mov e = cc
+
+del_inv : Del ≡ Invalid → ⊥
+del_inv e = cc
 
 take_begin : (j k : ℕ) (e : Event) → Take j e ≡ Begin k → ⊥
 take_begin j k e q = cc
@@ -106,16 +116,19 @@ dead_row link r = put_all link r (record (link r) { mark = Del }) (λ s l. l.row
 dead_generation : (link : ℕ → Link) (r s : ℕ) → (dead link r s).generation ≡ (link s).generation
 dead_generation link r = put_all link r (record (link r) { mark = Del }) (λ s l. l.generation ≡ (link s).generation) refl (λ s _. refl)
 
--- the row r itself isn't present any more
-dead_gone : (link : ℕ → Link) (r s : ℕ) → (dead link r s).mark ≡ Val → s ≢ r
-dead_gone link r s val e = del_val (sym (ap (λ (z : Link). z.mark) (ap (dead link r) e ∙ put_here link r (record (link r) { mark = Del }))) ∙ val)
-
 -- each holder's row may be dead
 dead_fits : (h : Holding) → MarkFits h Del
 dead_fits (in_hand j) = tt
-dead_fits (listed q) = inr refl
-dead_fits (cut_by j) = refl
-dead_fits (retired t) = refl
+dead_fits (listed q) = tt
+dead_fits (cut_by j) = tt
+dead_fits (retired t) = tt
+
+del_mov : Del ≡ Mov → ⊥
+del_mov e = cc
+
+-- a mark stays, or is that of the dead row
+dead_mark : (link : ℕ → Link) (r s : ℕ) → ((dead link r s).mark ≡ (link s).mark) ⊎ ((dead link r s).mark ≡ Del)
+dead_mark link r = put_all link r (record (link r) { mark = Del }) (λ s l. (l.mark ≡ (link s).mark) ⊎ (l.mark ≡ Del)) (inr refl) (λ s _. inl refl)
 
 module _ (l : Layout) (shape : ℕ → Shape) (link : ℕ → Link) (twin : ℕ → ℕ) (event : ℕ → Event) (holding : ℕ → Holding) (r : ℕ) where
   chains_dead : (head : ℕ → Link) (chain : ℕ → List ℕ) → Chains head link twin chain → Chains head (dead link r) twin chain
@@ -124,8 +137,13 @@ module _ (l : Layout) (shape : ℕ → Shape) (link : ℕ → Link) (twin : ℕ 
   sorted_dead : (head : ℕ → Link) (chain : ℕ → List ℕ) → Sorted shape head link event chain → Sorted shape head (dead link r) event chain
   sorted_dead head chain old = record { rises = old.rises; belongs = old.belongs; generation = λ q s b i. dead_generation link r s ∙ old.generation q s b i }
 
-  marks_dead : Marks l link twin holding → Marks l (dead link r) twin holding
-  marks_dead old = record { mark = put_all link r (record (link r) { mark = Del }) (λ s m. IsRow l s → MarkFits (holding s) m.mark) (λ _. dead_fits (holding r)) (λ s _. old.mark s); twin_is = old.twin_is }
+  marks_dead : (control : Control) (head : ℕ → Link) → ((link r).mark ≡ Mov → ⊥) → Marks l control head link twin holding → Marks l control head (dead link r) twin holding
+  marks_dead control head live old = record {
+    mark = put_all link r (record (link r) { mark = Del }) (λ s m. IsRow l s → MarkFits (holding s) m.mark) (λ _. dead_fits (holding r)) (λ s _. old.mark s);
+    first = λ q s. put_all link r (record (link r) { mark = Del }) (λ s m. IsRow l s → holding s ≡ listed q → m.mark ≡ Mov → ((head q).mark ≡ Mov) × ((head q).row ≡ s)) (λ _ _ m. absurd (del_mov m)) (λ s _. old.first q s) s;
+    bare = put_all link r (record (link r) { mark = Del }) (λ s m. IsRow l s → IsOutside holding s → (m.mark ≡ Mov → ⊥) → twin s ≡ 0) (λ b out _. old.bare r b out live) (λ s _. old.bare s);
+    aged = put_all link r (record (link r) { mark = Del }) (λ s m. IsRow l s → IsOutside holding s → m.mark ≡ Mov → m.generation < newest control) (λ _ _ m. absurd (del_mov m)) (λ s _. old.aged s);
+  }
 
   standing_dead : (n : ℕ) (rows : ℕ → List Stand) → (link r).mark ≡ Val → Standing n link event rows → Standing n (dead link r) event rows
   standing_dead n rows val old = record {
@@ -191,33 +209,53 @@ module _ (l : Layout) (shape : ℕ → Shape) (link : ℕ → Link) (twin : ℕ 
     }
 
   -- another row that is live stays so, and no row comes to be live
-  live_stays : (s : ℕ) → s ≢ r → IsLive l link holding s → IsLive l (dead link r) holding s
-  live_stays s ne v = (v.0, v.1, ap (λ (m : Link). m.mark) (put_else link r (record (link r) { mark = Del }) s ne) ∙ v.2)
+  module _ (val : (link r).mark ≡ Val) where
+    twin_stays : (t : ℕ) → (link t).mark ≡ Invalid → (dead link r t).mark ≡ Invalid
+    twin_stays = put_all link r (record (link r) { mark = Del }) (λ t m. (link t).mark ≡ Invalid → m.mark ≡ Invalid) (λ e. absurd (val_inv (sym val ∙ e))) (λ _ _ e. e)
 
-  live_was : (s : ℕ) → IsLive l (dead link r) holding s → IsLive l link holding s
-  live_was s v = (v.0, v.1, sym (ap (λ (m : Link). m.mark) (put_else link r (record (link r) { mark = Del }) s (dead_gone link r s v.2))) ∙ v.2)
+    twin_was : (t : ℕ) → (dead link r t).mark ≡ Invalid → (link t).mark ≡ Invalid
+    twin_was = put_all link r (record (link r) { mark = Del }) (λ t m. m.mark ≡ Invalid → (link t).mark ≡ Invalid) (λ e. absurd (del_inv e)) (λ _ _ e. e)
+
+    live_stays : (s : ℕ) → s ≢ r → IsLive l link twin holding s → IsLive l (dead link r) twin holding s
+    live_stays s ne v = (
+      v.0,
+      v.1,
+      subst (λ (m : Link). IsCarrying m.mark (twin s) (dead link r (twin s)).mark) (sym (put_else link r (record (link r) { mark = Del }) s ne))
+          (carries_on (link s).mark (twin s) (link (twin s)).mark (dead link r (twin s)).mark (twin_stays (twin s)) v.2),
+    )
+
+    live_else : (s : ℕ) → IsLive l (dead link r) twin holding s → s ≢ r
+    live_else s v e = dead_carries (dead link r s).mark (twin s) (dead link r (twin s)).mark (ap (λ (z : Link). z.mark) (ap (dead link r) e ∙ put_here link r (record (link r) { mark = Del }))) v.2
+
+    live_was : (s : ℕ) → IsLive l (dead link r) twin holding s → IsLive l link twin holding s
+    live_was s v = (
+      v.0,
+      v.1,
+      carries_on (link s).mark (twin s) (dead link r (twin s)).mark (link (twin s)).mark (twin_was (twin s))
+          (subst (λ (m : Link). IsCarrying m.mark (twin s) (dead link r (twin s)).mark) (put_else link r (record (link r) { mark = Del }) s (live_else s v)) v.2),
+    )
 
   -- the event e of the row is taken
-  module _ (history : List Entry) (j : ℕ) (e : Event) (is : event r ≡ e) where
+  module _ (val : (link r).mark ≡ Val) (history : List Entry) (j : ℕ) (e : Event) (is : event r ≡ e) where
     -- the row of an event that isn't out is another one
     else_row : (s : ℕ) (f : Event) → event s ≡ f → (Contains (outs (history ++ Take j e ∷ [])) f → ⊥) → s ≢ r
     else_row s f holds kept same = kept (subst (Contains (outs (history ++ Take j e ∷ []))) (sym is ∙ (ap event (sym same) ∙ holds)) (taken_out history j e))
 
-    carriers_dead : IsLive l link holding r → Carriers l history link event holding → Carriers l (history ++ Take j e ∷ []) (dead link r) event holding
+    carriers_dead : IsLive l link twin holding r → Carriers l history link twin event holding → Carriers l (history ++ Take j e ∷ []) (dead link r) twin event holding
     carriers_dead live old = record {
-      carried = λ f p. let at = old.carried f (pending_before history j e f p) in (at.0, live_stays at.0 (else_row at.0 f at.2 p.kept) at.1, at.2);
-      pending = λ s v. let p = old.pending s (live_was s v) in record {
+      carried = λ f p. let at = old.carried f (pending_before history j e f p) in (at.0, live_stays val at.0 (else_row at.0 f at.2 p.kept) at.1, at.2);
+      pending = λ s v. let p = old.pending s (live_was val s v) in record {
         put = subst (λ z. Contains z (event s)) (sym (puts_take history j e)) p.put;
-        kept = λ o. ⊎_elim p.kept (λ (q : event s ≡ e). dead_gone link r s v.2 (old.one s r (live_was s v) live (q ∙ sym is))) (out_before history j e (event s) o);
+        kept = λ o. ⊎_elim p.kept (λ (q : event s ≡ e). live_else val s v (old.one s r (live_was val s v) live (q ∙ sym is))) (out_before history j e (event s) o);
       };
-      one = λ s t v w. old.one s t (live_was s v) (live_was t w);
+      one = λ s t v w. old.one s t (live_was val s v) (live_was val t w);
     }
 
     stands_dead : (at : ℕ) (f : Event) → (Contains (outs (history ++ Take j e ∷ [])) f → ⊥) → StandsFrom l link twin event holding at f → StandsFrom l (dead link r) twin event holding at f
     stands_dead at f kept old = record {
       row = old.row;
       some_row = old.some_row;
-      live = live_stays old.row (else_row old.row f old.holds kept) old.live;
+      live = live_stays val old.row (else_row old.row f old.holds kept) old.live;
       holds = old.holds;
       reached = reaches_same (dead link r) link (λ s. sym (dead_row link r s)) twin at old.row old.reached;
     }
@@ -259,17 +297,17 @@ mark_keeps c j r e b may val inv = let l = c.start.layout in let x = c.shape in 
   sizes = sizes_rows _ _ _ _ _ _ _ _ _ (λ _ _. refl) (λ s _ out. inl (out, dead_generation k r s)) inv.sizes;
   dues = dues_named _ _ _ _ _ _ _ (λ i d _ has. ⊎_elim inl (λ same. inr (subst (λ (d : CutDebt). (d.generation ≤ newest c.words.control) × (d.head ≡ list_in c.shape d.generation d.event)) same (inv.sizes.rows r row outside, refl))) (names_before l x k t v h r j e c.named i d has)) inv.dues;
   steady = steady_names _ _ _ _ _ _ (λ i d _ has. ⊎_elim inl (λ same. inr (r, row, outside, ap (λ (z : CutDebt). z.generation) (sym same) ∙ sym (dead_generation k r r))) (names_before l x k t v h r j e c.named i d has))
-      (steady_rows _ _ _ _ _ _ _ (λ s _ out. inl (out, dead_generation k r s)) inv.steady);
+      (steady_rows _ _ _ _ _ _ _ (λ s _ out. inl (out, dead_generation k r s, dead_mark k r s)) inv.steady);
   heads = inv.heads;
   sorted = sorted_dead l x k t v h r _ _ inv.sorted;
-  marks = marks_dead l x k t v h r inv.marks;
+  marks = marks_dead l x k t v h r _ _ (λ m. val_mov (sym val ∙ m)) inv.marks;
   standing = standing_dead l x k t v h r _ _ val inv.standing;
   lanes = lanes_dead l x k t v h r _ _ inv.lanes;
   writing = writing_dead l x k t v h r _ _ _ (λ k s i at. apart c.holding r s (listed held.0) (in_hand k) held.1 (inv.holders.held k s i at).1 (omega arith)) inv.writing;
   naming = naming_dead l x k t v h r j e c.named c.words.head b may.1.free is row (subst IsEvent is (inv.spelled.events r row)) inv.naming;
-  carriers = carriers_dead l x k t v h r _ j e is live inv.carriers;
+  carriers = carriers_dead l x k t v h r val _ j e is live inv.carriers;
   told = told_other _ _ _ _ _ j (Take j e) b (take_legal c j r e b may pending is inv) refl refl (λ k. take_begin j k e) inv.told;
-  walkers = walkers_entry _ _ _ _ c.begun _ _ _ _ _ _ _ j (Take j e) inv.told.begun_low (λ _ _. refl) (stands_dead l x k t v h r c.history j e is) inv.walkers;
+  walkers = walkers_entry _ _ _ _ c.begun _ _ _ _ _ _ _ j (Take j e) inv.told.begun_low (λ _ _. refl) (stands_dead l x k t v h r val c.history j e is) inv.walkers;
   scarce = scarce_grown _ _ _ _ _ _ _ (λ k. no_begin j e k) inv.scarce;
   refusals = refusals_grown _ _ _ _ (λ k. no_begin j e k) inv.refusals;
   swept = swept_grown _ _ _ _ _ _ _ (λ k. no_begin j e k) inv.swept;
@@ -287,14 +325,14 @@ mark_keeps c j r e b may val inv = let l = c.start.layout in let x = c.shape in 
     row : IsRow c.start.layout r
     row = inv.lanes.is_row r (guarded_by j covered)
 
-    held : (q : ℕ) × (c.holding r ≡ listed q)
-    held = present_listed (c.holding r) (c.words.link r).mark val (λ i. inv.cover.free j covered.0 r i covered.1) (inv.marks.mark r row)
-
     outside : IsOutside c.holding r
     outside i = inv.cover.free j covered.0 r i covered.1
 
-    live : IsLive c.start.layout c.words.link c.holding r
-    live = (row, held, val)
+    held : (q : ℕ) × (c.holding r ≡ listed q)
+    held = cell_listed (c.holding r) (c.words.link r).mark (ap is_cell val) outside (inv.marks.mark r row)
+
+    live : IsLive c.start.layout c.words.link c.words.twin c.holding r
+    live = (row, held, val_carries (c.words.link r).mark (c.words.twin r) (c.words.link (c.words.twin r)).mark val)
 
     pending : IsPending c.history e
     pending = subst (IsPending c.history) is (inv.carriers.pending r live)

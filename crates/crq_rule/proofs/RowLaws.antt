@@ -6,7 +6,7 @@ use Rattle.crq_base.specs.Lists.{In}
 use Rattle.crq_rule.specs.Places.{IsHomeRow}
 use Rattle.crq_rule.specs.Lists.{put}
 use Rattle.crq_rule.specs.Core.{Core, IsOutside, in_hand, cut_by, retired}
-use Rattle.crq_rule.specs.ListParts.{MarkFits, TwinFits}
+use Rattle.crq_rule.specs.ListParts.{MarkFits}
 use Rattle.crq_rule.specs.Parts.{ground_of, Covers}
 use Rattle.crq_rule.specs.ScarceParts.{IsLate}
 use Rattle.crq_rule.specs.Invariant.{Inv}
@@ -32,12 +32,12 @@ retire_keeps c j r t b may inv = let x = may.0 in let at = inv.holders.is_cut j 
     (stamps_retire _ _ _ _ _ r t (λ e. let z : 2 ≡ 3 = sym (ap sort held) ∙ e in absurd (omega arith)) (inv.reading.tags j t x b may.1 may.3) inv.stamps)
     (cover_retire _ _ _ j r t (inr (j, x, b, may.1, may.2, may.3)) inv.cover)
     (sizes_rows _ _ _ _ _ _ _ _ _ (λ _ _. refl) (λ s _ out. inl (kept held s out, refl)) inv.sizes)
-    (steady_rows _ _ _ _ _ _ _ (λ s _ out. inl (kept held s out, refl)) inv.steady)
-    (marks_held _ _ _ r (retired t) _ (λ row. (subst (λ h. MarkFits h (c.words.link r).mark) held (inv.marks.mark r row), subst (λ h. TwinFits h (c.words.twin r)) held (inv.marks.twin_is r row))) inv.marks)
+    (steady_rows _ _ _ _ _ _ _ (λ s _ out. inl (kept held s out, refl, inl refl)) inv.steady)
+    (marks_held _ _ _ _ r (retired t) _ _ (λ z. omega arith) (λ row. subst (λ h. MarkFits h (c.words.link r).mark) held (inv.marks.mark r row)) (kept held) inv.marks)
     inv.writing
-    (naming_held _ _ _ r (retired t) _ _ _ (λ z. omega arith) inv.naming)
-    (carriers_held _ _ _ r (retired t) _ _ (other held) (λ z. omega arith) inv.carriers)
-    (walkers_held _ _ _ r (retired t) _ _ _ _ _ _ _ (other held) (λ z. omega arith) inv.walkers)
+    (naming_held _ _ c.words.twin _ r (retired t) _ _ _ (λ z. omega arith) inv.naming)
+    (carriers_held _ _ _ _ r (retired t) _ _ (other held) (λ z. omega arith) inv.carriers)
+    (walkers_held _ _ _ _ r (retired t) _ _ _ _ _ _ (other held) (λ z. omega arith) inv.walkers)
     (scarce_lasts _ _ _ _ _ _ _ _ _ (le_refl _) (λ k inside. lasts_held _ _ _ _ r (retired t) k (λ g home late. before held g late) (λ g home low is. inr (after g low))) inv.scarce)
     inv.refusals
   where
@@ -74,12 +74,12 @@ claim_keeps c j r e b read ripe inv = let at = inv.stamps.ripe j r ripe.0 b ripe
     (stamps_claim _ _ _ _ _ j r b at.0 inv.stamps)
     (cover_claim _ _ _ j r (claimable_uncovered c j r e b read ripe inv) inv.cover)
     (sizes_rows _ _ _ _ _ _ _ _ _ (λ _ _. refl) (λ s _ out. inl (kept s out, refl)) inv.sizes)
-    (steady_rows _ _ _ _ _ _ _ (λ s _ out. inl (kept s out, refl)) inv.steady)
-    (marks_held _ _ _ r (in_hand j) _ (λ _. (tt, tt)) inv.marks)
+    (steady_rows _ _ _ _ _ _ _ (λ s _ out. inl (kept s out, refl, inl refl)) inv.steady)
+    (marks_held _ _ _ _ r (in_hand j) _ _ (λ z. omega arith) (λ _. tt) kept inv.marks)
     (writing_more _ _ _ _ _ _ j r inv.writing)
-    (naming_held _ _ _ r (in_hand j) _ _ _ (λ z. omega arith) inv.naming)
-    (carriers_held _ _ _ r (in_hand j) _ _ (other at.1) (λ z. omega arith) inv.carriers)
-    (walkers_held _ _ _ r (in_hand j) _ _ _ _ _ _ _ (other at.1) (λ z. omega arith) inv.walkers)
+    (naming_held _ _ c.words.twin _ r (in_hand j) _ _ _ (λ z. omega arith) inv.naming)
+    (carriers_held _ _ _ _ r (in_hand j) _ _ (other at.1) (λ z. omega arith) inv.carriers)
+    (walkers_held _ _ _ _ r (in_hand j) _ _ _ _ _ _ (other at.1) (λ z. omega arith) inv.walkers)
     (scarce_lasts _ _ _ _ _ _ _ _ _ (le_refl _) (λ k inside. lasts_held _ _ _ _ r (in_hand j) k (λ _ _ n. absurd n) (λ _ home _ _. inl (ap in_hand (one_home c.start.layout j k r at.0 home)))) inv.scarce)
     inv.refusals
   where

@@ -19,13 +19,14 @@ use Rattle.crq_rule.specs.Lists.{put}
 use Rattle.crq_rule.specs.Places.{IsRow, IsHomeRow}
 use Rattle.crq_rule.specs.Core.{Core, DeadNames, caller_of, Holding, in_hand, listed, cut_by, retired}
 use Rattle.crq_rule.specs.Parts.{GuardIs, OnSince, IsOn, stamp_of}
-use Rattle.crq_rule.specs.ListParts.{MarkFits}
 use Rattle.crq_rule.specs.HistoryParts.{IsLive}
 use Rattle.crq_rule.specs.ScarceParts.{pending, IsLate, IsScarce, slots, IsBase, Scarce, Refusals}
 use Rattle.crq_rule.specs.Invariant.{Inv}
 use Rattle.crq_rule.specs.Kinds.{new_base, has_risen, is_late_word, looked_base, refused_after, base_looked, FoundNoRow}
 use Rattle.crq_rule.specs.Rule.{rows_from}
 use Rattle.crq_rule.proofs.Puts.{put_all}
+use Rattle.crq_rule.proofs.HeadLaws.{val_carries}
+use Rattle.crq_rule.proofs.SteadyLaws.{listed_mark}
 use Rattle.crq_rule.proofs.PartLaws.{home_is_row, one_home}
 use Rattle.crq_rule.proofs.Counting.{within_list, rows_in, rows_once, rows_long}
 use Rattle.crq_rule.proofs.Pendings.{both, either_of, pending_in, in_pending, counted_grown, pending_counted}
@@ -195,7 +196,7 @@ slots_hold c k b inv = record {
     in_back (x ∷ xs) ys r i = inr (in_back xs ys r i)
 
     has_carrier : (r q : ℕ) → IsRow c.start.layout r → c.holding r ≡ listed q → (c.words.link r).mark ≡ Val → In r (carrying c.words.twin (pending c.history) (carrier c inv))
-    has_carrier r q row is val = let live : IsLive c.start.layout c.words.link c.holding r = (row, (q, is), val) in
+    has_carrier r q row is val = let live : IsLive c.start.layout c.words.link c.words.twin c.holding r = (row, (q, is), val_carries (c.words.link r).mark (c.words.twin r) (c.words.link (c.words.twin r)).mark val) in
         in_carrying c.words.twin (pending c.history) (carrier c inv) r (c.words.event r) (pending_in c.history (c.words.event r) (inv.carriers.pending r live))
         (λ x i same. let t = inv.carriers.carried x (in_pending c.history x i) in inv.carriers.one t.0 r t.1 live (t.2 ∙ sym same))
 
@@ -205,7 +206,7 @@ slots_hold c k b inv = record {
         (λ val. in_front _ _ r (has_carrier r q row is val))
         (λ del. let n = inv.naming.named r q row is del in in_back (carrying c.words.twin (pending c.history) (carrier c inv)) _ r (in_owed c.named c.start.layout.workers n.0 r n.1
         (⊎_elim (λ x. inl (named_row (c.named n.0).first n.2.0 x ∙ n.2.2.row)) (λ x. inr (named_row (c.named n.0).second n.2.0 x ∙ n.2.2.row)) n.2.1)))
-        (subst (λ h. MarkFits h (c.words.link r).mark) is (inv.marks.mark r row))
+        (listed_mark c inv r q row is)
     has_slot r row (cut_by i) is late = let o = inv.holders.of_cut i r row is in absurd (not_later (c.guard i) (inv.cutting.on i o.1.0 o.0 o.1.1) (inv.guards.each i o.0) late)
       where
         not_later : (g : Guard) → IsOn g → GuardIs c.words.epoch (c.words.announced i) g → OnSince (c.words.epoch + 1) g → ⊥

@@ -13,12 +13,13 @@ use Rattle.crq_base.proofs.HistoryLaws.{legal_front}
 use Rattle.crq_base.specs.Lists.{In}
 use Rattle.crq_rule.specs.declared.view.Walk.{Walk}
 use Rattle.crq_rule.specs.Places.{IsRow}
-use Rattle.crq_rule.specs.Core.{Core, Holding, in_hand, listed, cut_by, retired}
+use Rattle.crq_rule.specs.Core.{Core}
 use Rattle.crq_rule.specs.Parts.{ground_of, IsEvent, IsPath, Covers, rows_of}
-use Rattle.crq_rule.specs.ListParts.{ranks, TwinFits}
+use Rattle.crq_rule.specs.ListParts.{ranks}
 use Rattle.crq_rule.specs.Ranks.{rank, head_for, bucket, head_of, IsOpen}
 use Rattle.crq_rule.specs.Invariant.{Inv}
 use Rattle.crq_rule.proofs.CoverLaws.{row_footing, names_covered, footing_covered}
+use Rattle.crq_rule.proofs.SteadyLaws.{guarded_twin}
 use Rattle.crq_rule.proofs.HistoryLaws.{settled_put}
 
 -- Ranks
@@ -56,13 +57,6 @@ one_head x e q none opened = let low = opened.0 in let high : q < x.generation %
 pub stand_covered : (c : Core) → Inv c → (j r : ℕ) → j < c.start.layout.workers → In r (rows_of (c.rows j)) → (g : ℕ) × Covers (ground_of c) j g r
 stand_covered c inv j r b i = footing_covered (ground_of c) c.cut c.holding inv.cover j r b (row_footing c.rows c.old c.copying j r i)
 
--- a row that nobody has in hand has no twin
-no_twin : (h : Holding) (t : ℕ) → ((j : ℕ) → h ≡ in_hand j → ⊥) → TwinFits h t → t ≡ 0
-no_twin (in_hand j) t out fits = absurd (out j refl)
-no_twin (listed q) t out fits = fits
-no_twin (cut_by j) t out fits = fits
-no_twin (retired s) t out fits = fits
-
 -- ranks rise on the way from a covered row
 pub path_rises : (c : Core) → Inv c → (k g a b : ℕ) (xs : List ℕ) → Covers (ground_of c) k g a
     → IsPath c.words.link c.words.twin a xs b → ranks c.words.event a ≤ ranks c.words.event b
@@ -70,7 +64,7 @@ path_rises c inv k g a b [] v p = subst (λ z. ranks c.words.event a ≤ ranks c
 path_rises c inv k g a b (x ∷ xs) v p = let later = path_rises c inv k g x b xs (names_covered (ground_of c) k g a x v p.0) p.1 in ⊎_elim
     (λ (is : (c.words.link a).row ≡ x). let first = subst (λ z. 0 < z → ranks c.words.event a < ranks c.words.event z) is (inv.lanes.rises a (k, g, v)) p.0.0 in omega arith)
     (λ (is : c.words.twin a ≡ x). let some = p.0.0 in
-    let none = no_twin (c.holding a) (c.words.twin a) (λ j. inv.cover.free k g a j v) (inv.marks.twin_is a (inv.lanes.is_row a (k, g, v))) in absurd (omega arith))
+    let none = guarded_twin c inv a (k, g, v) in absurd (omega arith))
     p.0.1
 
 -- Walks

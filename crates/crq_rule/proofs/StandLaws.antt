@@ -11,9 +11,9 @@ use Rattle.crq_rule.specs.declared.view.Wrote.{Wrote}
 use Rattle.crq_rule.specs.declared.view.Walk.{Walk}
 use Rattle.crq_rule.specs.Lists.{put}
 use Rattle.crq_rule.specs.Places.{IsRow, IsHead}
-use Rattle.crq_rule.specs.Core.{Holding, DeadNames, listed}
+use Rattle.crq_rule.specs.Core.{Holding, IsOutside, DeadNames, listed}
 use Rattle.crq_rule.specs.Parts.{Covers, Ground, IsGuarded, rows_of}
-use Rattle.crq_rule.specs.ListParts.{IsFinal, Marks, MarkFits, TwinFits, Standing, Lanes, Writing, Naming}
+use Rattle.crq_rule.specs.ListParts.{IsFinal, Marks, MarkFits, Standing, Lanes, Writing, Naming}
 use Rattle.crq_rule.specs.HistoryParts.{Carriers, Walkers, IsLive, StandsFrom}
 use Rattle.crq_rule.specs.Ranks.{Shape, head_of, IsOpen}
 use Rattle.crq_base.specs.Histories.{puts, outs}
@@ -64,38 +64,41 @@ module _ (l : Layout) (control : Control) (history : List Entry) (begun : ℕ �
   }
 
 -- A row changes hands and isn't listed, neither before nor after
-module _ (l : Layout) (link : ℕ → Link) (holding : ℕ → Holding) (r : ℕ) (h : Holding) where
+module _ (l : Layout) (link : ℕ → Link) (twin : ℕ → ℕ) (holding : ℕ → Holding) (r : ℕ) (h : Holding) where
   listed_stays : sort (holding r) ≢ 1 → sort h ≢ 1 → (s q : ℕ) → holding s ≡ listed q → put holding r h s ≡ listed q
   listed_stays was is s q e = put_else holding r h s (λ z. was (ap (λ y. sort (holding y)) (sym z) ∙ ap sort e)) ∙ e
 
   listed_was : sort h ≢ 1 → (s q : ℕ) → put holding r h s ≡ listed q → holding s ≡ listed q
   listed_was is s q = put_all holding r h (λ s g. g ≡ listed q → holding s ≡ listed q) (λ e. absurd (is (ap sort e))) (λ s _ e. e) s
 
-  live_stays : sort (holding r) ≢ 1 → sort h ≢ 1 → (s : ℕ) → IsLive l link holding s → IsLive l link (put holding r h) s
+  live_stays : sort (holding r) ≢ 1 → sort h ≢ 1 → (s : ℕ) → IsLive l link twin holding s → IsLive l link twin (put holding r h) s
   live_stays was is s v = (v.0, (v.1.0, listed_stays was is s v.1.0 v.1.1), v.2)
 
-  live_was : sort h ≢ 1 → (s : ℕ) → IsLive l link (put holding r h) s → IsLive l link holding s
+  live_was : sort h ≢ 1 → (s : ℕ) → IsLive l link twin (put holding r h) s → IsLive l link twin holding s
   live_was is s v = (v.0, (v.1.0, listed_was is s v.1.0 v.1.1), v.2)
 
-  pub marks_held : (twin : ℕ → ℕ) → (IsRow l r → MarkFits h (link r).mark × TwinFits h (twin r)) → Marks l link twin holding → Marks l link twin (put holding r h)
-  marks_held twin fits old = record {
-    mark = put_all holding r h (λ s g. IsRow l s → MarkFits g (link s).mark) (λ b. (fits b).0) (λ s _. old.mark s);
-    twin_is = put_all holding r h (λ s g. IsRow l s → TwinFits g (twin s)) (λ b. (fits b).1) (λ s _. old.twin_is s);
+  pub marks_held : (control : Control) (head : ℕ → Link) → sort h ≢ 1 → (IsRow l r → MarkFits h (link r).mark) → ((s : ℕ) → IsOutside (put holding r h) s → IsOutside holding s)
+      → Marks l control head link twin holding → Marks l control head link twin (put holding r h)
+  marks_held control head is fits outs old = record {
+    mark = put_all holding r h (λ s g. IsRow l s → MarkFits g (link s).mark) fits (λ s _. old.mark s);
+    first = λ q s b at. old.first q s b (listed_was is s q at);
+    bare = λ s b out. old.bare s b (outs s out);
+    aged = λ s b out. old.aged s b (outs s out);
   }
 
   pub naming_held : (head : ℕ → Link) (event : ℕ → Event) (names : ℕ → DeadNames) → sort h ≢ 1 → Naming l head link event names holding → Naming l head link event names (put holding r h)
   naming_held head event names is old = record { named = λ s q b e. old.named s q b (listed_was is s q e); place = old.place }
 
-  pub carriers_held : (history : List Entry) (event : ℕ → Event) → sort (holding r) ≢ 1 → sort h ≢ 1 → Carriers l history link event holding → Carriers l history link event (put holding r h)
+  pub carriers_held : (history : List Entry) (event : ℕ → Event) → sort (holding r) ≢ 1 → sort h ≢ 1 → Carriers l history link twin event holding → Carriers l history link twin event (put holding r h)
   carriers_held history event was is old = record {
     carried = λ e p. let c = old.carried e p in (c.0, live_stays was is c.0 c.1, c.2);
     pending = λ s v. old.pending s (live_was is s v);
     one = λ s t v w. old.one s t (live_was is s v) (live_was is t w);
   }
 
-  pub walkers_held : (control : Control) (history : List Entry) (begun : ℕ → ℕ) (twin : ℕ → ℕ) (event : ℕ → Event) (rows : ℕ → List Stand) (walk : ℕ → Option Walk) → sort (holding r) ≢ 1 → sort h ≢ 1
+  pub walkers_held : (control : Control) (history : List Entry) (begun : ℕ → ℕ) (event : ℕ → Event) (rows : ℕ → List Stand) (walk : ℕ → Option Walk) → sort (holding r) ≢ 1 → sort h ≢ 1
       → Walkers l control history begun link twin event holding rows walk → Walkers l control history begun link twin event (put holding r h) rows walk
-  walkers_held control history begun twin event rows walk was is old = record {
+  walkers_held control history begun event rows walk was is old = record {
     opened = old.opened;
     at_stand = old.at_stand;
     left = λ k w front back e b q f n m p o. let s = old.left k w front back e b q f n m p o in record { row = s.row; some_row = s.some_row; live = live_stays was is s.row s.live; holds = s.holds; reached = s.reached };

@@ -1,5 +1,5 @@
 -- The invariant that is kept implies what is stated of lists, carriers, the history and walkers.
-use Rattle.std.proofs.Common.{◌≡◌, ◌⊎◌, ⊎_elim, inl, inr, ℕ, ◌^◌, ◌<◌, true, List, [], ◌∷◌, length, sym, refl, ap, ◌∙◌, subst, arith}
+use Rattle.std.proofs.Common.{◌≡◌, ◌⊎◌, ⊎_elim, inl, inr, ℕ, ◌^◌, ◌<◌, true, List, [], ◌∷◌, length, sym, refl, ap, ◌∙◌, subst, arith, ◌≢◌}
 use Rattle.std.specs.List.{Contains}
 use Rattle.std.specs.Ordering.{nat_cmp, ordering_then, is_lt, MatchOrdering}
 use Rattle.std.specs.declared.cmp.Ordering.{Ordering}
@@ -14,13 +14,17 @@ use Rattle.crq_base.proofs.Verdicts.{contains_or}
 use Rattle.crq_base.specs.Lists.{In}
 use Rattle.crq_rule.specs.declared.view.Walk.{Walk}
 use Rattle.crq_rule.specs.Places.{IsRow, IsHead}
-use Rattle.crq_rule.specs.Core.{Core, Holding, in_hand, listed, cut_by, retired}
+use Rattle.crq_rule.specs.Core.{Core, Holding, cut_by, retired, IsOutside}
 use Rattle.crq_rule.specs.Parts.{ground_of, IsEvent, Leads}
 use Rattle.crq_rule.specs.Ranks.{rank, head_of, Rises}
-use Rattle.crq_rule.specs.ListParts.{ranks, MarkFits, TwinFits}
+use Rattle.crq_rule.specs.ListParts.{ranks, IsFinal, MarkFits}
 use Rattle.crq_rule.specs.HistoryParts.{StandsFrom}
 use Rattle.crq_rule.specs.Invariant.{Inv}
 use Rattle.crq_rule.specs.Stated.{IsCovered, Precedes, Ascends, IsListOf, LeadsOn, IsInHand, ListsHold, CarriersHold, HistoryHolds, IsWalking, WalkersHold}
+use Rattle.crq_rule.specs.ListKinds.{is_cell}
+use Rattle.crq_rule.proofs.PartLaws.{sort}
+use Rattle.crq_rule.proofs.HeadLaws.{cell_listed}
+use Rattle.crq_rule.proofs.SteadyLaws.{outside_mark, listed_mark, outside_twin, open_is, shut_is}
 use Rattle.crq_rule.proofs.CoverLaws.{names_covered}
 use Rattle.crq_rule.proofs.SearchLaws.{stand_covered}
 
@@ -43,9 +47,6 @@ rank_precedes e f r s fits fits' low low' less = go (nat_cmp e.time f.time) (nat
     go Greater b c t x q = absurd (let u = fits'.src in let v = fits'.seq in omega arith)
 
 -- 5. Lists
-
-del_val : Del ≡ Val → ⊥
-del_val e = cc
 
 module _ (c : Core) (inv : Inv c) where
   row_precedes : (r s : ℕ) → IsRow c.start.layout r → IsRow c.start.layout s → ranks c.words.event r < ranks c.words.event s → Precedes (c.words.event r) r (c.words.event s) s
@@ -78,32 +79,27 @@ module _ (c : Core) (inv : Inv c) where
     generation = inv.lanes.generation r (k, g, v) some;
   }
 
-  of_list : (r : ℕ) (h : Holding) → IsRow c.start.layout r → c.holding r ≡ h → MarkFits h (c.words.link r).mark → (c.words.link r).mark ≡ Val → (IsInHand c r → ⊥) → (q : ℕ) × IsHead q × In r (c.chain q)
-  of_list r (in_hand j) b is fits val out = absurd (out (j, is))
-  of_list r (listed q) b is fits val out = let o = inv.holders.of_chain q r b is in (q, o.0, o.1)
-  of_list r (cut_by j) b is fits val out = absurd (del_val (sym fits ∙ val))
-  of_list r (retired t) b is fits val out = absurd (del_val (sym fits ∙ val))
+  out_of_hand : (r : ℕ) → (IsInHand c r → ⊥) → IsOutside c.holding r
+  out_of_hand r out j held = out (j, held)
 
-  no_twin : (r : ℕ) (h : Holding) → c.holding r ≡ h → TwinFits h (c.words.twin r) → (IsInHand c r → ⊥) → c.words.twin r ≡ 0
-  no_twin r (in_hand j) is fits out = absurd (out (j, is))
-  no_twin r (listed q) is fits out = fits
-  no_twin r (cut_by j) is fits out = fits
-  no_twin r (retired t) is fits out = fits
+  of_list : (r : ℕ) → IsRow c.start.layout r → (c.words.link r).mark ≡ Val → (IsInHand c r → ⊥) → (q : ℕ) × IsHead q × In r (c.chain q)
+  of_list r b val out = let at = cell_listed (c.holding r) (c.words.link r).mark (ap is_cell val) (out_of_hand r out) (inv.marks.mark r b) in let o = inv.holders.of_chain at.0 r b at.1 in (at.0, o.0, o.1)
 
-  fits : (r : ℕ) (h : Holding) → IsRow c.start.layout r → c.holding r ≡ h → MarkFits h (c.words.link r).mark
-  fits r h b is = subst (λ z. MarkFits z (c.words.link r).mark) is (inv.marks.mark r b)
+  -- a row that was cut or retired is dead
+  gone_dead : (r : ℕ) (h : Holding) → IsRow c.start.layout r → c.holding r ≡ h → sort h ≢ 0 → IsFinal (c.words.link r).mark → (c.words.link r).mark ≡ Del
+  gone_dead r h b is ne final = ⊎_elim (λ val. absurd (subst IsFinal val final)) (λ d. d) (outside_mark c inv r b (λ j held. ne (ap sort (sym is ∙ held))))
 
   pub lists_hold : ListsHold c
   lists_hold = record {
     shaped = inv.sizes.now.size;
-    opened = λ q b o. (inv.heads.opened q b o, list_of q b);
-    shut = λ q b o. let s = inv.heads.shut q b o in (s, no_rows q (c.chain q) b (λ r i. (inv.holders.in_chain q r b i).0) s.1 (inv.chains.leads q b));
+    opened = λ q b o. (open_is c inv q b o, list_of q b);
+    shut = λ q b o. let s = shut_is c inv q b o in ((s.mark, s.empty, s.older), no_rows q (c.chain q) b (λ r i. (inv.holders.in_chain q r b i).0) s.empty (inv.chains.leads q b));
     covered = λ k g r v. (inv.lanes.is_row r (k, g, v), leads_on k g r v);
-    marked = λ r q b is. fits r (listed q) b is;
-    present = λ r b. of_list r (c.holding r) b refl (inv.marks.mark r b);
-    cut = λ r j b is. fits r (cut_by j) b is;
-    retired = λ r t b is. fits r (retired t) b is;
-    twins = λ r b. no_twin r (c.holding r) refl (inv.marks.twin_is r b);
+    marked = λ r q b is. listed_mark c inv r q b is;
+    present = of_list;
+    cut = λ r j b is. gone_dead r (cut_by j) b is (λ z. omega arith) (subst (λ h. MarkFits h (c.words.link r).mark) is (inv.marks.mark r b));
+    retired = λ r t b is. gone_dead r (retired t) b is (λ z. omega arith) (subst (λ h. MarkFits h (c.words.link r).mark) is (inv.marks.mark r b));
+    twins = λ r b out. outside_twin c inv r b (out_of_hand r out);
     named = λ r q b is dead. let n = inv.naming.named r q b is dead in (n.0, n.1, (n.2.0, n.2.1, n.2.2.row, n.2.2.event));
   }
 

@@ -1,28 +1,46 @@
 -- What holds as long as no table moves. No other file opens the part that says so.
-use Rattle.std.proofs.Common.{◌≡◌, ◌⊎◌, ⊎_elim, true, false, Bool, ℕ, ◌<◌, Some, refl, sym, ap, ◌∙◌, arith}
+use Rattle.std.proofs.Common.{◌≡◌, ◌⊎◌, ⊎_elim, inl, inr, true, false, Bool, ℕ, ◌<◌, Some, refl, sym, ap, ◌∙◌, arith, ◌≤◌, subst}
+use Rattle.std.proofs.lemmas.Bool.{cases_lt, false≢true}
 use Rattle.crq_base.specs.declared.event.Event.{Event}
 use Rattle.crq_base.specs.declared.words.Link.{Link}
+use Rattle.crq_base.specs.declared.words.Mark.TheVariants.{Val, Mov, Del}
 use Rattle.crq_base.specs.declared.words.Control.{Control}
 use Rattle.crq_rule.specs.declared.debts.CutDebt.{CutDebt}
 use Rattle.crq_rule.specs.declared.layout.Start.{Start}
-use Rattle.crq_rule.specs.Places.{IsRow}
-use Rattle.crq_rule.specs.Core.{Core, Holding, IsOutside, DeadNames, HasName}
+use Rattle.crq_rule.specs.Places.{IsRow, IsHead}
+use Rattle.crq_rule.specs.Core.{Core, Holding, in_hand, listed, IsOutside, DeadNames, HasName}
 use Rattle.crq_rule.specs.Parts.{Fits, ground_of, IsGuarded}
-use Rattle.crq_rule.specs.Ranks.{Shape, list_in, head_of}
+use Rattle.crq_rule.specs.Ranks.{Shape, list_in, head_of, IsHeadIn, IsOpen}
+use Rattle.crq_rule.specs.ListParts.{IsShut, IsOldMark, IsOldHead, IsNewHead}
 use Rattle.crq_rule.specs.Steady.{Steady}
 use Rattle.crq_rule.specs.Invariant.{Inv}
 use Rattle.crq_rule.proofs.SizeLaws.{fitting_list}
 
+val_mov : Val ≡ Mov → ⊥
+val_mov e = cc
+
+del_mov : Del ≡ Mov → ⊥
+del_mov e = cc
+
+listed_hand : (q j : ℕ) → listed q ≡ in_hand j → ⊥
+listed_hand q j e = cc
+
+-- what can't fail to hold of two numbers holds
+between : (a b q : ℕ) → (((a ≤ q) × (q < b) → ⊥) → ⊥) → (a ≤ q) × (q < b)
+between a b q h = (⊎_elim (λ (l : q < a). absurd (h (λ o. let p = o.0 in omega arith))) (λ l. l) (cases_lt q a), ⊎_elim (λ l. l) (λ (l : b ≤ q). absurd (h (λ o. let p = o.1 in omega arith))) (cases_lt q b))
+
 module _ (start : Start) (control : Control) (link : ℕ → Link) (holding : ℕ → Holding) (names : ℕ → DeadNames) where
-  -- each row that is outside hands was so, and is of the table of before, or is of the open one
+  -- each row that is outside hands was so, and is as it was or dead now, or it is a present one of the open table
   pub steady_rows : (link' : ℕ → Link) (holding' : ℕ → Holding)
-      → ((r : ℕ) → IsRow start.layout r → IsOutside holding' r → (IsOutside holding r × ((link' r).generation ≡ (link r).generation)) ⊎ ((link' r).generation ≡ control.generation))
+      → ((r : ℕ) → IsRow start.layout r → IsOutside holding' r → (IsOutside holding r × ((link' r).generation ≡ (link r).generation) × (((link' r).mark ≡ (link r).mark) ⊎ ((link' r).mark ≡ Del)))
+      ⊎ (((link' r).generation ≡ control.generation) × ((link' r).mark ≡ Val)))
       → Steady start control link holding names → Steady start control link' holding' names
   steady_rows link' holding' was old = record {
     still = old.still;
     first = old.first;
     one = old.one;
-    rows = λ r b out. ⊎_elim (λ h. h.1 ∙ old.rows r b h.0) (λ now. now) (was r b out);
+    rows = λ r b out. ⊎_elim (λ h. h.1 ∙ old.rows r b h.0) (λ now. now.0) (was r b out);
+    marks = λ r b out. ⊎_elim (λ h. ⊎_elim (λ same. ⊎_elim (λ v. inl (same ∙ v)) (λ d. inr (same ∙ d)) (old.marks r b h.0)) inr h.2) (λ now. inl now.1) (was r b out);
     named = old.named;
   }
 
@@ -34,6 +52,7 @@ module _ (start : Start) (control : Control) (link : ℕ → Link) (holding : �
     first = old.first;
     one = old.one;
     rows = old.rows;
+    marks = old.marks;
     named = λ k d b has. ⊎_elim (old.named k d b) (λ of. of.3 ∙ old.rows of.0 of.1 of.2) (was k d b has);
   }
 
@@ -81,3 +100,35 @@ module _ (c : Core) (inv : Inv c) where
 
   pub named_now : (k : ℕ) (d : CutDebt) → k < c.start.layout.workers → HasName (c.named k) d → (d.generation ≡ c.words.control.generation) × (d.head ≡ head_of c.words.control d.event)
   named_now k d b has = let g = inv.steady.named k d b has in (g, (inv.dues.named k d b has).1 ∙ (ap (λ g. list_in c.shape g d.event) g ∙ open_list d.event))
+
+  -- a row that is in no hand is present or dead, and has no twin
+  pub outside_mark : (r : ℕ) → IsRow c.start.layout r → IsOutside c.holding r → ((c.words.link r).mark ≡ Val) ⊎ ((c.words.link r).mark ≡ Del)
+  outside_mark r row out = inv.steady.marks r row out
+
+  pub listed_mark : (r q : ℕ) → IsRow c.start.layout r → c.holding r ≡ listed q → ((c.words.link r).mark ≡ Val) ⊎ ((c.words.link r).mark ≡ Del)
+  listed_mark r q row is = outside_mark r row (λ j held. listed_hand q j (sym is ∙ held))
+
+  pub outside_twin : (r : ℕ) → IsRow c.start.layout r → IsOutside c.holding r → c.words.twin r ≡ 0
+  outside_twin r row out = inv.marks.bare r row out (λ m. ⊎_elim (λ v. val_mov (sym v ∙ m)) (λ d. del_mov (sym d ∙ m)) (outside_mark r row out))
+
+  pub guarded_out : (r : ℕ) → IsGuarded (ground_of c) r → IsOutside c.holding r
+  guarded_out r v j held = inv.cover.free v.0 v.1 r j v.2 held
+
+  pub guarded_twin : (r : ℕ) → IsGuarded (ground_of c) r → c.words.twin r ≡ 0
+  guarded_twin r v = outside_twin r (inv.lanes.is_row r v) (guarded_out r v)
+
+  -- the heads of the open table are those that are present, and the others are shut
+  open_now : (q : ℕ) → IsOpen c.words.control q → IsOldHead c.words.control c.shape q
+  open_now q o = subst (λ s. IsHeadIn c.words.control.generation s q) (sym inv.sizes.now.size) o
+
+  not_new : (q : ℕ) → IsNewHead c.words.control c.shape q → ⊥
+  not_new q n = false≢true (sym inv.steady.still ∙ n.0)
+
+  pub open_is : (q : ℕ) → IsHead q → IsOpen c.words.control q → ((c.words.head q).mark ≡ Val) × ((c.words.head q).generation ≡ c.words.control.generation)
+  open_is q b o = let h = inv.heads.old q b (open_now q o) in (subst (λ m. IsOldMark m (c.words.head q).mark) inv.steady.still h.1, h.0)
+
+  pub shut_is : (q : ℕ) → IsHead q → (IsOpen c.words.control q → ⊥) → IsShut c.words.control.generation q (c.words.head q)
+  shut_is q b out = inv.heads.other q b (λ o. out (subst (λ s. IsHeadIn c.words.control.generation s q) inv.sizes.now.size o)) (not_new q)
+
+  pub present_open : (q : ℕ) → IsHead q → (c.words.head q).mark ≡ Val → IsOpen c.words.control q
+  present_open q b val = between _ _ q (λ no. val_mov (sym val ∙ (shut_is q b no).mark))

@@ -18,18 +18,19 @@ use Rattle.crq_rule.specs.declared.view.Stand.{Stand}
 use Rattle.crq_rule.specs.declared.view.Sweep.{Sweep}
 use Rattle.crq_rule.specs.Lists.{put}
 use Rattle.crq_rule.specs.Places.{IsRow, IsHomeRow, IsHead}
-use Rattle.crq_rule.specs.Core.{Core, Holding, in_hand, listed, cut_by, retired}
+use Rattle.crq_rule.specs.Core.{Core}
 use Rattle.crq_rule.specs.Parts.{Leads}
-use Rattle.crq_rule.specs.ListParts.{ranks, MarkFits}
+use Rattle.crq_rule.specs.ListParts.{ranks}
 use Rattle.crq_rule.specs.Ranks.{rank, list_in, head_of, Cell, at_head, at_row, link_at, Rises, after_cell, without_row}
 use Rattle.crq_rule.specs.ScarceParts.{WasOut, Swept}
 use Rattle.crq_rule.specs.Invariant.{Inv}
-use Rattle.crq_rule.specs.ListKinds.{put_entries, is_val, is_passing, swept_head, taken_on, sweep_on, clean_on}
+use Rattle.crq_rule.specs.ListKinds.{put_entries, is_cell, is_val, is_passing, swept_head, taken_on, sweep_on, clean_on}
 use Rattle.crq_rule.proofs.Puts.{put_all}
 use Rattle.crq_rule.proofs.HistoryLaws.{not_out}
 use Rattle.crq_rule.proofs.ChainLaws.{in_cell}
 use Rattle.crq_rule.proofs.Pendings.{split_entry, both}
 use Rattle.crq_rule.proofs.CoverLaws.{guarded_by}
+use Rattle.crq_rule.proofs.HeadLaws.{cell_listed, val_carries}
 use Rattle.crq_rule.proofs.SteadyLaws.{found_now, guarded_now, open_list}
 use Rattle.crq_rule.proofs.Lawfuls.{stand_covered}
 
@@ -131,13 +132,6 @@ val_is Del e = absurd (false≢true e)
 pub del_val : Del ≡ Val → ⊥
 del_val e = cc
 
--- a present row that nobody has in hand is listed
-pub present_listed : (h : Holding) (m : Mark) → m ≡ Val → ((i : ℕ) → h ≡ in_hand i → ⊥) → MarkFits h m → (q : ℕ) × (h ≡ listed q)
-present_listed (in_hand i) m val out fits = absurd (out i refl)
-present_listed (listed q) m val out fits = (q, refl)
-present_listed (cut_by i) m val out fits = absurd (del_val (sym fits ∙ val))
-present_listed (retired t) m val out fits = absurd (del_val (sym fits ∙ val))
-
 record Passing (x : Option Control) (p : ℕ) (ss : List Stand) (s : Sweep) : Type 0 where
   control : Control
   found : x ≡ Some control
@@ -172,12 +166,12 @@ module _ (c : Core) (j : ℕ) (b : j < c.start.layout.workers) (inv : Inv c) whe
   behind_row p s is t val r head home i w = let v = stand_covered c j t.stand b t.stands inv in let x = c.words.control in
       let holds : c.words.event p ≡ t.stand.event = ap c.words.event (sym t.row) ∙ inv.standing.holds j t.stand b t.stands in
       let row : IsRow c.start.layout p = subst (IsRow c.start.layout) t.row (inv.lanes.is_row t.stand.row (guarded_by j v)) in
-      let at = present_listed (c.holding p) (c.words.link p).mark val (λ k held. inv.cover.free j v.0 t.stand.row k v.1 (ap c.holding t.row ∙ held)) (inv.marks.mark p row) in
+      let at = cell_listed (c.holding p) (c.words.link p).mark (ap is_cell val) (λ k held. inv.cover.free j v.0 t.stand.row k v.1 (ap c.holding t.row ∙ held)) (inv.marks.mark p row) in
       let in_list = inv.holders.of_chain at.0 p row at.1 in let control : t.control ≡ x = found_now c inv j t.control b t.found in
       let now = sym (inv.sorted.generation at.0 p in_list.0 in_list.1) ∙ subst (λ z. (c.words.link z).generation ≡ x.generation) t.row (guarded_now c inv t.stand.row (guarded_by j v)) in
       let list : at.0 ≡ s.head = sym (inv.sorted.belongs at.0 p in_list.0 in_list.1) ∙ ((λ k. list_in c.shape (now k) (holds k)) ∙ (open_list c inv t.stand.event ∙ (ap (λ z. head_of z t.stand.event) (sym control) ∙ t.head))) in
       let here : In p (c.chain s.head) = subst (λ q. In p (c.chain q)) list in_list.1 in
-      let apart : r ≢ p = λ same. (inv.carriers.pending p (row, (at.0, at.1), val)).kept (was_out c.history j (c.words.event p) (subst (λ z. WasOut c.history j (c.words.event z)) same w)) in
+      let apart : r ≢ p = λ same. (inv.carriers.pending p (row, (at.0, at.1), val_carries (c.words.link p).mark (c.words.twin p) (c.words.link (c.words.twin p)).mark val)).kept (was_out c.history j (c.words.event p) (subst (λ z. WasOut c.history j (c.words.event z)) same w)) in
       let high = inv.swept.left j r s b is head home i w in let low : ranks c.words.event p ≤ s.rank = subst (λ e. rank e p ≤ s.rank) (sym holds) t.low in
       next_least c.words.link (ranks c.words.event) (c.words.head s.head).row 0 p r (c.chain s.head) (inv.chains.leads s.head head) (inv.sorted.rises s.head head) (λ s' t. rows_some s.head s' head t) here i apart (omega arith)
 

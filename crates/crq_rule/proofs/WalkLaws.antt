@@ -1,6 +1,6 @@
 -- A walk keeps the invariant: it comes to rows that its guard covers, or to the first row of a list.
 use Rattle.std.proofs.Common.{◌≡◌, ◌≢◌, ◌⊎◌, ⊎_elim, inl, inr, ℕ, ◌<◌, ◌≤◌, Bool, true, false, cond, eqb, ltb, leb, ◌&&◌, ◌||◌, List, [], ◌∷◌, ◌++◌, length, Option, Some, None, sym, refl, ap, ◌∙◌, subst, eq-eqb, arith}
-use Rattle.std.proofs.lemmas.Bool.{cond_both, eqb-true, ltb-true, leb-true, and_parts, or_cases, cases_lt, false≢true}
+use Rattle.std.proofs.lemmas.Bool.{cond_both, eqb-true, ltb-true, leb-true, and_parts, or_cases, false≢true}
 use Rattle.std.proofs.lemmas.Option.{same_Some, none-some}
 use Rattle.std.proofs.lemmas.List.Elements.{Contains-append_left, filter_map-append}
 use Rattle.std.specs.Prelude.{Contains}
@@ -21,10 +21,10 @@ use Rattle.crq_rule.specs.declared.view.CutRow.{CutRow}
 use Rattle.crq_rule.specs.declared.view.Stand.{Stand}
 use Rattle.crq_rule.specs.declared.view.Walk.{Walk}
 use Rattle.crq_rule.specs.Lists.{put}
-use Rattle.crq_rule.specs.Places.{IsRow, IsHead}
-use Rattle.crq_rule.specs.Core.{Core, DeadNames, HasName, Holding, in_hand, listed, cut_by, retired}
+use Rattle.crq_rule.specs.Places.{IsHead}
+use Rattle.crq_rule.specs.Core.{Core, IsOutside, DeadNames, HasName, in_hand, retired}
 use Rattle.crq_rule.specs.Parts.{ground_of, Covers, IsGuarded, HasTag, IsOn, Names, IsPath, Reaches, rows_of, rows_of_old, rows_of_copy}
-use Rattle.crq_rule.specs.ListParts.{ranks, MarkFits, TwinFits, IsFinal, IsNamed}
+use Rattle.crq_rule.specs.ListParts.{ranks, IsFinal, IsNamed}
 use Rattle.crq_rule.specs.HistoryParts.{StandsFrom}
 use Rattle.crq_rule.specs.Invariant.{Inv}
 use Rattle.crq_rule.specs.Ranks.{rank, list_in, head_of, IsOpen, Cell, at_head, at_row, link_at}
@@ -34,7 +34,8 @@ use Rattle.crq_rule.proofs.Puts.{put_here, put_else, put_all}
 use Rattle.crq_rule.proofs.PartLaws.{sort}
 use Rattle.crq_rule.proofs.CoverLaws.{row_footing}
 use Rattle.crq_rule.proofs.SizeLaws.{fitting_list, dues_named}
-use Rattle.crq_rule.proofs.SteadyLaws.{open_list, outside_now, steady_names}
+use Rattle.crq_rule.proofs.HeadLaws.{cell_dead, cell_listed, passed_carries}
+use Rattle.crq_rule.proofs.SteadyLaws.{open_list, outside_now, outside_twin, guarded_out, guarded_twin, present_open, steady_names}
 use Rattle.crq_rule.proofs.Standings.{least, first_in, next_above, adjacent, longer, reached, path_in, in_join, join_in, rows_in, next_in, stood, row_stood, row_stays, row_next}
 
 -- the row is in a list
@@ -57,16 +58,15 @@ new_names c j cell = record (c.named j) { first = relieved (c.found j).control c
 abbrev new_walk : Core → ℕ → Cell → Bool → Option Walk
 new_walk c j cell seeks = walk_after cell seeks (cell_link c cell) (c.walk j)
 
--- a cell isn't dead
-cell_live : (m : Mark) → is_cell m ≡ true → m ≡ Del → ⊥
-cell_live m cell dead = false≢true (sym (ap is_cell dead) ∙ cell)
-
 module _ (c : Core) (inv : Inv c) where
   listed_some : (q : ℕ) → IsHead q → (r : ℕ) → In r (c.chain q) → 0 < r
   listed_some q b r i = (inv.holders.in_chain q r b i).0.0
 
+  listed_out : (q r : ℕ) → IsHead q → In r (c.chain q) → IsOutside c.holding r
+  listed_out q r b i j held = let z : ◌≡◌ {A = ℕ} 1 0 = ap sort (sym (inv.holders.in_chain q r b i).1 ∙ held) in omega arith
+
   listed_twin : (q r : ℕ) → IsHead q → In r (c.chain q) → c.words.twin r ≡ 0
-  listed_twin q r b i = let h = inv.holders.in_chain q r b i in subst (λ z. TwinFits z (c.words.twin r)) h.1 (inv.marks.twin_is r h.0)
+  listed_twin q r b i = outside_twin c inv r (inv.holders.in_chain q r b i).0 (listed_out q r b i)
 
   chain_next : (q r : ℕ) → IsHead q → In r (c.chain q) → 0 < (c.words.link r).row → In (c.words.link r).row (c.chain q) × (ranks c.words.event r < ranks c.words.event (c.words.link r).row)
   chain_next q r b i some = next_above c.words.link (ranks c.words.event) (c.words.head q).row 0 r (c.chain q) (inv.chains.leads q b) (inv.sorted.rises q b) i some
@@ -95,27 +95,10 @@ module _ (c : Core) (inv : Inv c) where
       (λ (is : (j : ℕ) × (x : CutRow) × (j < c.start.layout.workers) × (c.cut j ≡ Some x) × (x.row ≡ r) × In t x.tags).
       let d : sort (c.holding r) ≡ 2 = subst (λ z. sort (c.holding z) ≡ 2) is.4 (ap sort (inv.holders.is_cut is.0 is.1 is.2 is.3).1) in omega arith) has
 
-  -- a covered row has no twin, and one that may be followed by another row is listed
-  covered_twin : (r : ℕ) → IsGuarded (ground_of c) r → c.words.twin r ≡ 0
-  covered_twin r v = go (c.holding r) refl (inv.marks.twin_is r (inv.lanes.is_row r v))
-    where
-      go : (h : Holding) → c.holding r ≡ h → TwinFits h (c.words.twin r) → c.words.twin r ≡ 0
-      go (in_hand i) e f = absurd (inv.cover.free v.0 v.1 r i v.2 e)
-      go (listed q) e f = f
-      go (cut_by i) e f = f
-      go (retired t) e f = f
-
+  -- a covered row that may be followed by another row is listed
   covered_cell : (r : ℕ) → IsGuarded (ground_of c) r → is_cell (c.words.link r).mark ≡ true → IsListed c r
-  covered_cell r v cell = go (c.holding r) refl (inv.marks.mark r row)
-    where
-      row : IsRow c.start.layout r
-      row = inv.lanes.is_row r v
-
-      go : (h : Holding) → c.holding r ≡ h → MarkFits h (c.words.link r).mark → IsListed c r
-      go (in_hand i) e f = absurd (inv.cover.free v.0 v.1 r i v.2 e)
-      go (listed q) e f = let o = inv.holders.of_chain q r row e in (q, o.0, o.1)
-      go (cut_by i) e f = absurd (cell_live (c.words.link r).mark cell f)
-      go (retired t) e f = absurd (cell_live (c.words.link r).mark cell f)
+  covered_cell r v cell = let row = inv.lanes.is_row r v in let at = cell_listed (c.holding r) (c.words.link r).mark cell (guarded_out c inv r v) (inv.marks.mark r row) in
+      let o = inv.holders.of_chain at.0 r row at.1 in (at.0, o.0, o.1)
 
   -- what the cell's link leads to is led to from a row that the caller stands on, or listed
   from_cell : (j : ℕ) (cell : Cell) (r : ℕ) → MayWalk (c.rows j) cell → 0 < (cell_link c cell).row
@@ -259,7 +242,7 @@ module _ (c : Core) (j g : ℕ) (b : j < c.start.layout.workers) (on : c.guard j
         ∙ ((λ k. list_in c.shape (generation k) (holds k)) ∙ (fitting_list c.start c.words.control c.shape s.control fits s.stand.event ∙ (s.head ∙ sym list_is))) in
         let low : ranks c.words.event p ≤ ranks c.words.event r = subst (λ z. ranks c.words.event p ≤ z) rank_is (subst (λ z. rank z p ≤ rank d.event d.row) (sym holds) s.low) in
         let m = adjacent c.words.link (ranks c.words.event) (c.words.head q).row 0 p r (c.chain q) (inv.chains.leads q h) (inv.sorted.rises q h) (subst (λ z. In p (c.chain z)) same in_list.2) i
-        (λ e. cell_live (c.words.link p).mark past.cell_is (ap (λ z. (c.words.link z).mark) e ∙ del)) low in
+        (λ e. cell_dead (c.words.link p).mark past.cell_is (ap (λ z. (c.words.link z).mark) e ∙ del)) low in
         not_past q r (c.words.link p) d h m.0 m.1 rank_is past.gone
 
     -- and it isn't of a front that another row took the place of
@@ -276,13 +259,6 @@ record WalkFits (c : Core) (j : ℕ) (rows : List ℕ) (w : Walk) : Type 0 where
   left : (front back : List Entry) (e : Event) → c.history ≡ front ++ back → length front ≡ c.begun j → head_of c.words.control e ≡ w.head → Contains (puts front) e → (Contains (outs c.history) e → ⊥)
       → StandsFrom c.start.layout c.words.link c.words.twin c.words.event c.holding w.at e
 
--- what can't fail to hold of two numbers holds
-between : (a b q : ℕ) → (((a ≤ q) × (q < b) → ⊥) → ⊥) → (a ≤ q) × (q < b)
-between a b q h = (⊎_elim (λ (l : q < a). absurd (h (λ o. let p = o.0 in omega arith))) (λ l. l) (cases_lt q a), ⊎_elim (λ l. l) (λ (l : b ≤ q). absurd (h (λ o. let p = o.1 in omega arith))) (cases_lt q b))
-
-val_mov : Val ≡ Mov → ⊥
-val_mov e = cc
-
 -- the first step of a path from a row that has no twin is by its link
 first_step : (link : ℕ → Link) (twin : ℕ → ℕ) (r y : ℕ) (ps : List ℕ) → r ≢ y → twin r ≡ 0 → IsPath link twin r ps y → (0 < (link r).row) × Reaches link twin (link r).row y
 first_step link twin r y [] ne none path = absurd (ne path)
@@ -294,7 +270,7 @@ module _ (c : Core) (j g : ℕ) (b : j < c.start.layout.workers) (on : c.guard j
   -- a walk that begins at a head
   at_first : (q : ℕ) → IsHead q → (c.words.head q).mark ≡ Val → WalkFits c j (rows_of (next_stand (c.words.head q) (c.words.event (c.words.head q).row))) (record { head = q; at = (c.words.head q).row })
   at_first q h val = record {
-    opened = (h, between _ _ q (λ no. val_mov (sym val ∙ (inv.heads.shut q h no).0)));
+    opened = (h, present_open c inv q h val);
     at_stand = next_in (c.words.head q) (c.words.event (c.words.head q).row);
     left = λ front back e parts _ at put kept.
         let pending : IsPending c.history e = record {
@@ -304,7 +280,7 @@ module _ (c : Core) (j g : ℕ) (b : j < c.start.layout.workers) (on : c.guard j
         let y = inv.carriers.carried e pending in
         let in_list = inv.holders.of_chain y.1.1.0 y.0 y.1.0 y.1.1.1 in
         let same : y.1.1.0 ≡ q = sym (inv.sorted.belongs y.1.1.0 y.0 in_list.0 in_list.1)
-        ∙ ((λ k. list_in c.shape ((sym (inv.sorted.generation y.1.1.0 y.0 in_list.0 in_list.1) ∙ outside_now c inv y.0 y.1.0 (λ i. listed_free c inv y.1.1.0 y.0 i in_list.0 in_list.1)) k) (y.2 k)) ∙ (open_list c inv e ∙ at)) in
+        ∙ ((λ k. list_in c.shape ((sym (inv.sorted.generation y.1.1.0 y.0 in_list.0 in_list.1) ∙ outside_now c inv y.0 y.1.0 (listed_out c inv y.1.1.0 y.0 in_list.0 in_list.1)) k) (y.2 k)) ∙ (open_list c inv e ∙ at)) in
         let to = reached c.words.link c.words.twin (c.words.head q).row y.0 (c.chain q) (listed_some c inv q h) (inv.chains.leads q h) (subst (λ z. In y.0 (c.chain z)) same in_list.1) in
         record { row = y.0; some_row = to.0; live = y.1; holds = y.2; reached = to.1 };
   }
@@ -317,8 +293,8 @@ module _ (c : Core) (j g : ℕ) (b : j < c.start.layout.workers) (on : c.guard j
         opened = inv.walkers.opened j x b is;
         at_stand = next;
         left = λ front back e parts len of put kept. let f = inv.walkers.left j x front back e b is parts len of put kept in
-            let ne : r ≢ f.row = λ same. false≢true (sym (ap (λ z. is_passed (c.words.link z).mark) same ∙ ap is_passed f.live.2) ∙ passed) in
-            let to = first_step c.words.link c.words.twin r f.row f.reached.through ne (covered_twin c inv r (covered_at c j g b on inv r i)) (subst (λ z. IsPath c.words.link c.words.twin z f.reached.through f.row) at f.reached.path) in
+            let ne : r ≢ f.row = λ same. passed_carries (c.words.link f.row).mark (c.words.twin f.row) (c.words.link (c.words.twin f.row)).mark (subst (λ z. is_passed (c.words.link z).mark ≡ true) same passed) f.live.2 in
+            let to = first_step c.words.link c.words.twin r f.row f.reached.through ne (guarded_twin c inv r (covered_at c j g b on inv r i)) (subst (λ z. IsPath c.words.link c.words.twin z f.reached.through f.row) at f.reached.path) in
             record { row = f.row; some_row = to.0; live = f.live; holds = f.holds; reached = to.1 };
       })
       (λ _. record { opened = inv.walkers.opened j x b is; at_stand = inr (subst (λ z. In z rows) (sym at) stays); left = λ front back e. inv.walkers.left j x front back e b is })

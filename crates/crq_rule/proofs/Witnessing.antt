@@ -1,5 +1,5 @@
 -- The parts are no empty talk: a state with a listed row that holds a pending event and that a guard covers, a cut row that has a tag, and a retired row meets the invariant.
-use Rattle.std.proofs.Common.{◌++◌, ◌≡◌, ◌≢◌, ⊎_elim, inl, inr, ℕ, ◌-◌, ◌*◌, ◌/◌, ◌<◌, ◌≤◌, List, [], ◌∷◌, length, Option, Some, None, sym, refl, ap, ◌∙◌, subst, arith}
+use Rattle.std.proofs.Common.{◌++◌, ◌⊎◌, ◌≡◌, ◌≢◌, ⊎_elim, inl, inr, ℕ, ◌-◌, ◌*◌, ◌/◌, ◌<◌, ◌≤◌, List, [], ◌∷◌, length, Option, Some, None, sym, refl, ap, ◌∙◌, subst, arith}
 use mathlib.Core.Logic.{dite}
 use native.Mathlib.Decide.{ℕ_discrete}
 use Rattle.crq_base.specs.declared.event.Event.{Event}
@@ -10,7 +10,7 @@ use Rattle.crq_base.specs.Histories.{own as own_of, Began}
 use Rattle.crq_base.proofs.HistoryLaws.{own_other, last_one, not_nil}
 use Rattle.crq_base.proofs.Deeds.{alone}
 use Rattle.crq_base.specs.declared.words.Link.{Link}
-use Rattle.crq_base.specs.declared.words.Mark.TheVariants.{Val, Del}
+use Rattle.crq_base.specs.declared.words.Mark.TheVariants.{Val, Mov, Del}
 use Rattle.crq_base.specs.Words.{IsLink}
 use Rattle.crq_base.specs.Starts.{IsFirst}
 use Rattle.crq_base.specs.Lists.{In, IsOnce}
@@ -24,14 +24,16 @@ use Rattle.crq_rule.specs.Lists.{put}
 use Rattle.crq_rule.specs.Places.{IsRow, IsHomeRow, IsHead}
 use Rattle.crq_rule.specs.Core.{Core, Holding, in_hand, listed, cut_by, retired}
 use Rattle.crq_rule.specs.Parts.{Holders, Stamps, Leads, IsPath, ground_of, rows_of, stamp_of}
-use Rattle.crq_rule.specs.Ranks.{rank, head_for, bucket, list_in, IsOpen, Rises}
-use Rattle.crq_rule.specs.ListParts.{Heads, Sorted, Marks, Standing, Lanes, Naming, IsOpenHead, IsShutHead, MarkFits, TwinFits, IsFinal, ranks}
+use Rattle.crq_rule.specs.Ranks.{rank, head_for, bucket, list_in, Rises}
+use Rattle.crq_rule.specs.ListParts.{Heads, Sorted, Marks, Standing, Lanes, Naming, IsShut, IsOldHead, IsNewHead, MarkFits, IsFinal, ranks}
 use Rattle.crq_rule.specs.HistoryParts.{Carriers, Told, EndsInBegin}
 use Rattle.crq_rule.specs.Invariant.{Inv}
 use Rattle.crq_rule.specs.Rule.{rows_from}
 use Rattle.crq_rule.specs.Opening.{opening_core, opening_words, opening_head, home_of}
 use Rattle.crq_rule.specs.Stated.{Witness, IsCovered}
 use Rattle.crq_rule.proofs.Puts.{put_here, put_else, put_all}
+use Rattle.std.proofs.lemmas.Bool.{false≢true}
+use Rattle.crq_rule.proofs.HeadLaws.{val_carries}
 use Rattle.crq_rule.proofs.PartLaws.{sort, of_whom}
 use Rattle.crq_rule.proofs.HolderLaws.{none_some, some_some}
 use Rattle.crq_rule.proofs.Pendings.{none_counted}
@@ -197,16 +199,33 @@ present_one = put_here (λ _. dead) 1 present
 dead_else : (r : ℕ) → r ≢ 1 → (links r).mark ≡ Del
 dead_else r ne = ap (λ (l : Link). l.mark) (put_else (λ _. dead) 1 present r ne)
 
-marks : Marks layout links core.words.twin holding
+-- each row is present or dead
+present_dead : (r : ℕ) → ((links r).mark ≡ Val) ⊎ ((links r).mark ≡ Del)
+present_dead = put_all (λ _. dead) 1 present (λ r l. (l.mark ≡ Val) ⊎ (l.mark ≡ Del)) (inl refl) (λ _ _. inr refl)
+
+val_mov : Val ≡ Mov → ⊥
+val_mov e = cc
+
+del_mov : Del ≡ Mov → ⊥
+del_mov e = cc
+
+none_frozen : (r : ℕ) → (links r).mark ≡ Mov → ⊥
+none_frozen r m = ⊎_elim (λ v. val_mov (sym v ∙ m)) (λ d. del_mov (sym d ∙ m)) (present_dead r)
+
+marks : Marks layout core.words.control core.words.head links core.words.twin holding
 marks = record {
-  mark = each_row (λ r h. IsRow layout r → MarkFits h (links r).mark) (λ _. inl (ap (λ (l : Link). l.mark) present_one)) (λ _. dead_else 2 (λ e. omega arith)) (λ _. dead_else 3 (λ e. omega arith)) (λ _ _ _ _ _. tt);
-  twin_is = each_row (λ r h. IsRow layout r → TwinFits h 0) (λ _. refl) (λ _. refl) (λ _. refl) (λ _ _ _ _ _. tt);
+  mark = each_row (λ r h. IsRow layout r → MarkFits h (links r).mark) (λ _. tt) (λ _. subst IsFinal (sym (dead_else 2 (λ e. omega arith))) tt) (λ _. subst IsFinal (sym (dead_else 3 (λ e. omega arith))) tt) (λ _ _ _ _ _. tt);
+  first = λ _ r _ _ m. absurd (none_frozen r m);
+  bare = λ _ _ _ _. refl;
+  aged = λ r _ _ m. absurd (none_frozen r m);
 }
 
-next_head : Heads core.words.control core.words.head
+next_head : Heads core.words.control core.shape core.words.head
 next_head = record {
-  opened = put_all (opening_head 1) q head_link (λ p l. IsHead p → IsOpen core.words.control p → IsOpenHead core.words.control l) (λ _ _. (refl, refl)) (λ p _. old.heads.opened p);
-  shut = put_all (opening_head 1) q head_link (λ p l. IsHead p → (IsOpen core.words.control p → ⊥) → IsShutHead core.words.control l) (λ _ out. absurd (out (omega arith, omega arith))) (λ p _. old.heads.shut p);
+  old = put_all (opening_head 1) q head_link (λ p l. IsHead p → IsOldHead core.words.control core.shape p → (l.generation ≡ 1) × (l.mark ≡ Val)) (λ _ _. (refl, refl)) (λ p _. old.heads.old p);
+  new = λ _ _ n. absurd (false≢true n.0);
+  other = put_all (opening_head 1) q head_link (λ p l. IsHead p → (IsOldHead core.words.control core.shape p → ⊥) → (IsNewHead core.words.control core.shape p → ⊥) → IsShut 1 p l) (λ _ out _. absurd (out (omega arith, omega arith))) (λ p _. old.heads.other p);
+  order = λ _ _ _ _ _ _ n. absurd (false≢true n.0);
 }
 
 sorted : Sorted core.shape core.words.head links core.words.event chain
@@ -247,9 +266,9 @@ naming = record {
     val_del : Val ≡ Del → ⊥
     val_del e = cc
 
-carriers : Carriers layout entries links core.words.event holding
+carriers : Carriers layout entries links core.words.twin core.words.event holding
 carriers = record {
-  carried = λ e p. (1, ((omega arith, omega arith), (q, is_one), ap (λ (l : Link). l.mark) present_one), same e (alone (Some event) e p.put));
+  carried = λ e p. (1, ((omega arith, omega arith), (q, is_one), val_carries (links 1).mark 0 (links 0).mark (ap (λ (l : Link). l.mark) present_one)), same e (alone (Some event) e p.put));
   pending = λ r live. record { put = (0, omega arith, refl); kept = λ t. let low = t.1 in omega arith };
   one = λ r t live live' _. listed_only r live.1.0 live.1.1 ∙ sym (listed_only t live'.1.0 live'.1.1);
 }
@@ -326,7 +345,7 @@ core_inv = record {
     rows = λ r _ _. let g = generation r in omega arith;
   };
   dues = old.dues;
-  steady = record { still = refl; first = refl; one = refl; rows = λ r _ _. generation r; named = old.steady.named };
+  steady = record { still = refl; first = refl; one = refl; rows = λ r _ _. generation r; marks = λ r _ _. present_dead r; named = old.steady.named };
   heads = next_head;
   sorted = sorted;
   marks = marks;

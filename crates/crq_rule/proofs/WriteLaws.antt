@@ -4,7 +4,7 @@ use mathlib.Core.Logic.{dite}
 use native.Mathlib.Decide.{ℕ_discrete}
 use Rattle.crq_base.specs.declared.event.Event.{Event}
 use Rattle.crq_base.specs.declared.words.Link.{Link}
-use Rattle.crq_base.specs.declared.words.Mark.TheVariants.{Del}
+use Rattle.crq_base.specs.declared.words.Mark.TheVariants.{Mov, Del}
 use Rattle.crq_base.specs.Words.{IsLink}
 use Rattle.crq_base.specs.Histories.{IsPending}
 use Rattle.crq_base.specs.Lists.{In}
@@ -15,16 +15,16 @@ use Rattle.crq_rule.specs.declared.view.Walk.{Walk}
 use Rattle.crq_rule.specs.declared.view.Wrote.{Wrote}
 use Rattle.crq_rule.specs.Lists.{put}
 use Rattle.crq_rule.specs.Places.{IsRow, IsHead}
-use Rattle.crq_rule.specs.Core.{Core, HasName, in_hand, listed}
-use Rattle.crq_rule.specs.Parts.{Ground, ground_of, footings, IsEvent, IsGuarded, Leads, Names, IsPath, Reaches, Covers, rows_of}
+use Rattle.crq_rule.specs.Core.{Core, IsOutside, HasName, in_hand, listed}
+use Rattle.crq_rule.specs.Parts.{newest, Ground, ground_of, footings, IsEvent, IsGuarded, Leads, Names, IsPath, Reaches, Covers, rows_of}
 use Rattle.crq_rule.specs.Ranks.{rank, list_in, Rises}
-use Rattle.crq_rule.specs.ListParts.{ranks, MarkFits, TwinFits, IsNamed, row_word}
-use Rattle.crq_rule.specs.HistoryParts.{IsLive}
+use Rattle.crq_rule.specs.ListParts.{ranks, MarkFits, IsNamed, row_word}
+use Rattle.crq_rule.specs.HistoryParts.{IsCarrying, IsLive}
 use Rattle.crq_rule.specs.Invariant.{Inv}
 use Rattle.crq_rule.specs.ListKinds.{Content, new_link, no_twin, new_time, new_source, new_sequence, new_load, IsContent, content_number, content_word, link_after, twin_after, event_after, unwritten, wrote, written_at}
 use Rattle.crq_rule.proofs.SweepLaws.{swept_events}
 use Rattle.crq_rule.proofs.Puts.{put_here, put_else, put_all}
-use Rattle.crq_rule.proofs.PartLaws.{sort, of_whom}
+use Rattle.crq_rule.proofs.PartLaws.{home_is_row, sort, of_whom}
 use Rattle.crq_rule.specs.declared.debts.CutDebt.{CutDebt}
 use Rattle.crq_rule.proofs.SizeLaws.{sizes_rows}
 use Rattle.crq_rule.proofs.SteadyLaws.{steady_rows}
@@ -195,13 +195,27 @@ module _ (c : Core) (j r : ℕ) (x : Content) (b : j < c.start.layout.workers) (
   guarded_old : (s : ℕ) → IsGuarded (record (ground_of c) { link = link; twin = twin }) s → IsGuarded (ground_of c) s
   guarded_old s v = (v.0, v.1, covers_old v.0 v.1 s v.2)
 
-  live_old : (s : ℕ) → IsLive c.start.layout link c.holding s → IsLive c.start.layout c.words.link c.holding s
-  live_old s live = (live.0, live.1, ap (λ (l : Link). l.mark) (sym (links_else s (listed_else s live.1.0 live.1.1))) ∙ live.2)
+  outside_else : (s : ℕ) → IsOutside c.holding s → s ≢ r
+  outside_else s out e = out j (ap c.holding e ∙ held)
 
-  live_new : (s : ℕ) → IsLive c.start.layout c.words.link c.holding s → IsLive c.start.layout link c.holding s
-  live_new s live = (live.0, live.1, ap (λ (l : Link). l.mark) (links_else s (listed_else s live.1.0 live.1.1)) ∙ live.2)
+  -- nor is it the twin of a listed row
+  twin_else : (s q : ℕ) → IsRow c.start.layout s → c.holding s ≡ listed q → c.words.twin s ≢ r
+  twin_else s q d at e = let o = inv.holders.of_chain q s d at in ⊎_elim
+      (λ none. let some = (home_is_row c.start.layout j r b (inv.holders.held j r b hand).0).0 in absurd (omega arith))
+      (λ (h : (p : ℕ) × IsHead p × In (c.words.twin s) (c.chain p)). chained_else h.0 (c.words.twin s) h.1 h.2 e) (inv.chains.twins q s o.0 o.1)
 
-  live_event : (s : ℕ) → IsLive c.start.layout c.words.link c.holding s → event s ≡ c.words.event s
+  carrying_same : (s q : ℕ) → IsRow c.start.layout s → c.holding s ≡ listed q
+      → IsCarrying (link s).mark (twin s) (link (twin s)).mark ≡ IsCarrying (c.words.link s).mark (c.words.twin s) (c.words.link (c.words.twin s)).mark
+  carrying_same s q d at = let ne = listed_else s q at in
+      (λ i. IsCarrying (links_else s ne i).mark (twins_else s ne i) (link (twins_else s ne i)).mark) ∙ ap (λ (l : Link). IsCarrying (c.words.link s).mark (c.words.twin s) l.mark) (links_else (c.words.twin s) (twin_else s q d at))
+
+  live_old : (s : ℕ) → IsLive c.start.layout link twin c.holding s → IsLive c.start.layout c.words.link c.words.twin c.holding s
+  live_old s live = (live.0, live.1, subst (λ P. P) (carrying_same s live.1.0 live.0 live.1.1) live.2)
+
+  live_new : (s : ℕ) → IsLive c.start.layout c.words.link c.words.twin c.holding s → IsLive c.start.layout link twin c.holding s
+  live_new s live = (live.0, live.1, subst (λ P. P) (sym (carrying_same s live.1.0 live.0 live.1.1)) live.2)
+
+  live_event : (s : ℕ) → IsLive c.start.layout c.words.link c.words.twin c.holding s → event s ≡ c.words.event s
   live_event s live = events_else s (listed_else s live.1.0 live.1.1)
 
   abbrev new_words : List Wrote
@@ -235,7 +249,7 @@ module _ (c : Core) (j r : ℕ) (x : Content) (b : j < c.start.layout.workers) (
     };
     sizes = sizes_rows _ _ _ _ _ _ _ _ _ (λ _ _. refl) (λ s _ out. inl (out, ap (λ (l : Link). l.generation) (links_else s (λ e. out j (ap c.holding e ∙ held))))) inv.sizes;
     dues = inv.dues;
-    steady = steady_rows _ _ _ _ _ _ _ (λ s _ out. inl (out, ap (λ (l : Link). l.generation) (links_else s (λ e. out j (ap c.holding e ∙ held))))) inv.steady;
+    steady = steady_rows _ _ _ _ _ _ _ (λ s _ out. let same = links_else s (λ e. out j (ap c.holding e ∙ held)) in inl (out, ap (λ (l : Link). l.generation) same, inl (ap (λ (l : Link). l.mark) same))) inv.steady;
     heads = inv.heads;
     sorted = record {
       rises = λ q d. rises_same (ranks c.words.event) (ranks event) 0 (c.chain q) (λ s i. ap (λ e. rank e s) (events_else s (chained_else q s d i))) (inv.sorted.rises q d);
@@ -244,7 +258,9 @@ module _ (c : Core) (j r : ℕ) (x : Content) (b : j < c.start.layout.workers) (
     };
     marks = record {
       mark = put_all c.words.link r (link_after x (c.words.link r)) (λ s l. IsRow c.start.layout s → MarkFits (c.holding s) l.mark) (λ _. subst (λ h. MarkFits h (link_after x (c.words.link r)).mark) (sym held) tt) (λ s _. inv.marks.mark s);
-      twin_is = put_all c.words.twin r (twin_after x (c.words.twin r)) (λ s t. IsRow c.start.layout s → TwinFits (c.holding s) t) (λ _. subst (λ h. TwinFits h (twin_after x (c.words.twin r))) (sym held) tt) (λ s _. inv.marks.twin_is s);
+      first = λ q s d at frozen. inv.marks.first q s d at (ap (λ (l : Link). l.mark) (sym (links_else s (listed_else s q at))) ∙ frozen);
+      bare = λ s d out live. twins_else s (outside_else s out) ∙ inv.marks.bare s d out (λ m. live (ap (λ (l : Link). l.mark) (links_else s (outside_else s out)) ∙ m));
+      aged = λ s d out. subst (λ (l : Link). l.mark ≡ Mov → l.generation < newest c.words.control) (sym (links_else s (outside_else s out))) (inv.marks.aged s d out);
     };
     standing = record {
       holds = λ k s d i. events_else s.row (stand_else k s d i) ∙ inv.standing.holds k s d i;

@@ -6,7 +6,8 @@ use Rattle.crq_base.specs.declared.entry.Entry.TheVariants.{Begin, Put}
 use Rattle.crq_base.specs.Entries.{caller_of as whose}
 use Rattle.crq_base.specs.Histories.{puts, settleds, outs, own as own_of, IsPending, Began, IsLegal}
 use Rattle.crq_base.specs.declared.words.Link.{Link}
-use Rattle.crq_base.specs.declared.words.Mark.TheVariants.{Val}
+use Rattle.crq_base.specs.declared.words.Mark.{Mark}
+use Rattle.crq_base.specs.declared.words.Mark.TheVariants.{Val, Inv as Invalid, Mov, Del}
 use Rattle.crq_base.specs.declared.words.Control.{Control}
 use Rattle.crq_base.specs.Lists.{In}
 use Rattle.crq_base.specs.Sources.{owner_of}
@@ -19,18 +20,25 @@ use Rattle.crq_rule.specs.Core.{Holding, listed}
 use Rattle.crq_rule.specs.Parts.{Reaches, rows_of}
 use Rattle.crq_rule.specs.Ranks.{head_of, IsOpen}
 
--- 14. Carriers: each pending event stands in one row that is listed and present, and each such row holds a pending event
+-- 15. Carriers: each pending event stands in one row that carries it, and each such row holds a pending event
 
--- the row r is listed and present
-abbrev pub IsLive : Layout → (ℕ → Link) → (ℕ → Holding) → ℕ → Type 0
-IsLive l link holding r = IsRow l r × ((q : ℕ) × (holding r ≡ listed q)) × ((link r).mark ≡ Val)
+-- A row carries its event if it is present, or if it is frozen and its copy isn't valid yet. This is said of the row's mark, its twin and that one's mark
+abbrev pub IsCarrying : Mark → ℕ → Mark → Type 0
+IsCarrying Val t m = Unit {0}
+IsCarrying Invalid t m = ⊥
+IsCarrying Mov t m = (t ≡ 0) ⊎ (m ≡ Invalid)
+IsCarrying Del t m = ⊥
 
-pub record Carriers (l : Layout) (history : List Entry) (link : ℕ → Link) (event : ℕ → Event) (holding : ℕ → Holding) : Type 0 where
-  pub carried : (e : Event) → IsPending history e → (r : ℕ) × IsLive l link holding r × (event r ≡ e)
-  pub pending : (r : ℕ) → IsLive l link holding r → IsPending history (event r)
-  pub one : (r s : ℕ) → IsLive l link holding r → IsLive l link holding s → event r ≡ event s → r ≡ s
+-- the row r is listed, and carries its event
+abbrev pub IsLive : Layout → (ℕ → Link) → (ℕ → ℕ) → (ℕ → Holding) → ℕ → Type 0
+IsLive l link twin holding r = IsRow l r × ((q : ℕ) × (holding r ≡ listed q)) × IsCarrying (link r).mark (twin r) (link (twin r)).mark
 
--- 15. The history
+pub record Carriers (l : Layout) (history : List Entry) (link : ℕ → Link) (twin : ℕ → ℕ) (event : ℕ → Event) (holding : ℕ → Holding) : Type 0 where
+  pub carried : (e : Event) → IsPending history e → (r : ℕ) × IsLive l link twin holding r × (event r ≡ e)
+  pub pending : (r : ℕ) → IsLive l link twin holding r → IsPending history (event r)
+  pub one : (r s : ℕ) → IsLive l link twin holding r → IsLive l link twin holding s → event r ≡ event s → r ≡ s
+
+-- 16. The history
 
 -- the last of these entries is a Begin
 abbrev pub EndsInBegin : List Entry → Type 0
@@ -49,12 +57,12 @@ pub record Told (n : ℕ) (history : List Entry) (deal : Deal) (own : ℕ → Li
   pub begun_low : (j : ℕ) → j < n → begun j ≤ length history
   pub began : (j : ℕ) → j < n → EndsInBegin (own j) → (front : List Entry) × (length front ≡ begun j) × Began j history front
 
--- 16. Walkers: each event of the list that was put before the caller's last Begin and is pending stands in a row at which the caller is, or that links lead to from there
+-- 17. Walkers: each event of the list that was put before the caller's last Begin and is pending stands in a row at which the caller is, or that links lead to from there
 
 pub record StandsFrom (l : Layout) (link : ℕ → Link) (twin : ℕ → ℕ) (event : ℕ → Event) (holding : ℕ → Holding) (at : ℕ) (e : Event) : Type 0 where
   pub row : ℕ
   pub some_row : 0 < at
-  pub live : IsLive l link holding row
+  pub live : IsLive l link twin holding row
   pub holds : event row ≡ e
   pub reached : Reaches link twin at row
 

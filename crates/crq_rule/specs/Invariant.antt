@@ -19,14 +19,14 @@ pub record Inv (c : Core) : Type 0 where
   pub sizes : Sizes c.start c.words.control c.shape c.words.head c.words.link c.holding
   pub dues : Dues c.start.layout.workers c.words.control c.shape c.settling c.copying c.named
   pub steady : Steady c.start c.words.control c.words.link c.holding c.named
-  pub heads : Heads c.words.control c.words.head
+  pub heads : Heads c.words.control c.shape c.words.head
   pub sorted : Sorted c.shape c.words.head c.words.link c.words.event c.chain
-  pub marks : Marks c.start.layout c.words.link c.words.twin c.holding
+  pub marks : Marks c.start.layout c.words.control c.words.head c.words.link c.words.twin c.holding
   pub standing : Standing c.start.layout.workers c.words.link c.words.event c.rows
   pub lanes : Lanes c.start.layout c.shape (ground_of c) c.words.event
   pub writing : Writing c.start.layout.workers c.words.link c.words.twin c.words.event c.hand c.written
   pub naming : Naming c.start.layout c.words.head c.words.link c.words.event c.named c.holding
-  pub carriers : Carriers c.start.layout c.history c.words.link c.words.event c.holding
+  pub carriers : Carriers c.start.layout c.history c.words.link c.words.twin c.words.event c.holding
   pub told : Told c.start.layout.workers c.history c.deal c.own c.begun
   pub walkers : Walkers c.start.layout c.words.control c.history c.begun c.words.link c.words.twin c.words.event c.holding c.rows c.walk
   pub scarce : Scarce c.start.layout c.words.epoch c.history c.base c.guard c.holding

@@ -387,7 +387,7 @@ pub record MayLink (n : ℕ) (x : Control) (cell : Cell) (l : Link) (r : ℕ) (e
   pub control : p.found.control ≡ Some x
   pub in_hand_is : In r p.hand
   pub event : IsEvent e
-  pub expected : IsLink l × (l.mark ≡ Val) × (l.generation ≡ x.generation)
+  pub expected : IsLink l × (is_cell l.mark ≡ true) × (l.generation ≡ x.generation)
   pub written : IsWritten p.written r e l
   pub after : ComesAfter x p.position.rows cell r e
   pub before : ComesBefore p.position.rows l.row r e

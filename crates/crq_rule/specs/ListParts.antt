@@ -1,5 +1,5 @@
 -- The parts of the invariant on lists: their heads, their order, marks, rows that callers stand on, words that they wrote, and dead rows. Each is a record over just the components that it reads.
-use Rattle.std.specs.Prelude.{◌≡◌, ◌⊎◌, ◌≤◌, true, ℕ, zero, suc, ◌+◌, ◌*◌, ◌^◌, ◌<◌, List, Option, Some}
+use Rattle.std.specs.Prelude.{◌≡◌, ◌⊎◌, ◌≤◌, true, false, ℕ, zero, suc, ◌+◌, ◌*◌, ◌^◌, ◌<◌, List, Option, Some, Bool}
 use Rattle.crq_base.specs.declared.event.Event.{Event}
 use Rattle.crq_base.specs.declared.words.Link.{Link}
 use Rattle.crq_base.specs.declared.words.Mark.{Mark}
@@ -17,7 +17,7 @@ use Rattle.crq_rule.specs.declared.view.Wrote.{Wrote}
 use Rattle.crq_rule.specs.Places.{IsRow, IsHead}
 use Rattle.crq_rule.specs.Core.{Holding, IsOutside, DeadNames, HasName, in_hand, listed, cut_by, retired}
 use Rattle.crq_rule.specs.Parts.{newest, Fits, Ground, IsGuarded, IsEvent}
-use Rattle.crq_rule.specs.Ranks.{rank, Shape, list_in, IsOpen, Rises}
+use Rattle.crq_rule.specs.Ranks.{rank, Shape, list_in, first_head_of, IsHeadIn, Rises}
 
 abbrev pub ranks : (ℕ → Event) → ℕ → ℕ
 ranks event r = rank (event r) r
@@ -35,44 +35,7 @@ pub record Dues (n : ℕ) (control : Control) (shape : ℕ → Shape) (settling 
   pub copies : (k : ℕ) (d : CopyDebt) → k < n → copying k ≡ Some d → (d.generation ≤ newest control) × (d.head ≡ list_in shape d.generation d.event)
   pub named : (k : ℕ) (d : CutDebt) → k < n → HasName (names k) d → (d.generation ≤ newest control) × (d.head ≡ list_in shape d.generation d.event)
 
--- Heads: those of the open table are open and of its generation, all others shut, older and empty
-
-abbrev pub IsOpenHead : Control → Link → Type 0
-IsOpenHead c l = (l.mark ≡ Val) × (l.generation ≡ c.generation)
-
-abbrev pub IsShutHead : Control → Link → Type 0
-IsShutHead c l = (l.mark ≡ Mov) × (l.row ≡ 0) × (l.generation < c.generation)
-
-pub record Heads (control : Control) (head : ℕ → Link) : Type 0 where
-  pub opened : (q : ℕ) → IsHead q → IsOpen control q → IsOpenHead control (head q)
-  pub shut : (q : ℕ) → IsHead q → (IsOpen control q → ⊥) → IsShutHead control (head q)
-
--- 8. Order: the rows of each list rise by key and row, are of its head's generation, and hold events of that list
-
-pub record Sorted (shape : ℕ → Shape) (head link : ℕ → Link) (event : ℕ → Event) (chain : ℕ → List ℕ) : Type 0 where
-  pub rises : (q : ℕ) → IsHead q → Rises (ranks event) 0 (chain q)
-  pub belongs : (q r : ℕ) → IsHead q → In r (chain q) → list_in shape (head q).generation (event r) ≡ q
-  pub generation : (q r : ℕ) → IsHead q → In r (chain q) → (link r).generation ≡ (head q).generation
-
--- 9. Marks: a listed row is present or dead, a row that was cut or retired is dead, and none of them has a twin
-
-abbrev pub MarkFits : Holding → Mark → Type 0
-MarkFits (in_hand j) m = Unit {0}
-MarkFits (listed q) m = (m ≡ Val) ⊎ (m ≡ Del)
-MarkFits (cut_by j) m = m ≡ Del
-MarkFits (retired t) m = m ≡ Del
-
-abbrev pub TwinFits : Holding → ℕ → Type 0
-TwinFits (in_hand j) t = Unit {0}
-TwinFits (listed q) t = t ≡ 0
-TwinFits (cut_by j) t = t ≡ 0
-TwinFits (retired s) t = t ≡ 0
-
-pub record Marks (l : Layout) (link : ℕ → Link) (twin : ℕ → ℕ) (holding : ℕ → Holding) : Type 0 where
-  pub mark : (r : ℕ) → IsRow l r → MarkFits (holding r) (link r).mark
-  pub twin_is : (r : ℕ) → IsRow l r → TwinFits (holding r) (twin r)
-
--- 10. Stands: what a caller knows of the rows that it stands on
+-- 8. Heads: those of the open table are of its generation, and while it moves they come to be frozen; those of the table that it moves into are prepared, or shut still; all others are shut
 
 -- a link with this mark never changes again
 abbrev pub IsFinal : Mark → Type 0
@@ -81,11 +44,63 @@ IsFinal Invalid = ⊥
 IsFinal Mov = Unit {0}
 IsFinal Del = Unit {0}
 
+-- the head q is in no table: it is frozen and empty, and an older table of its bank left it so, or none yet had it
+pub record IsShut (g q : ℕ) (l : Link) : Type 0 where
+  pub mark : l.mark ≡ Mov
+  pub empty : l.row ≡ 0
+  pub older : l.generation < g
+  pub bank : (l.generation ≡ 0) ⊎ ((first_head_of l.generation ≤ q) × (q < first_head_of l.generation + 32768))
+
+abbrev pub IsPrepared : ℕ → Link → Type 0
+IsPrepared g l = (l.generation ≡ g) × (l.mark ≡ Val)
+
+-- the mark of a head of the open table, where this says whether it moves
+abbrev pub IsOldMark : Bool → Mark → Type 0
+IsOldMark false m = m ≡ Val
+IsOldMark true m = (m ≡ Val) ⊎ (m ≡ Mov)
+
+-- the head is one of the open table, or of the one that it moves into
+abbrev pub IsOldHead : Control → (ℕ → Shape) → ℕ → Type 0
+IsOldHead x shape q = IsHeadIn x.generation (shape x.generation) q
+
+abbrev pub IsNewHead : Control → (ℕ → Shape) → ℕ → Type 0
+IsNewHead x shape q = (x.moving ≡ true) × IsHeadIn (x.generation + 1) (shape (x.generation + 1)) q
+
+pub record Heads (control : Control) (shape : ℕ → Shape) (head : ℕ → Link) : Type 0 where
+  pub old : (q : ℕ) → IsHead q → IsOldHead control shape q → ((head q).generation ≡ control.generation) × IsOldMark control.moving (head q).mark
+  pub new : (q : ℕ) → IsHead q → IsNewHead control shape q → IsPrepared (control.generation + 1) (head q) ⊎ IsShut control.generation q (head q)
+  pub other : (q : ℕ) → IsHead q → (IsOldHead control shape q → ⊥) → (IsNewHead control shape q → ⊥) → IsShut control.generation q (head q)
+  -- no head is frozen before all new ones are prepared
+  pub order : (p q : ℕ) → IsHead p → IsHead q → IsOldHead control shape p → (head p).mark ≡ Mov → IsNewHead control shape q → IsPrepared (control.generation + 1) (head q)
+
+-- 9. Order: the rows of each list rise by key and row, are of its head's generation, and hold events of that list
+
+pub record Sorted (shape : ℕ → Shape) (head link : ℕ → Link) (event : ℕ → Event) (chain : ℕ → List ℕ) : Type 0 where
+  pub rises : (q : ℕ) → IsHead q → Rises (ranks event) 0 (chain q)
+  pub belongs : (q r : ℕ) → IsHead q → In r (chain q) → list_in shape (head q).generation (event r) ≡ q
+  pub generation : (q r : ℕ) → IsHead q → In r (chain q) → (link r).generation ≡ (head q).generation
+
+-- 10. Marks: a row that was cut or retired has its last mark. A row that isn't in hand has a twin only if it is frozen, and so of an older table than the newest; in its list it is the first, and the head is frozen
+
+abbrev pub MarkFits : Holding → Mark → Type 0
+MarkFits (in_hand j) m = Unit {0}
+MarkFits (listed q) m = Unit {0}
+MarkFits (cut_by j) m = IsFinal m
+MarkFits (retired t) m = IsFinal m
+
+pub record Marks (l : Layout) (control : Control) (head link : ℕ → Link) (twin : ℕ → ℕ) (holding : ℕ → Holding) : Type 0 where
+  pub mark : (r : ℕ) → IsRow l r → MarkFits (holding r) (link r).mark
+  pub first : (q r : ℕ) → IsRow l r → holding r ≡ listed q → (link r).mark ≡ Mov → ((head q).mark ≡ Mov) × ((head q).row ≡ r)
+  pub bare : (r : ℕ) → IsRow l r → IsOutside holding r → ((link r).mark ≡ Mov → ⊥) → twin r ≡ 0
+  pub aged : (r : ℕ) → IsRow l r → IsOutside holding r → (link r).mark ≡ Mov → (link r).generation < newest control
+
+-- 11. Stands: what a caller knows of the rows that it stands on
+
 pub record Standing (n : ℕ) (link : ℕ → Link) (event : ℕ → Event) (rows : ℕ → List Stand) : Type 0 where
   pub holds : (k : ℕ) (s : Stand) → k < n → In s (rows k) → event s.row ≡ s.event
   pub last : (k : ℕ) (s : Stand) (l : Link) → k < n → In s (rows k) → s.last ≡ Some l → (link s.row ≡ l) × IsFinal l.mark
 
--- 11. Lanes: from a row that a guard covers links lead on to greater rows of the same list
+-- 12. Lanes: from a row that a guard covers links lead on to greater rows of the same list
 
 pub record Lanes (l : Layout) (shape : ℕ → Shape) (ground : Ground) (event : ℕ → Event) : Type 0 where
   pub is_row : (r : ℕ) → IsGuarded ground r → IsRow l r
@@ -93,7 +108,7 @@ pub record Lanes (l : Layout) (shape : ℕ → Shape) (ground : Ground) (event :
   pub stays : (r : ℕ) → IsGuarded ground r → 0 < (ground.link r).row → list_in shape (ground.link r).generation (event (ground.link r).row) ≡ list_in shape (ground.link r).generation (event r)
   pub generation : (r : ℕ) → IsGuarded ground r → 0 < (ground.link r).row → (ground.link (ground.link r).row).generation ≡ (ground.link r).generation
 
--- 12. Writing: the words that a caller wrote stand in its rows in hand
+-- 13. Writing: the words that a caller wrote stand in its rows in hand
 
 -- the word at this place of a row: 0 is the link, 1 the twin, 2 to 5 are the words of the event
 abbrev pub row_word : Link → ℕ → Event → ℕ → ℕ
@@ -109,7 +124,7 @@ pub record Writing (n : ℕ) (link : ℕ → Link) (twin : ℕ → ℕ) (event :
   pub in_hand_is : (j : ℕ) (x : Wrote) → j < n → In x (written j) → In x.row (hand j)
   pub stands : (j : ℕ) (x : Wrote) → j < n → In x (written j) → row_word (link x.row) (twin x.row) (event x.row) x.place ≡ x.word
 
--- 13. Dead rows: each one that is still listed is owed to be cut by a caller that names it, by its event, its row and the generation of its table
+-- 14. Dead rows: each one that is still listed is owed to be cut by a caller that names it, by its event, its row and the generation of its table
 
 -- A front is a row that was discarded as the first of a frozen list. It is named so only while it is the first
 pub record IsNamed (head : ℕ → Link) (d : CutDebt) (r : ℕ) (e : Event) (l : Link) : Type 0 where

@@ -8,7 +8,7 @@ use Rattle.crq_base.specs.Entries.{caller_of as whose}
 use Rattle.crq_base.specs.Keys.{key_cmp}
 use Rattle.crq_base.specs.Histories.{puts, settleds, outs, own as own_of, IsEarlier, IsPending, Began, IsLegal}
 use Rattle.crq_base.specs.declared.words.Link.{Link}
-use Rattle.crq_base.specs.declared.words.Mark.TheVariants.{Val, Del}
+use Rattle.crq_base.specs.declared.words.Mark.TheVariants.{Val, Del, Mov}
 use Rattle.crq_base.specs.declared.words.Control.{Control}
 use Rattle.crq_base.specs.declared.words.Current.{Current}
 use Rattle.crq_base.specs.declared.words.Pin.{Pin}
@@ -26,7 +26,6 @@ use Rattle.crq_rule.specs.Places.{Place, spare, epoch, announced, control, curre
 use Rattle.crq_rule.specs.Core.{Core, DeadNames, Holding, in_hand, listed, cut_by, retired}
 use Rattle.crq_rule.specs.Parts.{ground_of, NotAfter, IsOn, LetsRise, Leads, Names, Reaches, Covers, HasTag}
 use Rattle.crq_rule.specs.Ranks.{shape_of, list_in, head_of, IsOpen}
-use Rattle.crq_rule.specs.ListParts.{IsOpenHead, IsShutHead}
 use Rattle.crq_rule.specs.HistoryParts.{IsLive, EndsInBegin}
 use Rattle.crq_rule.specs.ScarceParts.{IsLate, pending}
 
@@ -111,6 +110,12 @@ pub record CoverHolds (c : Core) : Type 0 where
 
 -- 5. Lists
 
+abbrev pub IsOpenHead : Control → Link → Type 0
+IsOpenHead c l = (l.mark ≡ Val) × (l.generation ≡ c.generation)
+
+abbrev pub IsShutHead : Control → Link → Type 0
+IsShutHead c l = (l.mark ≡ Mov) × (l.row ≡ 0) × (l.generation < c.generation)
+
 -- the row r with the event e comes before the row s with the event f: by the order of keys, and by row where the keys are the same
 abbrev pub Precedes : Event → ℕ → Event → ℕ → Type 0
 Precedes e r f s = IsEarlier e f ⊎ ((key_cmp e f ≡ Equal) × (r < s))
@@ -159,11 +164,11 @@ pub record ListsHold (c : Core) : Type 0 where
 
 -- 6. Carriers
 
--- the row r is listed and VAL, and holds the event e
+-- the row r is listed and carries its event, which is e
 abbrev pub StandsIn : Core → Event → ℕ → Type 0
-StandsIn c e r = IsLive c.start.layout c.words.link c.holding r × (c.words.event r ≡ e)
+StandsIn c e r = IsLive c.start.layout c.words.link c.words.twin c.holding r × (c.words.event r ≡ e)
 
--- Each pending event stands in exactly one row that is listed and VAL, and each such row holds a pending event
+-- Each pending event stands in exactly one row that is listed and carries it, and each such row holds a pending event
 pub record CarriersHold (c : Core) : Type 0 where
   pub carried : (e : Event) → IsPending c.history e → (r : ℕ) × StandsIn c e r × ((s : ℕ) → StandsIn c e s → s ≡ r)
   pub pending : (e : Event) (r : ℕ) → StandsIn c e r → IsPending c.history e

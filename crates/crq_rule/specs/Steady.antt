@@ -1,8 +1,9 @@
 -- Nothing moves yet. What is said here goes as the kinds come that move a table; only one file of lemmas opens it, so that these lemmas are all that has to be given anew then.
-use Rattle.std.specs.Prelude.{◌≡◌, ℕ, ◌<◌, false}
+use Rattle.std.specs.Prelude.{◌≡◌, ◌⊎◌, ℕ, ◌<◌, false}
 use Rattle.crq_rule.specs.declared.debts.CutDebt.{CutDebt}
 use Rattle.crq_rule.specs.declared.layout.Start.{Start}
 use Rattle.crq_base.specs.declared.words.Link.{Link}
+use Rattle.crq_base.specs.declared.words.Mark.TheVariants.{Val, Del}
 use Rattle.crq_base.specs.declared.words.Control.{Control}
 use Rattle.crq_rule.specs.Places.{IsRow}
 use Rattle.crq_rule.specs.Core.{Holding, IsOutside, DeadNames, HasName}
@@ -14,4 +15,6 @@ pub record Steady (start : Start) (control : Control) (link : ℕ → Link) (hol
   pub one : control.log ≡ 0
   -- all that isn't in hand is of the open table
   pub rows : (r : ℕ) → IsRow start.layout r → IsOutside holding r → (link r).generation ≡ control.generation
+  -- and not frozen, nor a copy that isn't valid
+  pub marks : (r : ℕ) → IsRow start.layout r → IsOutside holding r → ((link r).mark ≡ Val) ⊎ ((link r).mark ≡ Del)
   pub named : (k : ℕ) (d : CutDebt) → k < start.layout.workers → HasName (names k) d → d.generation ≡ control.generation

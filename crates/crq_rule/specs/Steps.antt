@@ -1,5 +1,5 @@
 -- One step of any kind, on core states: when it may come, and what it leaves.
-use Rattle.std.specs.Prelude.{◌≡◌, ℕ, ◌<◌, ◌^◌, Bool, List, [], ◌∷◌, None}
+use Rattle.std.specs.Prelude.{◌≡◌, true, ℕ, ◌<◌, ◌^◌, Bool, List, [], ◌∷◌, None}
 use Rattle.crq_base.specs.declared.kinds.StepKind.{StepKind}
 use Rattle.crq_base.specs.declared.kinds.StepKind.TheVariants.{Split, Join, EpochLoad, Enter, Confirm, Leave, Scan, Tick, Retire, Look, Claim, Write, Read, ControlLoad, Begin, Walk, Link as LinkKind, Mark, Cut, Miss}
 use Rattle.crq_base.specs.declared.event.Event.{Event}
@@ -15,7 +15,7 @@ use Rattle.crq_rule.specs.Parts.{IsOn}
 use Rattle.crq_rule.specs.Ranks.{Cell, cell_place, link_at}
 use Rattle.crq_rule.specs.Core.{Core, caller_of}
 use Rattle.crq_rule.specs.Kinds.{epoch_loaded, recovery_begun, entered, confirmed, left, scanned, ticked, tick_failed, retired_at, looked, claimed, HasScanned, IsEntering, MayRetire, IsRipe}
-use Rattle.crq_rule.specs.ListKinds.{Content, IsContent, content_number, row_place, written_at, walked_from, linked, put_entries, control_loaded, begun_by, marked, cut_from, missed, StandsOn, MayWalk, MaySeek, MayLink, MayMark, MayCut, MayMiss}
+use Rattle.crq_rule.specs.ListKinds.{is_cell, Content, IsContent, content_number, row_place, written_at, walked_from, linked, put_entries, control_loaded, begun_by, marked, cut_from, missed, StandsOn, MayWalk, MaySeek, MayLink, MayMark, MayCut, MayMiss}
 
 -- the kinds of step with their operands; an exchange that fails is a case of its own. Splitting and joining move parts of views from seat to seat, and leave the core state
 pub data Kind : Type 0 where
@@ -69,7 +69,7 @@ May control_load c j = Unit {0}
 May begin c j = Unit {0}
 May (mark r e) c j = ((x : Control) × MayMark x r e (caller_of c j)) × ((c.words.link r).mark ≡ Val)
 May (mark_fails r) c j = Unit {0}
-May (cut cell x l) c j = MayCut cell x l (caller_of c j) × (((link_at c.words.head c.words.link cell).mark ≡ Val) × ((link_at c.words.head c.words.link cell).row ≡ x))
+May (cut cell x l) c j = MayCut cell x l (caller_of c j) × ((is_cell (link_at c.words.head c.words.link cell).mark ≡ true) × ((link_at c.words.head c.words.link cell).row ≡ x))
 May (cut_fails cell) c j = Unit {0}
 May (miss limit) c j = (x : Control) × MayMiss x limit (caller_of c j)
 
