@@ -16,7 +16,7 @@ use Rattle.crq_rule.specs.declared.view.Stand.{Stand}
 use Rattle.crq_rule.specs.Places.{index, IsHead, link}
 use Rattle.crq_rule.specs.Parts.{IsEvent}
 use Rattle.crq_rule.specs.Ranks.{rank, head_of, Cell, at_head, at_row, cell_place}
-use Rattle.crq_rule.specs.ListKinds.{StandsOn, is_val, is_final, is_cell, is_beyond, is_past, is_other_front, relieved, next_stand, only_row, ended, kept_stands, stands_after, without_stand, event_word, row_place}
+use Rattle.crq_rule.specs.ListKinds.{StandsOn, is_final, is_cell, is_twin, is_beyond, is_past, is_other_front, relieved, new_stand, next_stand, only_row, noted_stand, noted, kept_stands, stands_after, without_stand, event_word, row_place}
 use Rattle.crq_list.specs.Spots.{rank_at}
 use Rattle.crq_list.specs.Seeking.{HasRead, key_part, part_of}
 
@@ -50,23 +50,23 @@ join_left (x ∷ xs) ys r f on = ⊎_elim (λ (e : on.0 ≡ x). (on.0, inl e, on
 only_stands : (r : ℕ) (ss : List Stand) (f : Event) → StandsOn ss r f → StandsOn (only_row r ss) r f
 only_stands r [] f on = absurd on.1
 only_stands r (s ∷ ss) f on = ⊎_elim
-    (λ (e : on.0 ≡ s). subst (λ b. StandsOn (cond b (s ∷ only_row r ss) (only_row r ss)) r f) (sym (eq-eqb s.row r (ap (λ (z : Stand). z.row) (sym e) ∙ on.2))) (on.0, inl e, on.2, on.3))
-    (λ i. let t = only_stands r ss f (on.0, i, on.2, on.3) in cond_both (eqb s.row r) (s ∷ only_row r ss) (only_row r ss) (λ xs. StandsOn xs r f) (λ _. (t.0, inr t.1, t.2, t.3)) (λ _. t)) on.1
+    (λ (e : on.0 ≡ s). subst (λ b. StandsOn (cond (b || is_twin r s.twin) (s ∷ only_row r ss) (only_row r ss)) r f) (sym (eq-eqb s.row r (ap (λ (z : Stand). z.row) (sym e) ∙ on.2))) (on.0, inl e, on.2, on.3))
+    (λ i. let t = only_stands r ss f (on.0, i, on.2, on.3) in cond_both (eqb s.row r || is_twin r s.twin) (s ∷ only_row r ss) (only_row r ss) (λ xs. StandsOn xs r f) (λ _. (t.0, inr t.1, t.2, t.3)) (λ _. t)) on.1
 
-ended_stands : (r : ℕ) (l : Link) (ss : List Stand) (s : ℕ) (f : Event) → StandsOn ss s f → StandsOn (ended r l ss) s f
-ended_stands r l [] s f on = absurd on.1
-ended_stands r l (t ∷ ts) s f on = ⊎_elim
-    (λ (e : on.0 ≡ t). cond_both (eqb t.row r) (record t { last = Some l }) t (λ z. StandsOn (z ∷ ended r l ts) s f)
-    (λ _. (record t { last = Some l }, inl refl, ap (λ (z : Stand). z.row) (sym e) ∙ on.2, ap (λ (z : Stand). z.event) (sym e) ∙ on.3)) (λ _. (on.0, inl e, on.2, on.3)))
-    (λ i. let k = ended_stands r l ts s f (on.0, i, on.2, on.3) in (k.0, inr k.1, k.2, k.3)) on.1
+noted_stands : (r : ℕ) (l : Link) (ss : List Stand) (s : ℕ) (f : Event) → StandsOn ss s f → StandsOn (noted r l ss) s f
+noted_stands r l [] s f on = absurd on.1
+noted_stands r l (t ∷ ts) s f on = ⊎_elim
+    (λ (e : on.0 ≡ t). cond_both (eqb t.row r) (noted_stand l t) t (λ z. StandsOn (z ∷ noted r l ts) s f)
+    (λ _. (noted_stand l t, inl refl, ap (λ (z : Stand). z.row) (sym e) ∙ on.2, ap (λ (z : Stand). z.event) (sym e) ∙ on.3)) (λ _. (on.0, inl e, on.2, on.3)))
+    (λ i. let k = noted_stands r l ts s f (on.0, i, on.2, on.3) in (k.0, inr k.1, k.2, k.3)) on.1
 
 -- the last link of a row on which a caller stands, where it was found
-ended_last : (r : ℕ) (l : Link) (ss : List Stand) (f : Event) → StandsOn ss r f → (t : Stand) × In t (ended r l ss) × (t.row ≡ r) × (t.last ≡ Some l)
-ended_last r l [] f on = absurd on.1
-ended_last r l (t ∷ ts) f on = ⊎_elim
+noted_last : (r : ℕ) (l : Link) (ss : List Stand) (f : Event) → l.mark ≡ Del → StandsOn ss r f → (t : Stand) × In t (noted r l ss) × (t.row ≡ r) × (t.last ≡ Some l)
+noted_last r l [] f dead on = absurd on.1
+noted_last r l (t ∷ ts) f dead on = ⊎_elim
     (λ (e : on.0 ≡ t). let row = ap (λ (z : Stand). z.row) (sym e) ∙ on.2 in
-    (record t { last = Some l }, inl (ap (λ b. cond b (record t { last = Some l }) t) (sym (eq-eqb t.row r row))), row, refl))
-    (λ i. let k = ended_last r l ts f (on.0, i, on.2, on.3) in (k.0, inr k.1, k.2, k.3)) on.1
+    (noted_stand l t, inl (ap (λ b. cond b (noted_stand l t) t) (sym (eq-eqb t.row r row))), row, ap (λ m. cond (is_final m) (Some l) t.last) dead))
+    (λ i. let k = noted_last r l ts f dead (on.0, i, on.2, on.3) in (k.0, inr k.1, k.2, k.3)) on.1
 
 pub without_stands : (r : ℕ) (ss : List Stand) (s : ℕ) (f : Event) → s ≢ r → StandsOn ss s f → StandsOn (without_stand r ss) s f
 without_stands r [] s f ne on = absurd on.1
@@ -74,32 +74,31 @@ without_stands r (t ∷ ts) s f ne on = ⊎_elim
     (λ (e : on.0 ≡ t). subst (λ b. StandsOn (cond b (without_stand r ts) (t ∷ without_stand r ts)) s f) (sym (ne_eqb t.row r (λ is. ne (sym on.2 ∙ (ap (λ (z : Stand). z.row) e ∙ is))))) (on.0, inl e, on.2, on.3))
     (λ i. let k = without_stands r ts s f ne (on.0, i, on.2, on.3) in cond_both (eqb t.row r) (without_stand r ts) (t ∷ without_stand r ts) (λ xs. StandsOn xs s f) (λ _. k) (λ _. (k.0, inr k.1, k.2, k.3))) on.1
 
-next_on : (l : Link) (e : Event) → 0 < l.row → StandsOn (next_stand l e) l.row e
-next_on l e some = cond_both (eqb l.row 0) [] (record { row = l.row; event = e; last = None } ∷ []) (λ xs. StandsOn xs l.row e)
-    (λ yes. let z = eqb-true l.row 0 yes in absurd (omega arith)) (λ _. (record { row = l.row; event = e; last = None }, inl refl, refl, refl))
+next_on : (cell : Cell) (l : Link) (e : Event) → 0 < l.row → StandsOn (next_stand cell l e) l.row e
+next_on cell l e some = cond_both (eqb l.row 0) [] (new_stand cell l e ∷ []) (λ xs. StandsOn xs l.row e)
+    (λ yes. let z = eqb-true l.row 0 yes in absurd (omega arith)) (λ _. (new_stand cell l e, inl refl, refl, refl))
 
 -- after a walk its caller stands on the row that the link names
 pub walk_next : (cell : Cell) (seeks : Bool) (l : Link) (e : Event) (ss : List Stand) → 0 < l.row → StandsOn (stands_after cell seeks l e ss) l.row e
-walk_next (at_head q) seeks l e ss some = next_on l e some
-walk_next (at_row r) seeks l e ss some = join_left (next_stand l e) (cond (is_final l.mark) (ended r l (kept_stands seeks r l ss)) (kept_stands seeks r l ss)) l.row e (next_on l e some)
+walk_next (at_head q) seeks l e ss some = next_on (at_head q) l e some
+walk_next (at_row r) seeks l e ss some = join_left (next_stand (at_row r) l e) (noted r l (kept_stands seeks r l ss)) l.row e (next_on (at_row r) l e some)
 
 -- and on the row that it walked from
 pub walk_here : (r : ℕ) (seeks : Bool) (l : Link) (e : Event) (ss : List Stand) (f : Event) → StandsOn ss r f → StandsOn (stands_after (at_row r) seeks l e ss) r f
-walk_here r seeks l e ss f on = let kept = cond_both (seeks || is_val l.mark) (only_row r ss) ss (λ xs. StandsOn xs r f) (λ _. only_stands r ss f on) (λ _. on) in
-    join_right (next_stand l e) (cond (is_final l.mark) (ended r l (kept_stands seeks r l ss)) (kept_stands seeks r l ss)) r f
-    (cond_both (is_final l.mark) (ended r l (kept_stands seeks r l ss)) (kept_stands seeks r l ss) (λ xs. StandsOn xs r f) (λ _. ended_stands r l (kept_stands seeks r l ss) r f kept) (λ _. kept))
+walk_here r seeks l e ss f on = let kept = cond_both (seeks || is_cell l.mark) (only_row r ss) ss (λ xs. StandsOn xs r f) (λ _. only_stands r ss f on) (λ _. on) in
+    join_right (next_stand (at_row r) l e) (noted r l (kept_stands seeks r l ss)) r f (noted_stands r l (kept_stands seeks r l ss) r f kept)
 
-dead_stands : (r : ℕ) (l : Link) (e : Event) (ss : List Stand) → l.mark ≡ Del → stands_after (at_row r) false l e ss ≡ next_stand l e ++ ended r l ss
-dead_stands r l e ss dead = ap (λ (m : Mark). next_stand l e ++ cond (is_final m) (ended r l (cond (false || is_val m) (only_row r ss) ss)) (cond (false || is_val m) (only_row r ss) ss)) dead
+dead_stands : (r : ℕ) (l : Link) (e : Event) (ss : List Stand) → l.mark ≡ Del → stands_after (at_row r) false l e ss ≡ next_stand (at_row r) l e ++ noted r l ss
+dead_stands r l e ss dead = ap (λ (m : Mark). next_stand (at_row r) l e ++ noted r l (cond (false || is_cell m) (only_row r ss) ss)) dead
 
 -- where the row is dead all stands are kept
 pub dead_kept : (r : ℕ) (l : Link) (e : Event) (ss : List Stand) (s : ℕ) (f : Event) → l.mark ≡ Del → StandsOn ss s f → StandsOn (stands_after (at_row r) false l e ss) s f
-dead_kept r l e ss s f dead on = subst (λ xs. StandsOn xs s f) (sym (dead_stands r l e ss dead)) (join_right (next_stand l e) (ended r l ss) s f (ended_stands r l ss s f on))
+dead_kept r l e ss s f dead on = subst (λ xs. StandsOn xs s f) (sym (dead_stands r l e ss dead)) (join_right (next_stand (at_row r) l e) (noted r l ss) s f (noted_stands r l ss s f on))
 
 -- and its last link is known
 pub dead_last : (r : ℕ) (l : Link) (e : Event) (ss : List Stand) (f : Event) → l.mark ≡ Del → StandsOn ss r f
     → (t : Stand) × In t (stands_after (at_row r) false l e ss) × (t.row ≡ r) × (t.last ≡ Some l)
-dead_last r l e ss f dead on = let t = ended_last r l ss f on in (t.0, subst (In t.0) (sym (dead_stands r l e ss dead)) (later (next_stand l e) (ended r l ss) t.0 t.1), t.2, t.3)
+dead_last r l e ss f dead on = let t = noted_last r l ss f dead on in (t.0, subst (In t.0) (sym (dead_stands r l e ss dead)) (later (next_stand (at_row r) l e) (noted r l ss) t.0 t.1), t.2, t.3)
   where
     later : (xs ys : List Stand) (t : Stand) → In t ys → In t (xs ++ ys)
     later [] ys t i = i

@@ -1,6 +1,6 @@
 -- What is known of a word after one step more, how far a take's walk is, and what each step of a take tells.
-use Rattle.std.proofs.Common.{◌≡◌, ◌≢◌, ◌⊎◌, ⊎_elim, inl, inr, ℕ, zero, suc, ◌+◌, ◌-◌, ◌*◌, ◌^◌, ◌<◌, ◌≤◌, cond, Bool, true, false, List, [], ◌∷◌, ◌++◌, length, Option, Some, None, eq-eqb, ne_eqb, sym, refl, ap, ◌∙◌, subst, arith}
-use Rattle.std.proofs.lemmas.Bool.{false≢true}
+use Rattle.std.proofs.Common.{◌≡◌, ◌≢◌, ◌⊎◌, ⊎_elim, inl, inr, ℕ, zero, suc, ◌+◌, ◌-◌, ◌*◌, ◌^◌, ◌<◌, ◌≤◌, cond, Bool, true, false, List, [], ◌∷◌, ◌++◌, length, Option, Some, None, eq-eqb, ne_eqb, sym, refl, ap, ◌∙◌, subst, arith, eqb, ◌||◌}
+use Rattle.std.proofs.lemmas.Bool.{false≢true, cond_both}
 use Rattle.std.proofs.lemmas.List.{length-append}
 use mathlib.Core.Logic.{dite}
 use native.Mathlib.Decide.{ℕ_discrete}
@@ -25,7 +25,7 @@ use Rattle.crq_rule.specs.Places.{index, link as link_place}
 use Rattle.crq_rule.specs.Parts.{IsEvent, rows_of}
 use Rattle.crq_rule.specs.Kinds.{makes}
 use Rattle.crq_rule.specs.Ranks.{rank, Cell, at_head, at_row, cell_place}
-use Rattle.crq_rule.specs.ListKinds.{StandsOn, MayMiss, is_passed, is_final, is_val, next_stand, only_row, ended, stands_after, walk_after, relieved, row_place, event_word, marks, cut_debt}
+use Rattle.crq_rule.specs.ListKinds.{StandsOn, MayMiss, is_passed, is_final, is_val, is_twin, new_stand, next_stand, only_row, noted_stand, noted, stands_after, walk_after, relieved, row_place, event_word, marks, cut_debt}
 use Rattle.crq_rule.proofs.Standings.{rows_in, in_rows, row_stays, row_next}
 use Rattle.crq_rows.specs.Passes.{caller, load_made, step_made, IsPassOf, Stepped}
 use Rattle.crq_rows.specs.Reading.{stays}
@@ -71,29 +71,35 @@ first_stand (t ∷ ts) r i = dite (ℕ_discrete t.row r)
 
 only_rank : (r : ℕ) (ss : List Stand) → rank_at (only_row r ss) r ≡ rank_at ss r
 only_rank r [] = refl
-only_rank r (t ∷ ts) = dite (ℕ_discrete t.row r)
-    (λ e. let yes = eq-eqb t.row r e in ap (λ b. rank_at (cond b (t ∷ only_row r ts) (only_row r ts)) r) yes ∙ (ap (λ b. cond b (rank t.event r) (rank_at (only_row r ts) r)) yes ∙ sym (ap (λ b. cond b (rank t.event r) (rank_at ts r)) yes)))
-    (λ ne. let no = ne_eqb t.row r ne in ap (λ b. rank_at (cond b (t ∷ only_row r ts) (only_row r ts)) r) no ∙ (only_rank r ts ∙ sym (ap (λ b. cond b (rank t.event r) (rank_at ts r)) no)))
+only_rank r (t ∷ ts) = cond_both (eqb t.row r || is_twin r t.twin) (t ∷ only_row r ts) (only_row r ts) (λ xs. rank_at xs r ≡ rank_at (t ∷ ts) r)
+    (λ _. ap (cond (eqb t.row r) (rank t.event r)) (only_rank r ts))
+    (λ no. only_rank r ts ∙ sym (ap (λ b. cond b (rank t.event r) (rank_at ts r)) (ne_eqb t.row r (λ e. false≢true (sym no ∙ ap (λ b. b || is_twin r t.twin) (eq-eqb t.row r e))))))
 
-next_is : (l : Link) (e : Event) → 0 < l.row → next_stand l e ≡ record { row = l.row; event = e; last = None } ∷ []
-next_is l e some = ap (λ b. cond b [] (record { row = l.row; event = e; last = None } ∷ [])) (ne_eqb l.row 0 (omega arith))
+-- what is noted of a row leaves all ranks
+noted_rank : (r : ℕ) (l : Link) (ss : List Stand) (s : ℕ) → rank_at (noted r l ss) s ≡ rank_at ss s
+noted_rank r l [] s = refl
+noted_rank r l (t ∷ ts) s = cond_both (eqb t.row r) (noted_stand l t) t (λ z. cond (eqb z.row s) (rank z.event s) (rank_at (noted r l ts) s) ≡ cond (eqb t.row s) (rank t.event s) (rank_at ts s))
+    (λ _. ap (cond (eqb t.row s) (rank t.event s)) (noted_rank r l ts s)) (λ _. ap (cond (eqb t.row s) (rank t.event s)) (noted_rank r l ts s))
 
-next_rank : (l : Link) (e : Event) (ss : List Stand) → 0 < l.row → rank_at (next_stand l e ++ ss) l.row ≡ rank e l.row
-next_rank l e ss some = ap (λ ns. rank_at (ns ++ ss) l.row) (next_is l e some) ∙ ap (λ b. cond b (rank e l.row) (rank_at ss l.row)) (eq-eqb l.row l.row refl)
+next_is : (cell : Cell) (l : Link) (e : Event) → 0 < l.row → next_stand cell l e ≡ new_stand cell l e ∷ []
+next_is cell l e some = ap (λ b. cond b [] (new_stand cell l e ∷ [])) (ne_eqb l.row 0 (omega arith))
+
+next_rank : (cell : Cell) (l : Link) (e : Event) (ss : List Stand) → 0 < l.row → rank_at (next_stand cell l e ++ ss) l.row ≡ rank e l.row
+next_rank cell l e ss some = ap (λ ns. rank_at (ns ++ ss) l.row) (next_is cell l e some) ∙ ap (λ b. cond b (rank e l.row) (rank_at ss l.row)) (eq-eqb l.row l.row refl)
 
 -- the walk of a row that goes on to the next comes nearer to the end
-nearer : (l : Link) (e : Event) (ss rest : List Stand) (r : ℕ) → IsLink l → IsEvent e → 0 < l.row → In r (rows_of ss) → ((f : Event) → StandsOn ss r f → rank f r < rank e l.row)
-    → (2 ^ 160 - rank_at (next_stand l e ++ rest) l.row) * 16 + 12 < (2 ^ 160 - rank_at ss r) * 16 + 12
-nearer l e ss rest r bits is some on up = let g = first_stand ss r on in let high = up g.0 g.1 in let low = rank_low e l.row is bits.row in let new = next_rank l e rest some in let old = g.2 in omega arith
+nearer : (cell : Cell) (l : Link) (e : Event) (ss rest : List Stand) (r : ℕ) → IsLink l → IsEvent e → 0 < l.row → In r (rows_of ss) → ((f : Event) → StandsOn ss r f → rank f r < rank e l.row)
+    → (2 ^ 160 - rank_at (next_stand cell l e ++ rest) l.row) * 16 + 12 < (2 ^ 160 - rank_at ss r) * 16 + 12
+nearer cell l e ss rest r bits is some on up = let g = first_stand ss r on in let high = up g.0 g.1 in let low = rank_low e l.row is bits.row in let new = next_rank cell l e rest some in let old = g.2 in omega arith
 
 -- a row that was found present is as far as before
 as_far : (l : Link) (e : Event) (ss : List Stand) (r : ℕ) → In r (rows_of ss) → (0 < l.row → (f : Event) → StandsOn ss r f → rank f r < rank e l.row)
-    → rank_at ss r ≤ rank_at (next_stand l e ++ only_row r ss) r
-as_far l e ss r on up = dite (ℕ_discrete l.row 0)
-    (λ z. let is = ap (λ b. rank_at (cond b [] (record { row = l.row; event = e; last = None } ∷ []) ++ only_row r ss) r) (eq-eqb l.row 0 z) in let same = only_rank r ss in omega arith)
-    (λ nz. let is = ap (λ ns. rank_at (ns ++ only_row r ss) r) (next_is l e (omega arith)) in dite (ℕ_discrete l.row r)
-    (λ q. let here = ap (λ b. cond b (rank e r) (rank_at (only_row r ss) r)) (eq-eqb l.row r q) in let g = first_stand ss r on in let high = up (omega arith) g.0 g.1 in let to = ap (rank e) q in let old = g.2 in omega arith)
-    (λ nq. let here = ap (λ b. cond b (rank e r) (rank_at (only_row r ss) r)) (ne_eqb l.row r nq) in let same = only_rank r ss in omega arith))
+    → rank_at ss r ≤ rank_at (next_stand (at_row r) l e ++ noted r l (only_row r ss)) r
+as_far l e ss r on up = let rest = noted r l (only_row r ss) in let same = noted_rank r l (only_row r ss) r ∙ only_rank r ss in dite (ℕ_discrete l.row 0)
+    (λ z. let is = ap (λ b. rank_at (cond b [] (new_stand (at_row r) l e ∷ []) ++ rest) r) (eq-eqb l.row 0 z) in omega arith)
+    (λ nz. let is = ap (λ ns. rank_at (ns ++ rest) r) (next_is (at_row r) l e (omega arith)) in dite (ℕ_discrete l.row r)
+    (λ q. let here = ap (λ b. cond b (rank e r) (rank_at rest r)) (eq-eqb l.row r q) in let g = first_stand ss r on in let high = up (omega arith) g.0 g.1 in let to = ap (rank e) q in let old = g.2 in omega arith)
+    (λ nq. let here = ap (λ b. cond b (rank e r) (rank_at rest r)) (ne_eqb l.row r nq) in omega arith))
 
 -- Steps that load
 
@@ -223,8 +229,8 @@ head_stepped n table x op old new l r saw val onward t = let y : Walk = record {
     (more n table x op Load old new _ _ _ h refl t (Walking l.row) (λ r l' e q. absurd (walking_no l.row r l' e q))
     (y, refl, refl, some.0, head_on l saw.event some.0) (omega arith))) onward
   where
-    head_on : (l : Link) (e : Event) → 0 < l.row → (f : Event) × StandsOn (next_stand l e) l.row f
-    head_on l e some = subst (λ ss. (f : Event) × StandsOn ss l.row f) (sym (next_is l e some)) (e, (record { row = l.row; event = e; last = None }, inl refl, refl, refl))
+    head_on : (l : Link) (e : Event) → 0 < l.row → (f : Event) × StandsOn (next_stand (at_head op.head) l e) l.row f
+    head_on l e some = subst (λ ss. (f : Event) × StandsOn ss l.row f) (sym (next_is (at_head op.head) l e some)) (e, (new_stand (at_head op.head) l e, inl refl, refl, refl))
 
 -- the rows on which the caller stands
 stood : (ss : List Stand) (r : ℕ) → (e : Event) × StandsOn ss r e → In r (rows_of ss)
@@ -242,14 +248,14 @@ dead_stepped n table x op r old new l to saw dead onward t = let p = caller tabl
     (λ some. let on = ⊎_elim (λ (z : l.row ≡ 0). absurd (omega arith)) (λ k. k) (row_next r true l e ss) in let up : (f : Event) → StandsOn ss r f → rank f r < rank e l.row = λ f k. (saw.next f k some.0).0 in
     subst (λ z. TakeStepped n table x (record op { state = Walking r }) (record op { state = z.0 }) old new z.1) (sym some.1)
     (more n table x op (Walking r) old new _ _ _ h refl t (Walking l.row) (λ r l' e q. absurd (walking_no l.row r l' e q))
-    (y, refl, refl, some.0, stands (stands_after (at_row r) true l e ss) l.row on) (nearer l e ss _ r saw.is_link (saw.row some.0).1 some.0 i up))) onward
+    (y, refl, refl, some.0, stands (stands_after (at_row r) true l e ss) l.row on) (nearer (at_row r) l e ss _ r saw.is_link (saw.row some.0).1 some.0 i up))) onward
 
 -- or present
 pub present_stepped : (n : ℕ) (table : Table) (x : Control) (op : TakeOp) (r : ℕ) (old new : Pass) (l : Link) (unread : Event) → Saw table old new (at_row r) true l → l.mark ≡ Val
     → IsTaking n table x (record op { state = Walking r }) (caller table old) → TakeStepped n table x (record op { state = Walking r }) (record op { state = Reading r l 2 unread }) old new More
 present_stepped n table x op r old new l unread saw val t = let p = caller table old in let ss = p.position.rows in let e = saw.event in let y = t.at.0 in let i = stood ss r t.at.4 in
     let h = saw_loads table old new (at_row r) l saw (Some y) t.free (ap (walk_after (at_row r) true l) t.at.1 ∙ ap (λ k. Some (cond (is_passed k) (record y { at = l.row }) y)) val) in
-    let same = ap (λ k. rank_at (next_stand l e ++ cond (is_final k) (ended r l (only_row r ss)) (only_row r ss)) r) val in let far = as_far l e ss r i (λ some f k. (saw.next f k some).0) in
+    let far = as_far l e ss r i (λ some f k. (saw.next f k some).0) in
     more n table x op (Walking r) old new _ _ _ h refl t (Reading r l 2 unread) (λ r' l' e' q. absurd (reading_no r r' 2 l l' unread e' q)) (
       record {
         at = (y, refl, t.at.2, t.at.3, stands (stands_after (at_row r) true l e ss) r (row_stays r true l e ss i));

@@ -23,5 +23,5 @@ read_words key p r n row e on low c ws inv words b is = let j = p.number in let 
   is,
   λ f on'. let s = subst (λ (q : Caller). StandsOn q.position.rows r f) is on' in
       at ∙ (row_word_is c r n ∙ (event_word_is (c.words.link r) (c.words.twin r) (c.words.event r) n low
-      ∙ ap (λ e. event_word e n) (subst (λ r. c.words.event r ≡ s.0.event) s.2 (inv.standing.holds j s.0 b s.1) ∙ s.3))),
+      ∙ ap (λ e. event_word e n) (subst (λ r. c.words.event r ≡ s.0.event) s.2 ((inv.standing.each j s.0 b s.1).holds) ∙ s.3))),
 )

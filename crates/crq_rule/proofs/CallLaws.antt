@@ -99,6 +99,7 @@ control_keeps c j b inv = record {
   sorted = inv.sorted;
   marks = inv.marks;
   standing = inv.standing;
+  copying = inv.copying;
   lanes = inv.lanes;
   writing = inv.writing;
   naming = inv.naming;
@@ -128,6 +129,7 @@ begin_keeps c j b inv = record {
   sorted = inv.sorted;
   marks = inv.marks;
   standing = inv.standing;
+  copying = inv.copying;
   lanes = inv.lanes;
   writing = inv.writing;
   naming = inv.naming;
@@ -147,7 +149,7 @@ miss_legal c j limit b may inv = let from = inv.told.began j b may.1.began in le
   λ f settled less. ⊎_elim (λ o. o) (λ kept. let beyond = left_beyond c inv j w front (Begin j ∷ from.2.back) f b may.1.walks.1 (steady_one c inv) from.2.parts from.1 settled kept in ⊎_elim
       (λ (none : w.at ≡ 0). let some = beyond.some_row in absurd (omega arith))
       (λ (h : (e : Event) × StandsOn (c.rows j) w.at e × (limit ≤ e.time)). let e = h.0 in let s = h.1.0 in
-      let holds : c.words.event w.at ≡ e = ap c.words.event (sym h.1.2) ∙ (inv.standing.holds j s b h.1.1 ∙ h.1.3) in
+      let holds : c.words.event w.at ≡ e = ap c.words.event (sym h.1.2) ∙ ((inv.standing.each j s b h.1.1).holds ∙ h.1.3) in
       let late = beyond_time c inv w.at e f holds beyond in let high = h.2 in absurd (omega arith))
       may.1.walks.2) (contains_or (outs c.history) f),
 )
@@ -170,6 +172,7 @@ miss_keeps c j limit b may inv = record {
   sorted = inv.sorted;
   marks = inv.marks;
   standing = inv.standing;
+  copying = inv.copying;
   lanes = inv.lanes;
   writing = inv.writing;
   naming = inv.naming;

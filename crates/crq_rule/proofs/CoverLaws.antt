@@ -32,6 +32,14 @@ stand_row (t ∷ ss) s i = ⊎_elim (λ e. inl (ap (λ (z : Stand). z.row) e)) (
 pub row_footing : (rows : ℕ → List Stand) (old : ℕ → Option Stand) (copying : ℕ → Option CopyDebt) (k r : ℕ) → In r (rows_of (rows k)) → In r (footings rows old copying k)
 row_footing rows old copying k r i = in_front (rows_of (rows k)) (rows_of_old (old k) ++ rows_of_copy (copying k)) r i
 
+in_back : (xs ys : List ℕ) (a : ℕ) → In a ys → In a (xs ++ ys)
+in_back [] ys a i = i
+in_back (x ∷ xs) ys a i = inr (in_back xs ys a i)
+
+-- and on the frozen row whose copy it has yet to link
+pub old_footing : (rows : ℕ → List Stand) (old : ℕ → Option Stand) (copying : ℕ → Option CopyDebt) (k : ℕ) (s : Stand) → old k ≡ Some s → In s.row (footings rows old copying k)
+old_footing rows old copying k s is = in_back (rows_of (rows k)) (rows_of_old (old k) ++ rows_of_copy (copying k)) s.row (subst (λ o. In s.row (rows_of_old o ++ rows_of_copy (copying k))) (sym is) (inl refl))
+
 none_left : (xs ys : List ℕ) → ((a : ℕ) → In a xs → In a ys) → ys ≡ [] → xs ≡ []
 none_left [] ys less none = refl
 none_left (x ∷ xs) ys less none = absurd (subst (In x) none (less x (inl refl)))

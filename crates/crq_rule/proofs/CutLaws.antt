@@ -19,7 +19,7 @@ use Rattle.crq_rule.specs.Lists.{put}
 use Rattle.crq_rule.specs.Places.{IsRow, IsHead}
 use Rattle.crq_rule.specs.Core.{Core, IsOutside, DeadNames, HasName, Holding, in_hand, listed, cut_by, retired, caller_of}
 use Rattle.crq_rule.specs.Parts.{Spelled, Holders, Stamps, stamp_of, Chains, Leads, Cover, Covers, Ground, ground_of, footings, IsGuarded, HasTag, IsOn, rows_of, rows_of_old, rows_of_copy, newest}
-use Rattle.crq_rule.specs.ListParts.{Heads, Sorted, Marks, MarkFits, Standing, IsFinal, Lanes, Writing, row_word, Naming, IsNamed, ranks}
+use Rattle.crq_rule.specs.ListParts.{Heads, Sorted, Marks, MarkFits, StandFits, Standing, Copying, IsFinal, Lanes, Writing, row_word, Naming, IsNamed, ranks}
 use Rattle.crq_rule.specs.HistoryParts.{Carriers, IsLive, Walkers, StandsFrom, IsCarrying}
 use Rattle.crq_rule.specs.ScarceParts.{IsLate}
 use Rattle.crq_rule.specs.Invariant.{Inv}
@@ -185,7 +185,7 @@ module _ (c : Core) (j : ℕ) (cell : Cell) (x : ℕ) (l : Link) (b : j < c.star
   -- The row x, on which the caller stands, and the cell
 
   at_x : c.words.link x ≡ l
-  at_x = subst (λ z. c.words.link z ≡ l) may.on.2 (inv.standing.last j may.on.0 l b may.on.1 may.on.3).0
+  at_x = subst (λ z. c.words.link z ≡ l) may.on.2 (((inv.standing.each j may.on.0 b may.on.1).last l may.on.3)).0
 
   dead : (c.words.link x).mark ≡ Del
   dead = ap (λ (z : Link). z.mark) at_x ∙ may.dead
@@ -346,16 +346,24 @@ module _ (c : Core) (j : ℕ) (cell : Cell) (x : ℕ) (l : Link) (b : j < c.star
         ∙ (along (λ r s. (c.words.link s).generation ≡ (c.words.link r).generation) (λ r s t lo hi. hi ∙ lo) inv.lanes.generation r v some ∙ sym (link_generation c.words.head c.words.link l.row cell r));
   }
 
-  still_last : (k : ℕ) (s : Stand) (m : Link) → k < n → In s (c.rows k) → s.last ≡ Some m → (links s.row ≡ m) × IsFinal m.mark
-  still_last k s m a i is = let o = inv.standing.last k s m a i is in
-      (⊎_elim (λ e. e ∙ o.0) (λ (h : (cell ≡ at_row s.row) × ((links s.row).row ≡ l.row)). absurd (cell_final m.mark (ap (λ (z : Link). is_cell z.mark) (sym o.0) ∙ present s.row h.0) o.1)) (changed s.row), o.1)
-
-  standing_part : Standing n links c.words.event (put c.rows j now_rows)
-  standing_part = record {
-    holds = λ k s. put_all c.rows j now_rows (λ i ss. i < n → In s ss → c.words.event s.row ≡ s.event) (λ a i. inv.standing.holds j s a (stand_left x (c.rows j) s i)) (λ i _. inv.standing.holds i s) k;
-    last = λ k s m. put_all c.rows j now_rows (λ i ss. i < n → In s ss → s.last ≡ Some m → (links s.row ≡ m) × IsFinal m.mark)
-        (λ a i. still_last j s m a (stand_left x (c.rows j) s i)) (λ i _. still_last i s m) k;
+  stand_after : (s : Stand) → StandFits c.words.head c.words.link c.words.twin c.words.event s → StandFits heads links c.words.twin c.words.event s
+  stand_after s was = record {
+    holds = was.holds;
+    last = λ m is. let o = was.last m is in
+        (⊎_elim (λ e. e ∙ o.0) (λ (h : (cell ≡ at_row s.row) × ((links s.row).row ≡ l.row)). absurd (cell_final m.mark (ap (λ (z : Link). is_cell z.mark) (sym o.0) ∙ present s.row h.0) o.1)) (changed s.row), o.1);
+    copy = was.copy;
+    valid = λ v e. was.valid v (sym (same_mark s.row) ∙ e);
+    front = λ h is. ⊎_elim (λ final. inl (subst IsFinal (sym (same_mark s.row)) final)) (λ front. inr (front_stays h s.row front)) (was.front h is);
   }
+
+  standing_part : Standing n heads links c.words.twin c.words.event (put c.rows j now_rows)
+  standing_part = record {
+    each = λ k s. put_all c.rows j now_rows (λ i ss. i < n → In s ss → StandFits heads links c.words.twin c.words.event s)
+        (λ a i. stand_after s (inv.standing.each j s a (stand_left x (c.rows j) s i))) (λ i _ a at. stand_after s (inv.standing.each i s a at)) k;
+  }
+
+  copying_part : Copying n heads links c.words.twin c.words.event c.old
+  copying_part = record { each = λ k s b is. let o = inv.copying.each k s b is in (stand_after s o.0, same_mark s.row ∙ o.1) }
 
   writing_part : Writing n links c.words.twin c.words.event c.hand c.written
   writing_part = record {
@@ -460,6 +468,7 @@ module _ (c : Core) (j : ℕ) (cell : Cell) (x : ℕ) (l : Link) (b : j < c.star
     sorted = sorted_part;
     marks = marks_part;
     standing = standing_part;
+    copying = copying_part;
     lanes = lanes_part;
     writing = writing_part;
     naming = naming_part;

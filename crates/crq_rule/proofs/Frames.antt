@@ -10,7 +10,7 @@ use Rattle.crq_rule.specs.declared.view.Made.{Made}
 use Rattle.crq_rule.specs.declared.view.Walk.{Walk}
 use Rattle.crq_rule.specs.Core.{Core, Holding}
 use Rattle.crq_rule.specs.Parts.{ground_of, footings, Reading, Guards, Holders, Cutting, Stamps, Cover}
-use Rattle.crq_rule.specs.ListParts.{Sizes, Marks, Standing, Lanes, Writing, Naming}
+use Rattle.crq_rule.specs.ListParts.{Sizes, Marks, Standing, Copying, Lanes, Writing, Naming}
 use Rattle.crq_rule.specs.Steady.{Steady}
 use Rattle.crq_rule.specs.HistoryParts.{Carriers, Walkers}
 use Rattle.crq_rule.specs.ScarceParts.{Scarce, Refusals}
@@ -25,12 +25,13 @@ pub frame_guards : (c : Core) (e : ℕ) (announced : ℕ → ℕ) (epochs : ℕ 
     → Cutting c.start.layout.workers guard cut
     → Stamps c.start.layout e c.words.stamp c.ripening c.holding
     → Cover (record (ground_of c) { guard = guard; footing = footings rows old c.copying }) cut c.holding
-    → Standing c.start.layout.workers c.words.link c.words.event rows
+    → Standing c.start.layout.workers c.words.head c.words.link c.words.twin c.words.event rows
+    → Copying c.start.layout.workers c.words.head c.words.link c.words.twin c.words.event old
     → Lanes c.start.layout c.shape (record (ground_of c) { guard = guard; footing = footings rows old c.copying }) c.words.event
     → Walkers c.start.layout c.words.control c.history c.begun c.words.link c.words.twin c.words.event c.holding rows walk
     → Scarce c.start.layout e c.history base guard c.holding
     → Inv (record c { words = record c.words { epoch = e; announced = announced }; epochs = epochs; guard = guard; tick = tick; cut = cut; base = base; rows = rows; old = old; walk = walk })
-frame_guards c e announced epochs guard tick cut base rows old walk inv reading guards holders cutting stamps cover standing lanes walkers scarce = record {
+frame_guards c e announced epochs guard tick cut base rows old walk inv reading guards holders cutting stamps cover standing copying lanes walkers scarce = record {
   spelled = inv.spelled;
   reading = reading;
   finds = inv.finds;
@@ -47,6 +48,7 @@ frame_guards c e announced epochs guard tick cut base rows old walk inv reading 
   sorted = inv.sorted;
   marks = inv.marks;
   standing = standing;
+  copying = copying;
   lanes = lanes;
   writing = inv.writing;
   naming = inv.naming;
@@ -92,6 +94,7 @@ frame_rows c stamp hand ripening cut base refused holding inv reading holders cu
   sorted = inv.sorted;
   marks = marks;
   standing = inv.standing;
+  copying = inv.copying;
   lanes = inv.lanes;
   writing = writing;
   naming = naming;
@@ -122,6 +125,7 @@ frame_made c j m inv = record {
   sorted = inv.sorted;
   marks = inv.marks;
   standing = inv.standing;
+  copying = inv.copying;
   lanes = inv.lanes;
   writing = inv.writing;
   naming = inv.naming;

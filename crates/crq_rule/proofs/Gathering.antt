@@ -44,6 +44,7 @@ redealt_keeps c deal own told inv = record {
   sorted = inv.sorted;
   marks = inv.marks;
   standing = inv.standing;
+  copying = inv.copying;
   lanes = inv.lanes;
   writing = inv.writing;
   naming = inv.naming;

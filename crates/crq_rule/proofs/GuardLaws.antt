@@ -17,7 +17,7 @@ use Rattle.crq_rule.proofs.Puts.{put_here, put_else}
 use Rattle.crq_rule.proofs.PartLaws.{read_epoch, read_tick, read_cut, read_risen, tagged_some, guard_set, tick_set, guards_risen, found_at, announced_low, cutting_guard, cutting_cut, stamps_risen}
 use Rattle.crq_rule.proofs.HolderLaws.{holders_tagged, none_some}
 use Rattle.crq_rule.proofs.CoverLaws.{nowhere_now, less_nowhere, cover_guard, cover_less, cover_tagged}
-use Rattle.crq_rule.proofs.StandLaws.{lanes_guard, lanes_less, standing_nowhere, walkers_none}
+use Rattle.crq_rule.proofs.StandLaws.{lanes_guard, lanes_less, standing_nowhere, copying_nowhere, walkers_none}
 use Rattle.crq_rule.proofs.ScarceLaws.{some_base, scarce_put, scarce_lasts, lasts_guard, base_begun}
 use Rattle.crq_rule.proofs.Frames.{frame_guards}
 
@@ -46,14 +46,14 @@ load_keeps c j b inv = let e = c.words.epoch in let t = new_tick e in let o = ta
     (cutting_tagged c j inv)
     inv.stamps
     (cover_tagged _ _ _ j e (λ k g b' is. (on_low c inv k g b' is).0) inv.cover)
-    inv.standing inv.lanes inv.walkers inv.scarce
+    inv.standing inv.copying inv.lanes inv.walkers inv.scarce
   where
     low : (t : ℕ) (x : CutRow) → j < c.start.layout.workers → tagged c.words.epoch (c.cut j) ≡ Some x → In t x.tags → t ≤ c.words.epoch
     low t x b' is i = let y = tagged_some c.words.epoch (c.cut j) x is in ⊎_elim (λ (q : t ≡ c.words.epoch). omega arith) (inv.reading.tags j t y.0 b' y.1) (y.3 t i)
 
 -- the first load of a recovery
 pub recovery_keeps : (c : Core) (j : ℕ) → j < c.start.layout.workers → Inv c → Inv (recovery_begun c j)
-recovery_keeps c j b inv = let loaded = load_keeps c j b inv in frame_guards c _ _ _ _ _ _ _ _ _ _ inv loaded.reading loaded.guards loaded.holders loaded.cutting loaded.stamps loaded.cover loaded.standing loaded.lanes loaded.walkers
+recovery_keeps c j b inv = let loaded = load_keeps c j b inv in frame_guards c _ _ _ _ _ _ _ _ _ _ inv loaded.reading loaded.guards loaded.holders loaded.cutting loaded.stamps loaded.cover loaded.standing loaded.copying loaded.lanes loaded.walkers
     (scarce_put _ _ _ _ _ _ _ _ _ _ j (Some (new_base (length c.history) (pending c.history) c.words.epoch)) (λ x _ is. subst (IsBase c.start.layout c.words.epoch c.history c.guard c.holding j) (some_base _ x is) (base_begun c j b inv)) (λ k x _ _ old. old) inv.scarce)
 
 off_not_on : (g : Guard) → g ≡ Off → IsOn g → ⊥
@@ -70,6 +70,7 @@ enter_keeps c j e b off read inv = frame_guards c _ _ _ _ _ _ _ _ _ _ inv inv.re
     inv.stamps
     (cover_guard _ _ _ j (Entering e) (not_on c inv j (off_not_on (c.guard j) off)) inv.cover)
     inv.standing
+    inv.copying
     (lanes_guard _ _ _ _ j (Entering e) (not_on c inv j (off_not_on (c.guard j) off)) inv.lanes)
     inv.walkers
     (scarce_lasts _ _ _ _ _ _ _ _ _ (le_refl _) (λ k inside. lasts_guard _ _ _ _ j (Entering e) k inside (λ r g _ _ _. subst (OnSince (g + 1)) (sym off) tt) (λ _ _ _. tt)) inv.scarce)
@@ -84,6 +85,7 @@ confirm_keeps c j x b is inv = let old : GuardIs c.words.epoch (c.words.announce
     inv.stamps
     (cover_guard _ _ _ j (On e) (not_on c inv j (entering_not_on (c.guard j) x is)) inv.cover)
     inv.standing
+    inv.copying
     (lanes_guard _ _ _ _ j (On e) (not_on c inv j (entering_not_on (c.guard j) x is)) inv.lanes)
     inv.walkers
     (scarce_lasts _ _ _ _ _ _ _ _ _ (le_refl _) (λ k inside. lasts_guard _ _ _ _ j (On e) k inside (λ r g _ _ _. subst (OnSince (g + 1)) (sym is) tt) (λ g low _. omega arith)) inv.scarce)
@@ -95,7 +97,8 @@ leave_keeps c j b uncut none inv = frame_guards c _ _ _ _ _ _ _ _ _ _ inv inv.re
     (cutting_guard _ _ _ j Off (λ x _ is. absurd (none_some x (sym uncut ∙ is))) inv.cutting)
     inv.stamps
     (cover_guard _ _ _ j Off (λ _. nowhere_now c.rows c.old c.copying j none) (cover_less _ _ _ _ less inv.cover))
-    (standing_nowhere _ _ _ _ j inv.standing)
+    (standing_nowhere _ _ _ _ _ _ j inv.standing)
+    (copying_nowhere _ _ _ _ _ _ j inv.copying)
     (lanes_guard _ _ _ _ j Off (λ _. nowhere_now c.rows c.old c.copying j none) (lanes_less _ _ _ _ _ less inv.lanes))
     (walkers_none _ _ _ _ _ _ _ _ _ _ j [] inv.walkers)
     (scarce_lasts _ _ _ _ _ _ _ _ _ (le_refl _) (λ k inside. lasts_guard _ _ _ _ j Off k inside
@@ -108,7 +111,7 @@ pub scan_keeps : (c : Core) (j k : ℕ) → j < c.start.layout.workers → k < c
 scan_keeps c j k b d inv = let t = c.tick j in let t' : Tick = record { loaded = t.loaded; found = (k, c.words.announced k) ∷ t.found } in frame_guards c _ _ _ _ _ _ _ _ _ _ inv
     (read_tick _ _ _ _ _ j t' (inv.reading.loaded j b) low inv.reading)
     (tick_set _ _ _ _ _ j t' new inv.guards)
-    inv.holders inv.cutting inv.stamps inv.cover inv.standing inv.lanes inv.walkers inv.scarce
+    inv.holders inv.cutting inv.stamps inv.cover inv.standing inv.copying inv.lanes inv.walkers inv.scarce
   where
     low : (i a : ℕ) → In {A = ℕ × ℕ} (i, a) ((k, c.words.announced k) ∷ (c.tick j).found) → a ≤ c.words.epoch + 1
     low i a h = ⊎_elim (λ (is : (i, a) ≡ (k, c.words.announced k)). subst (λ (z : ℕ). z ≤ c.words.epoch + 1) (sym (ap (λ (z : ℕ × ℕ). z.1) is)) (announced_low c.words.epoch (c.words.announced k) (c.guard k) (inv.guards.each k d)))
@@ -127,7 +130,7 @@ tick_keeps c j x b now limit is off all inv = let n = c.start.layout.workers in 
     (tick_set _ _ _ _ _ j t (λ i a _ h l. no_scan 0 c.guard i a h l) (guards_risen _ _ _ _ _ low (subst (λ z. Guards n z c.words.announced c.guard c.tick) now inv.guards)))
     inv.holders inv.cutting
     (stamps_risen _ _ _ _ _ (subst (λ z. Stamps c.start.layout z c.words.stamp c.ripening c.holding) now inv.stamps))
-    inv.cover inv.standing inv.lanes inv.walkers
+    inv.cover inv.standing inv.copying inv.lanes inv.walkers
     (scarce_lasts _ _ _ _ _ _ _ _ _ (omega arith) (λ k _. record { shrinks = λ _ _ _ is. is; stays = λ _ _ _ _ is. is }) inv.scarce)
   where
     low : (k : ℕ) → k < c.start.layout.workers → OnSince x (c.guard k)
@@ -139,4 +142,4 @@ pub tick_fails_keeps : (c : Core) (j : ℕ) → j < c.start.layout.workers → I
 tick_fails_keeps c j b inv = let t = new_tick 0 in let e = c.words.epoch in frame_guards c _ _ _ _ _ _ _ _ _ _ inv
     (read_epoch _ _ _ _ _ j e (le_refl e) (read_tick _ _ _ _ _ j t (omega arith) (λ k a h. absurd h) inv.reading))
     (tick_set _ _ _ _ _ j t (λ i a _ h l. no_scan 0 c.guard i a h l) inv.guards)
-    inv.holders inv.cutting inv.stamps inv.cover inv.standing inv.lanes inv.walkers inv.scarce
+    inv.holders inv.cutting inv.stamps inv.cover inv.standing inv.copying inv.lanes inv.walkers inv.scarce

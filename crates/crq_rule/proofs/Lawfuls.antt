@@ -38,11 +38,11 @@ lawful c j b inv = record {
   cut = λ x is. (inv.holders.is_cut j x b is).0;
   tags = λ x t is i. let low = inv.reading.tags j t x b is i in let top = inv.reading.limit in omega arith;
   ripening = λ r t i. (inv.stamps.ripe j r t b i).0;
-  stands = λ s i. let row = row_of s i in (row, subst IsEvent (inv.standing.holds j s b i) (inv.spelled.events s.row row));
-  last = λ s l i is. subst IsLink (inv.standing.last j s l b i is).0 (inv.spelled.links s.row (row_of s i));
+  stands = λ s i. let row = row_of s i in (row, subst IsEvent ((inv.standing.each j s b i).holds) (inv.spelled.events s.row row));
+  last = λ s l i is. subst IsLink (((inv.standing.each j s b i).last l is)).0 (inv.spelled.links s.row (row_of s i));
   apart = λ r s held i e. let v = stand_covered c j s b i inv in inv.cover.free j v.0 s.row j v.1 (ap c.holding e ∙ (inv.holders.held j r b held).1);
   on = λ s i. stander_on c j s b i inv;
-  agree = λ s t i k e. sym (inv.standing.holds j s b i) ∙ (ap c.words.event e ∙ inv.standing.holds j t b k);
+  agree = λ s t i k e. sym ((inv.standing.each j s b i).holds) ∙ (ap c.words.event e ∙ (inv.standing.each j t b k).holds);
   owed_at = λ d x owed is. subst (λ z. d.head ≡ head_of z d.event) (sym (found_now c inv j x b is)) (named_now c inv j d b (inl owed)).1;
   owed_now = λ d x owed is. subst (λ (z : Control). d.generation ≡ z.generation) (sym (found_now c inv j x b is)) (named_now c inv j d b (inl owed)).0;
   owed_fits = λ d owed. let n = inv.naming.place j d b (inl owed) in (n.row, n.event);

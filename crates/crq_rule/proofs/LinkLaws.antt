@@ -16,12 +16,13 @@ use Rattle.crq_base.specs.Lists.{In, IsOnce}
 use Rattle.crq_rule.specs.declared.view.Guard.{Guard}
 use Rattle.crq_rule.specs.declared.view.Guard.TheVariants.{Off, Entering, On}
 use Rattle.crq_rule.specs.declared.view.CutRow.{CutRow}
+use Rattle.crq_rule.specs.declared.view.Stand.{Stand}
 use Rattle.crq_rule.specs.declared.view.Wrote.{Wrote}
 use Rattle.crq_rule.specs.Lists.{put}
 use Rattle.crq_rule.specs.Places.{IsRow, IsHomeRow, IsHead}
 use Rattle.crq_rule.specs.Core.{Core, IsOutside, HasName, caller_of, Holding, in_hand, listed, cut_by, retired}
 use Rattle.crq_rule.specs.Parts.{Fits, Spelled, IsEvent, Holders, Stamps, stamp_of, Chains, Leads, Names, IsPath, Reaches, Ground, ground_of, footings, Covers, IsGuarded, Cover, HasTag, IsOn, newest}
-use Rattle.crq_rule.specs.ListParts.{ranks, Heads, Sorted, MarkFits, Marks, IsFinal, Standing, Lanes, row_word, Writing, IsNamed, Naming}
+use Rattle.crq_rule.specs.ListParts.{ranks, Heads, Sorted, MarkFits, Marks, IsFinal, StandFits, Standing, Copying, Lanes, row_word, Writing, IsNamed, Naming}
 use Rattle.crq_rule.specs.HistoryParts.{IsCarrying, IsLive, Carriers, Walkers}
 use Rattle.crq_rule.specs.Ranks.{rank, list_in, head_of, Cell, at_head, at_row, link_at, heads_set, links_set, Rises, after_cell}
 use Rattle.crq_rule.specs.Invariant.{Inv}
@@ -188,7 +189,7 @@ cell_of c j x (at_row p) r e b on fits mark same event after inv =
     let row = inv.lanes.is_row p (j, g.0, covers) in
     let lists = cell_listed (c.holding p) (c.words.link p).mark mark (λ k h. inv.cover.free j g.0 p k covers h) (inv.marks.mark p row) in
     let found = inv.holders.of_chain lists.0 p row lists.1 in
-    let holds : c.words.event p ≡ f = subst (λ z. c.words.event z ≡ f) s.2 (inv.standing.holds j s.0 b s.1 ∙ s.3) in
+    let holds : c.words.event p ≡ f = subst (λ z. c.words.event z ≡ f) s.2 ((inv.standing.each j s.0 b s.1).holds ∙ s.3) in
     let generation : (c.words.head lists.0).generation ≡ x.generation = sym (inv.sorted.generation lists.0 p found.0 found.1) ∙ same in
     let here : lists.0 ≡ head_of x e = sym (inv.sorted.belongs lists.0 p found.0 found.1) ∙ ((λ i. list_in c.shape (generation i) (holds i)) ∙ (fitting_list c.start c.words.control c.shape x fits f ∙ after.3)) in (
       subst IsHead here found.0,
@@ -222,7 +223,7 @@ known c j x cell l r e b may is inv =
       of = at.1;
       below = at.2;
       next = ⊎_elim inl (λ (h : (f : Event) × StandsOn (c.rows j) l.row f × (rank e r < rank f l.row)).
-          let s = h.1 in let holds : c.words.event l.row ≡ h.0 = subst (λ z. c.words.event z ≡ h.0) s.2 (inv.standing.holds j s.0 b s.1 ∙ s.3) in
+          let s = h.1 in let holds : c.words.event l.row ≡ h.0 = subst (λ z. c.words.event z ≡ h.0) s.2 ((inv.standing.each j s.0 b s.1).holds ∙ s.3) in
           inr (subst (λ (z : Event × Event). rank z.0 r < rank z.1 l.row) (λ i. (sym event i, sym holds i)) h.2)) may.before;
     }
 
@@ -443,11 +444,20 @@ module _ (c : Core) (j : ℕ) (cell : Cell) (l : Link) (r : ℕ) (e : Event) whe
     link_last (at_head h) is s final = refl
     link_last (at_row p) is s final = put_else c.words.link p new s (λ (z : s ≡ p). cell_final (c.words.link s).mark (ap (λ y. is_cell (c.words.link y).mark) z ∙ (ap (λ (y : Link). is_cell y.mark) is ∙ f.mark_is)) final)
 
-    standing_after : Standing c.start.layout.workers link' c.words.event c.rows
-    standing_after = record {
-      holds = inv.standing.holds;
-      last = λ k s x b i is. let t = inv.standing.last k s x b i is in (link_last cell f.cell_is s.row (subst (λ (y : Link). IsFinal y.mark) (sym t.0) t.1) ∙ t.0, t.1);
+    stand_after : (s : Stand) → StandFits c.words.head c.words.link c.words.twin c.words.event s → StandFits head' link' c.words.twin c.words.event s
+    stand_after s was = record {
+      holds = was.holds;
+      last = λ x is. let t = was.last x is in (link_last cell f.cell_is s.row (subst (λ (y : Link). IsFinal y.mark) (sym t.0) t.1) ∙ t.0, t.1);
+      copy = was.copy;
+      valid = λ v e. was.valid v (sym (same_mark s.row) ∙ e);
+      front = λ h is. ⊎_elim (λ final. inl (subst IsFinal (sym (same_mark s.row)) final)) (λ front. inr (front_stays h s.row front)) (was.front h is);
     }
+
+    standing_after : Standing c.start.layout.workers head' link' c.words.twin c.words.event c.rows
+    standing_after = record { each = λ k s b i. stand_after s (inv.standing.each k s b i) }
+
+    copying_after : Copying c.start.layout.workers head' link' c.words.twin c.words.event c.old
+    copying_after = record { each = λ k s b is. let o = inv.copying.each k s b is in (stand_after s o.0, same_mark s.row ∙ o.1) }
 
     -- a link that changes is that of a listed row below the row r
     link_either : (cell : Cell) → IsOf cell q (c.chain q) → IsBelow (ranks c.words.event) cell r → (s : ℕ)
@@ -586,6 +596,7 @@ link_keeps c j cell l r e b (x, may) is inv = let f = known c j x cell l r e b m
   sorted = sorted_after c j cell l r e f inv;
   marks = marks_after c j cell l r e f inv;
   standing = standing_after c j cell l r e f inv;
+  copying = copying_after c j cell l r e f inv;
   lanes = lanes_after c j cell l r e f inv;
   writing = writing_after c j cell l r e f inv;
   naming = naming_after c j cell l r e f inv;

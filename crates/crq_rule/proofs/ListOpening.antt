@@ -12,12 +12,13 @@ use Rattle.crq_rule.specs.declared.debts.CopyDebt.{CopyDebt}
 use Rattle.crq_rule.specs.declared.debts.CutDebt.{CutDebt}
 use Rattle.crq_rule.specs.declared.layout.Start.{Start}
 use Rattle.crq_rule.specs.declared.view.Guard.TheVariants.{Off, On}
+use Rattle.crq_rule.specs.declared.view.Stand.{Stand}
 use Rattle.crq_rule.specs.declared.view.Walk.{Walk}
 use Rattle.crq_rule.specs.Core.{in_hand, listed}
 use Rattle.crq_rule.specs.Ranks.{first_head_of, IsOpen}
 use Rattle.crq_rule.specs.Parts.{ground_of, Fits}
 use Rattle.crq_rule.specs.Steady.{Steady}
-use Rattle.crq_rule.specs.ListParts.{Sizes, Dues, Heads, Sorted, Marks, Standing, Lanes, Writing, Naming, IsShut}
+use Rattle.crq_rule.specs.ListParts.{Sizes, Dues, Heads, Sorted, Marks, Standing, Copying, Lanes, Writing, Naming, IsShut}
 use Rattle.crq_rule.specs.HistoryParts.{Carriers, Told, Walkers, IsLive}
 use Rattle.crq_rule.specs.Opening.{home_of, opening_core, opening_head, open_head, shut_head}
 use Rattle.crq_rule.proofs.PartLaws.{sort}
@@ -33,6 +34,9 @@ no_walk w e = cc
 
 no_debt : (d : CutDebt) → None ≡ Some d → ⊥
 no_debt d e = cc
+
+no_old : (s : Stand) → None ≡ Some s → ⊥
+no_old s e = cc
 
 no_name : (d : CutDebt) → (None ≡ Some d) ⊎ (None ≡ Some d) → ⊥
 no_name d has = ⊎_elim (no_debt d) (no_debt d) has
@@ -76,8 +80,11 @@ module _ (s : Start) (first : IsFirst s.first) where
   pub opening_marks : Marks s.layout (opening_core s).words.control (opening_core s).words.head (opening_core s).words.link (opening_core s).words.twin (opening_core s).holding
   opening_marks = record { mark = λ _ _. tt; first = λ q r _ is _. absurd (hand_listed (home_of s.layout r) q is); bare = λ _ _ _ _. refl; aged = λ r _ out _. absurd (out (home_of s.layout r) refl) }
 
-  pub opening_standing : Standing s.layout.workers (opening_core s).words.link (opening_core s).words.event (opening_core s).rows
-  opening_standing = record { holds = λ _ _ _ i. absurd i; last = λ _ _ _ _ i _. absurd i }
+  pub opening_standing : Standing s.layout.workers (opening_core s).words.head (opening_core s).words.link (opening_core s).words.twin (opening_core s).words.event (opening_core s).rows
+  opening_standing = record { each = λ _ _ _ i. absurd i }
+
+  pub opening_copying : Copying s.layout.workers (opening_core s).words.head (opening_core s).words.link (opening_core s).words.twin (opening_core s).words.event (opening_core s).old
+  opening_copying = record { each = λ _ s _ is. absurd (no_old s is) }
 
   pub opening_lanes : Lanes s.layout (opening_core s).shape (ground_of (opening_core s)) (opening_core s).words.event
   opening_lanes = record {

@@ -125,7 +125,7 @@ module _ (key : Start) (p : Caller) where
   named (at_row r) c b inv may some = let s = may.1.0 in let v = stand_covered c j s b may.1.1 inv in let row : s.row ≡ r = may.1.2 in
       let from : IsGuarded (ground_of c) r = subst (IsGuarded (ground_of c)) row (guarded_by j v) in (
         inv.lanes.is_row (c.words.link r).row (from.0, from.1, names_covered (ground_of c) from.0 from.1 r (c.words.link r).row from.2 (some, inl refl)),
-        λ f is _. let holds : c.words.event r ≡ f = subst (λ (z : ℕ × Event). c.words.event z.0 ≡ z.1) (λ i. (is.2 i, is.3 i)) (inv.standing.holds j is.0 b is.1) in (
+        λ f is _. let holds : c.words.event r ≡ f = subst (λ (z : ℕ × Event). c.words.event z.0 ≡ z.1) (λ i. (is.2 i, is.3 i)) ((inv.standing.each j is.0 b is.1).holds) in (
           subst (λ e. rank e r < rank (c.words.event (c.words.link r).row) (c.words.link r).row) holds (inv.lanes.rises r from some),
           λ x ctl. subst (λ y. head_of y (c.words.event (c.words.link r).row) ≡ head_of y f) (sym (found_now c inv j x b ctl))
               (sym (open_list c inv (c.words.event (c.words.link r).row)) ∙ (subst (λ g. list_in c.shape g (c.words.event (c.words.link r).row) ≡ list_in c.shape g (c.words.event r)) (guarded_now c inv r from) (inv.lanes.stays r from some)

@@ -24,7 +24,7 @@ use Rattle.crq_rule.specs.Lists.{put}
 use Rattle.crq_rule.specs.Places.{IsRow}
 use Rattle.crq_rule.specs.Core.{Core, IsOutside, DeadNames, HasName, Holding, in_hand, listed, cut_by, retired, caller_of}
 use Rattle.crq_rule.specs.Parts.{Ground, ground_of, newest, IsEvent, IsGuarded, Leads, Chains, IsPath, Reaches, Covers, Cover, rows_of}
-use Rattle.crq_rule.specs.ListParts.{ranks, Sorted, Marks, MarkFits, Standing, IsFinal, Lanes, Writing, row_word, Naming, NameFits, IsNamed}
+use Rattle.crq_rule.specs.ListParts.{ranks, Sorted, Marks, MarkFits, StandFits, Standing, Copying, IsFinal, Lanes, Writing, row_word, Naming, NameFits, IsNamed}
 use Rattle.crq_rule.specs.HistoryParts.{IsCarrying, IsLive, Carriers, StandsFrom}
 use Rattle.crq_rule.specs.Ranks.{Shape, list_in}
 use Rattle.crq_rule.specs.Invariant.{Inv}
@@ -145,11 +145,22 @@ module _ (l : Layout) (shape : ℕ → Shape) (link : ℕ → Link) (twin : ℕ 
     aged = put_all link r (record (link r) { mark = Del }) (λ s m. IsRow l s → IsOutside holding s → m.mark ≡ Mov → m.generation < newest control) (λ _ _ m. absurd (del_mov m)) (λ s _. old.aged s);
   }
 
-  standing_dead : (n : ℕ) (rows : ℕ → List Stand) → (link r).mark ≡ Val → Standing n link event rows → Standing n (dead link r) event rows
-  standing_dead n rows val old = record {
-    holds = old.holds;
-    last = λ k s m b i is. let was = old.last k s m b i is in
-        (put_else link r (record (link r) { mark = Del }) s.row (λ e. final_val (link r) m (ap link (sym e) ∙ was.0) val was.1) ∙ was.0, was.1);
+  stand_dead : (head : ℕ → Link) → (link r).mark ≡ Val → (s : Stand) → StandFits head link twin event s → StandFits head (dead link r) twin event s
+  stand_dead head val s was = record {
+    holds = was.holds;
+    last = λ m is. let l = was.last m is in (put_else link r (record (link r) { mark = Del }) s.row (λ e. final_val (link r) m (ap link (sym e) ∙ l.0) val l.1) ∙ l.0, l.1);
+    copy = was.copy;
+    valid = λ v. put_all link r (record (link r) { mark = Del }) (λ t m. ((link t).mark ≡ Invalid → ⊥) → m.mark ≡ Invalid → ⊥) (λ _ e. del_inv e) (λ _ _ h. h) s.row (was.valid v);
+    front = λ q is. ⊎_elim (λ f. inl (put_all link r (record (link r) { mark = Del }) (λ t m. IsFinal (link t).mark → IsFinal m.mark) (λ _. tt) (λ _ _ h. h) s.row f)) inr (was.front q is);
+  }
+
+  standing_dead : (n : ℕ) (head : ℕ → Link) (rows : ℕ → List Stand) → (link r).mark ≡ Val → Standing n head link twin event rows → Standing n head (dead link r) twin event rows
+  standing_dead n head rows val old = record { each = λ k s b i. stand_dead head val s (old.each k s b i) }
+
+  copying_dead : (n : ℕ) (head : ℕ → Link) (olds : ℕ → Option Stand) → (link r).mark ≡ Val → Copying n head link twin event olds → Copying n head (dead link r) twin event olds
+  copying_dead n head olds val was = record {
+    each = λ k s b is. let o = was.each k s b is in
+        (stand_dead head val s o.0, put_all link r (record (link r) { mark = Del }) (λ t m. (link t).mark ≡ Mov → m.mark ≡ Mov) (λ e. absurd (val_mov (sym val ∙ e))) (λ _ _ e. e) s.row o.1);
   }
 
   writing_dead : (n : ℕ) (hand : ℕ → List ℕ) (written : ℕ → List Wrote) → ((k s : ℕ) → k < n → In s (hand k) → s ≢ r) → Writing n link twin event hand written → Writing n (dead link r) twin event hand written
@@ -301,7 +312,8 @@ mark_keeps c j r e b may val inv = let l = c.start.layout in let x = c.shape in 
   heads = inv.heads;
   sorted = sorted_dead l x k t v h r _ _ inv.sorted;
   marks = marks_dead l x k t v h r _ _ (λ m. val_mov (sym val ∙ m)) inv.marks;
-  standing = standing_dead l x k t v h r _ _ val inv.standing;
+  standing = standing_dead l x k t v h r _ _ _ val inv.standing;
+  copying = copying_dead l x k t v h r _ _ _ val inv.copying;
   lanes = lanes_dead l x k t v h r _ _ inv.lanes;
   writing = writing_dead l x k t v h r _ _ _ (λ k s i at. apart c.holding r s (listed held.0) (in_hand k) held.1 (inv.holders.held k s i at).1 (omega arith)) inv.writing;
   naming = naming_dead l x k t v h r j e c.named c.words.head b may.1.free is row (subst IsEvent is (inv.spelled.events r row)) inv.naming;
@@ -317,7 +329,7 @@ mark_keeps c j r e b may val inv = let l = c.start.layout in let x = c.shape in 
     at = may.1.on
 
     is : c.words.event r ≡ e
-    is = ap c.words.event (sym at.2) ∙ (inv.standing.holds j at.0 b at.1 ∙ at.3)
+    is = ap c.words.event (sym at.2) ∙ ((inv.standing.each j at.0 b at.1).holds ∙ at.3)
 
     covered : (g : ℕ) × Covers (ground_of c) j g r
     covered = stand_covered c inv j r b (subst (λ z. In z (rows_of (c.rows j))) at.2 (stand_row (c.rows j) at.0 at.1))

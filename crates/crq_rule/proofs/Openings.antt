@@ -38,7 +38,7 @@ use Rattle.crq_rule.proofs.Counting.{rows_in, in_rows, rows_once}
 use Rattle.crq_rule.proofs.Pendings.{none_counted}
 use Rattle.crq_rule.proofs.ScarceLaws.{none_base}
 use Rattle.crq_rule.proofs.SweepLaws.{none_sweep}
-use Rattle.crq_rule.proofs.ListOpening.{off_on, opening_control, opening_sizes, opening_dues, opening_steady, opening_heads, opening_sorted, opening_marks, opening_standing, opening_lanes, opening_writing, opening_naming, opening_carriers, opening_told, opening_walkers}
+use Rattle.crq_rule.proofs.ListOpening.{off_on, opening_control, opening_sizes, opening_dues, opening_steady, opening_heads, opening_sorted, opening_marks, opening_standing, opening_copying, opening_lanes, opening_writing, opening_naming, opening_carriers, opening_told, opening_walkers}
 
 -- Words
 
@@ -164,6 +164,7 @@ opening_inv s first = let top = first.upto in let low = first.epoch in record {
   sorted = opening_sorted s first;
   marks = opening_marks s first;
   standing = opening_standing s first;
+  copying = opening_copying s first;
   lanes = opening_lanes s first;
   writing = opening_writing s first;
   naming = opening_naming s first;

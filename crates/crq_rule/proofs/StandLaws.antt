@@ -5,6 +5,7 @@ use Rattle.crq_base.specs.declared.entry.Entry.{Entry}
 use Rattle.crq_base.specs.declared.words.Link.{Link}
 use Rattle.crq_base.specs.declared.words.Control.{Control}
 use Rattle.crq_rule.specs.declared.layout.Layout.{Layout}
+use Rattle.crq_base.specs.declared.words.Mark.TheVariants.{Mov}
 use Rattle.crq_rule.specs.declared.view.Guard.{Guard}
 use Rattle.crq_rule.specs.declared.view.Stand.{Stand}
 use Rattle.crq_rule.specs.declared.view.Wrote.{Wrote}
@@ -13,7 +14,7 @@ use Rattle.crq_rule.specs.Lists.{put}
 use Rattle.crq_rule.specs.Places.{IsRow, IsHead}
 use Rattle.crq_rule.specs.Core.{Holding, IsOutside, DeadNames, listed}
 use Rattle.crq_rule.specs.Parts.{Covers, Ground, IsGuarded, rows_of}
-use Rattle.crq_rule.specs.ListParts.{IsFinal, Marks, MarkFits, Standing, Lanes, Writing, Naming}
+use Rattle.crq_rule.specs.ListParts.{Marks, MarkFits, StandFits, Standing, Copying, Lanes, Writing, Naming}
 use Rattle.crq_rule.specs.HistoryParts.{Carriers, Walkers, IsLive, StandsFrom}
 use Rattle.crq_rule.specs.Ranks.{Shape, head_of, IsOpen}
 use Rattle.crq_base.specs.Histories.{puts, outs}
@@ -44,10 +45,15 @@ module _ (l : Layout) (shape : ℕ → Shape) (ground : Ground) (event : ℕ →
   lanes_less footing less = lanes_before ground.guard footing (covered_less ground footing less)
 
 -- a caller comes to stand nowhere
-pub standing_nowhere : (n : ℕ) (link : ℕ → Link) (event : ℕ → Event) (rows : ℕ → List Stand) (j : ℕ) → Standing n link event rows → Standing n link event (put rows j [])
-standing_nowhere n link event rows j old = record {
-  holds = λ k s. put_all rows j [] (λ k ss. k < n → In s ss → event s.row ≡ s.event) (λ _ i. absurd i) (λ k _. old.holds k s) k;
-  last = λ k s l. put_all rows j [] (λ k ss. k < n → In s ss → s.last ≡ Some l → (link s.row ≡ l) × IsFinal l.mark) (λ _ i _. absurd i) (λ k _. old.last k s l) k;
+pub standing_nowhere : (n : ℕ) (head link : ℕ → Link) (twin : ℕ → ℕ) (event : ℕ → Event) (rows : ℕ → List Stand) (j : ℕ) → Standing n head link twin event rows → Standing n head link twin event (put rows j [])
+standing_nowhere n head link twin event rows j old = record { each = λ k s. put_all rows j [] (λ k ss. k < n → In s ss → StandFits head link twin event s) (λ _ i. absurd i) (λ k _. old.each k s) k }
+
+none_old : (s : Stand) → None ≡ Some s → ⊥
+none_old s e = cc
+
+pub copying_nowhere : (n : ℕ) (head link : ℕ → Link) (twin : ℕ → ℕ) (event : ℕ → Event) (old : ℕ → Option Stand) (j : ℕ) → Copying n head link twin event old → Copying n head link twin event (put old j None)
+copying_nowhere n head link twin event old j was = record {
+  each = λ k s. put_all old j None (λ k o. k < n → o ≡ Some s → StandFits head link twin event s × ((link s.row).mark ≡ Mov)) (λ _ e. absurd (none_old s e)) (λ k _. was.each k s) k;
 }
 
 none_walk : (w : Walk) → None ≡ Some w → ⊥

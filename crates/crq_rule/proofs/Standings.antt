@@ -1,13 +1,13 @@
 -- Rows that rise along links, what names lead to, and the stands that a walk leaves.
-use Rattle.std.proofs.Common.{◌≡◌, ◌≢◌, ◌⊎◌, ⊎_elim, inl, inr, ℕ, ◌<◌, ◌≤◌, Bool, true, cond, eqb, ◌||◌, List, [], ◌∷◌, ◌++◌, Some, None, sym, refl, ap, ◌∙◌, subst, arith}
-use Rattle.std.proofs.lemmas.Bool.{cond_both, eqb-true, eqb-false}
+use Rattle.std.proofs.Common.{eq-eqb, ◌≡◌, ◌≢◌, ◌⊎◌, ⊎_elim, inl, inr, ℕ, ◌<◌, ◌≤◌, Bool, eqb, ◌||◌, List, [], ◌∷◌, ◌++◌, sym, refl, ap, ◌∙◌, subst, arith}
+use Rattle.std.proofs.lemmas.Bool.{false≢true, cond_both, eqb-true, eqb-false}
 use Rattle.crq_base.specs.declared.event.Event.{Event}
 use Rattle.crq_base.specs.declared.words.Link.{Link}
 use Rattle.crq_base.specs.Lists.{In}
 use Rattle.crq_rule.specs.declared.view.Stand.{Stand}
 use Rattle.crq_rule.specs.Parts.{Leads, Names, IsPath, Reaches, rows_of}
 use Rattle.crq_rule.specs.Ranks.{Rises, Cell, at_head, at_row}
-use Rattle.crq_rule.specs.ListKinds.{is_final, is_val, next_stand, only_row, ended, kept_stands, stands_after}
+use Rattle.crq_rule.specs.ListKinds.{is_cell, is_twin, new_stand, next_stand, only_row, noted_stand, noted, kept_stands, stands_after}
 
 module _ (link : ℕ → Link) (f : ℕ → ℕ) where
   above : (n y : ℕ) (xs : List ℕ) → Rises f n xs → In y xs → n < f y
@@ -81,51 +81,49 @@ pub in_rows : (ss : List Stand) (r : ℕ) → In r (rows_of ss) → (s : Stand) 
 in_rows [] r i = absurd i
 in_rows (t ∷ ts) r i = ⊎_elim (λ (e : r ≡ t.row). (t, inl refl, sym e)) (λ h. let s = in_rows ts r h in (s.0, inr s.1, s.2)) i
 
-in_next : (l : Link) (e : Event) (s : Stand) → In s (next_stand l e) → (0 < l.row) × (s ≡ record { row = l.row; event = e; last = None })
-in_next l e s = cond_both (eqb l.row 0) [] (record { row = l.row; event = e; last = None } ∷ []) (λ ss. In s ss → (0 < l.row) × (s ≡ record { row = l.row; event = e; last = None }))
+in_next : (cell : Cell) (l : Link) (e : Event) (s : Stand) → In s (next_stand cell l e) → (0 < l.row) × (s ≡ new_stand cell l e)
+in_next cell l e s = cond_both (eqb l.row 0) [] (new_stand cell l e ∷ []) (λ ss. In s ss → (0 < l.row) × (s ≡ new_stand cell l e))
     (λ _ i. absurd i) (λ no i. let ne = eqb-false l.row 0 no in (omega arith, ⊎_elim (λ q. q) (λ n. absurd n) i))
 
 -- the row that the link names is stood on
-pub next_in : (l : Link) (e : Event) → (l.row ≡ 0) ⊎ In l.row (rows_of (next_stand l e))
-next_in l e = cond_both (eqb l.row 0) [] (record { row = l.row; event = e; last = None } ∷ []) (λ ss. (l.row ≡ 0) ⊎ In l.row (rows_of ss)) (λ yes. inl (eqb-true l.row 0 yes)) (λ _. inr (inl refl))
+pub next_in : (cell : Cell) (l : Link) (e : Event) → (l.row ≡ 0) ⊎ In l.row (rows_of (next_stand cell l e))
+next_in cell l e = cond_both (eqb l.row 0) [] (new_stand cell l e ∷ []) (λ ss. (l.row ≡ 0) ⊎ In l.row (rows_of ss)) (λ yes. inl (eqb-true l.row 0 yes)) (λ _. inr (inl refl))
 
 in_only : (r : ℕ) (ss : List Stand) (s : Stand) → In s (only_row r ss) → In s ss
 in_only r [] s i = absurd i
-in_only r (t ∷ ts) s i = cond_both (eqb t.row r) (t ∷ only_row r ts) (only_row r ts) (λ xs. In s xs → In s (t ∷ ts)) (λ _ i. ⊎_elim inl (λ h. inr (in_only r ts s h)) i) (λ _ i. inr (in_only r ts s i)) i
+in_only r (t ∷ ts) s i = cond_both (eqb t.row r || is_twin r t.twin) (t ∷ only_row r ts) (only_row r ts) (λ xs. In s xs → In s (t ∷ ts)) (λ _ i. ⊎_elim inl (λ h. inr (in_only r ts s h)) i) (λ _ i. inr (in_only r ts s i)) i
 
 only_in : (r : ℕ) (ss : List Stand) → In r (rows_of ss) → In r (rows_of (only_row r ss))
 only_in r [] i = absurd i
-only_in r (t ∷ ts) i = cond_both (eqb t.row r) (t ∷ only_row r ts) (only_row r ts) (λ xs. In r (rows_of xs)) (λ yes. inl (sym (eqb-true t.row r yes)))
-    (λ no. only_in r ts (⊎_elim (λ (e : r ≡ t.row). absurd (eqb-false t.row r no (sym e))) (λ h. h) i))
+only_in r (t ∷ ts) i = cond_both (eqb t.row r || is_twin r t.twin) (t ∷ only_row r ts) (only_row r ts) (λ xs. In r (rows_of xs)) (λ _. ⊎_elim inl (λ h. inr (only_in r ts h)) i)
+    (λ no. only_in r ts (⊎_elim (λ (e : r ≡ t.row). absurd (false≢true (sym no ∙ ap (λ b. b || is_twin r t.twin) (eq-eqb t.row r (sym e))))) (λ h. h) i))
 
 in_kept : (seeks : Bool) (r : ℕ) (l : Link) (ss : List Stand) (s : Stand) → In s (kept_stands seeks r l ss) → In s ss
-in_kept seeks r l ss s = cond_both (seeks || is_val l.mark) (only_row r ss) ss (λ xs. In s xs → In s ss) (λ _. in_only r ss s) (λ _ i. i)
+in_kept seeks r l ss s = cond_both (seeks || is_cell l.mark) (only_row r ss) ss (λ xs. In s xs → In s ss) (λ _. in_only r ss s) (λ _ i. i)
 
 pub kept_in : (seeks : Bool) (r : ℕ) (l : Link) (ss : List Stand) → In r (rows_of ss) → In r (rows_of (kept_stands seeks r l ss))
-kept_in seeks r l ss i = cond_both (seeks || is_val l.mark) (only_row r ss) ss (λ xs. In r (rows_of xs)) (λ _. only_in r ss i) (λ _. i)
+kept_in seeks r l ss i = cond_both (seeks || is_cell l.mark) (only_row r ss) ss (λ xs. In r (rows_of xs)) (λ _. only_in r ss i) (λ _. i)
 
-in_ended : (r : ℕ) (l : Link) (ss : List Stand) (s : Stand) → In s (ended r l ss) → In s ss ⊎ ((t : Stand) × In t ss × (t.row ≡ r) × (s ≡ record t { last = Some l }))
-in_ended r l [] s i = absurd i
-in_ended r l (t ∷ ts) s i = ⊎_elim
-    (cond_both (eqb t.row r) (record t { last = Some l }) t (λ z. s ≡ z → In s (t ∷ ts) ⊎ ((t' : Stand) × In t' (t ∷ ts) × (t'.row ≡ r) × (s ≡ record t' { last = Some l })))
+in_noted : (r : ℕ) (l : Link) (ss : List Stand) (s : Stand) → In s (noted r l ss) → In s ss ⊎ ((t : Stand) × In t ss × (t.row ≡ r) × (s ≡ noted_stand l t))
+in_noted r l [] s i = absurd i
+in_noted r l (t ∷ ts) s i = ⊎_elim
+    (cond_both (eqb t.row r) (noted_stand l t) t (λ z. s ≡ z → In s (t ∷ ts) ⊎ ((t' : Stand) × In t' (t ∷ ts) × (t'.row ≡ r) × (s ≡ noted_stand l t')))
     (λ yes e. inr (t, inl refl, eqb-true t.row r yes, e)) (λ _ e. inl (inl e)))
-    (λ h. ⊎_elim (λ k. inl (inr k)) (λ k. inr (k.0, inr k.1, k.2, k.3)) (in_ended r l ts s h)) i
+    (λ h. ⊎_elim (λ k. inl (inr k)) (λ k. inr (k.0, inr k.1, k.2, k.3)) (in_noted r l ts s h)) i
 
-ended_rows : (r : ℕ) (l : Link) (ss : List Stand) → rows_of (ended r l ss) ≡ rows_of ss
-ended_rows r l [] = refl
-ended_rows r l (t ∷ ts) = cond_both (eqb t.row r) (record t { last = Some l }) t (λ z. z.row ∷ rows_of (ended r l ts) ≡ t.row ∷ rows_of ts) (λ _. ap (λ xs. t.row ∷ xs) (ended_rows r l ts)) (λ _. ap (λ xs. t.row ∷ xs) (ended_rows r l ts))
+noted_rows : (r : ℕ) (l : Link) (ss : List Stand) → rows_of (noted r l ss) ≡ rows_of ss
+noted_rows r l [] = refl
+noted_rows r l (t ∷ ts) = cond_both (eqb t.row r) (noted_stand l t) t (λ z. z.row ∷ rows_of (noted r l ts) ≡ t.row ∷ rows_of ts) (λ _. ap (λ xs. t.row ∷ xs) (noted_rows r l ts)) (λ _. ap (λ xs. t.row ∷ xs) (noted_rows r l ts))
 
--- what a stand after a walk is: one of before, the row that the cell's link names, or the cell's row, whose last link was found
+-- what a stand after a walk is: one of before, the row that the cell's link names, or the cell's row, of which the link was found
 abbrev pub Stood : Cell → Link → Event → List Stand → Stand → Type 0
-Stood cell l e ss s = In s ss ⊎ (((0 < l.row) × (s ≡ record { row = l.row; event = e; last = None })) ⊎ ((t : Stand) × In t ss × (cell ≡ at_row t.row) × (s ≡ record t { last = Some l }) × (is_final l.mark ≡ true)))
+Stood cell l e ss s = In s ss ⊎ (((0 < l.row) × (s ≡ new_stand cell l e)) ⊎ ((t : Stand) × In t ss × (cell ≡ at_row t.row) × (s ≡ noted_stand l t)))
 
 pub stood : (cell : Cell) (seeks : Bool) (l : Link) (e : Event) (ss : List Stand) (s : Stand) → In s (stands_after cell seeks l e ss) → Stood cell l e ss s
-stood (at_head q) seeks l e ss s i = inr (inl (in_next l e s i))
-stood (at_row r) seeks l e ss s i = ⊎_elim (λ h. inr (inl (in_next l e s h)))
-    (cond_both (is_final l.mark) (ended r l (kept_stands seeks r l ss)) (kept_stands seeks r l ss) (λ xs. In s xs → Stood (at_row r) l e ss s)
-    (λ yes h. ⊎_elim (λ k. inl (in_kept seeks r l ss s k)) (λ k. inr (inr (k.0, in_kept seeks r l ss k.0 k.1, ap at_row (sym k.2), k.3, yes))) (in_ended r l (kept_stands seeks r l ss) s h))
-    (λ _ h. inl (in_kept seeks r l ss s h)))
-    (in_join (next_stand l e) (cond (is_final l.mark) (ended r l (kept_stands seeks r l ss)) (kept_stands seeks r l ss)) s i)
+stood (at_head q) seeks l e ss s i = inr (inl (in_next (at_head q) l e s i))
+stood (at_row r) seeks l e ss s i = ⊎_elim (λ h. inr (inl (in_next (at_row r) l e s h)))
+    (λ h. ⊎_elim (λ k. inl (in_kept seeks r l ss s k)) (λ k. inr (inr (k.0, in_kept seeks r l ss k.0 k.1, ap at_row (sym k.2), k.3))) (in_noted r l (kept_stands seeks r l ss) s h))
+    (in_join (next_stand (at_row r) l e) (noted r l (kept_stands seeks r l ss)) s i)
 
 -- a row stood on after a walk was stood on before it, or is the one that the cell's link names
 pub row_stood : (cell : Cell) (seeks : Bool) (l : Link) (e : Event) (ss : List Stand) (r : ℕ) → In r (rows_of (stands_after cell seeks l e ss)) → In r (rows_of ss) ⊎ ((0 < l.row) × (l.row ≡ r))
@@ -135,19 +133,17 @@ row_stood cell seeks l e ss r i = let s = in_rows (stands_after cell seeks l e s
     (λ h. inl (subst (λ z. In z (rows_of ss)) (sym (ap (λ (z : Stand). z.row) h.3) ∙ s.2) (rows_in ss h.0 h.1))))
     (stood cell seeks l e ss s.0 s.1)
 
+later : (xs ys : List Stand) (r : ℕ) → In r (rows_of ys) → In r (rows_of (xs ++ ys))
+later [] ys r h = h
+later (x ∷ xs) ys r h = inr (later xs ys r h)
+
+earlier : (xs ys : List Stand) (r : ℕ) → In r (rows_of xs) → In r (rows_of (xs ++ ys))
+earlier [] ys r h = absurd h
+earlier (x ∷ xs) ys r h = ⊎_elim inl (λ t. inr (earlier xs ys r t)) h
+
 -- a walk stays on the row at which it reads
 pub row_stays : (r : ℕ) (seeks : Bool) (l : Link) (e : Event) (ss : List Stand) → In r (rows_of ss) → In r (rows_of (stands_after (at_row r) seeks l e ss))
-row_stays r seeks l e ss i = later (next_stand l e) (cond (is_final l.mark) (ended r l (kept_stands seeks r l ss)) (kept_stands seeks r l ss))
-    (cond_both (is_final l.mark) (ended r l (kept_stands seeks r l ss)) (kept_stands seeks r l ss) (λ xs. In r (rows_of xs))
-    (λ _. subst (In r) (sym (ended_rows r l (kept_stands seeks r l ss))) (kept_in seeks r l ss i)) (λ _. kept_in seeks r l ss i))
-  where
-    later : (xs ys : List Stand) → In r (rows_of ys) → In r (rows_of (xs ++ ys))
-    later [] ys h = h
-    later (x ∷ xs) ys h = inr (later xs ys h)
+row_stays r seeks l e ss i = later (next_stand (at_row r) l e) (noted r l (kept_stands seeks r l ss)) r (subst (In r) (sym (noted_rows r l (kept_stands seeks r l ss))) (kept_in seeks r l ss i))
 
 pub row_next : (r : ℕ) (seeks : Bool) (l : Link) (e : Event) (ss : List Stand) → (l.row ≡ 0) ⊎ In l.row (rows_of (stands_after (at_row r) seeks l e ss))
-row_next r seeks l e ss = ⊎_elim inl (λ h. inr (earlier (next_stand l e) (cond (is_final l.mark) (ended r l (kept_stands seeks r l ss)) (kept_stands seeks r l ss)) h)) (next_in l e)
-  where
-    earlier : (xs ys : List Stand) → In l.row (rows_of xs) → In l.row (rows_of (xs ++ ys))
-    earlier [] ys h = absurd h
-    earlier (x ∷ xs) ys h = ⊎_elim inl (λ t. inr (earlier xs ys t)) h
+row_next r seeks l e ss = ⊎_elim inl (λ h. inr (earlier (next_stand (at_row r) l e) (noted r l (kept_stands seeks r l ss)) l.row h)) (next_in (at_row r) l e)

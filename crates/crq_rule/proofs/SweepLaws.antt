@@ -164,7 +164,7 @@ module _ (c : Core) (j : ℕ) (b : j < c.start.layout.workers) (inv : Inv c) whe
 
   behind_row : (p : ℕ) (s : Sweep) → c.sweep j ≡ Some s → Passing (c.found j).control p (c.rows j) s → (c.words.link p).mark ≡ Val → Behind s.head (c.words.link p)
   behind_row p s is t val r head home i w = let v = stand_covered c j t.stand b t.stands inv in let x = c.words.control in
-      let holds : c.words.event p ≡ t.stand.event = ap c.words.event (sym t.row) ∙ inv.standing.holds j t.stand b t.stands in
+      let holds : c.words.event p ≡ t.stand.event = ap c.words.event (sym t.row) ∙ (inv.standing.each j t.stand b t.stands).holds in
       let row : IsRow c.start.layout p = subst (IsRow c.start.layout) t.row (inv.lanes.is_row t.stand.row (guarded_by j v)) in
       let at = cell_listed (c.holding p) (c.words.link p).mark (ap is_cell val) (λ k held. inv.cover.free j v.0 t.stand.row k v.1 (ap c.holding t.row ∙ held)) (inv.marks.mark p row) in
       let in_list = inv.holders.of_chain at.0 p row at.1 in let control : t.control ≡ x = found_now c inv j t.control b t.found in

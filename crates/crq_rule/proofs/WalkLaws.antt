@@ -24,11 +24,11 @@ use Rattle.crq_rule.specs.Lists.{put}
 use Rattle.crq_rule.specs.Places.{IsHead}
 use Rattle.crq_rule.specs.Core.{Core, IsOutside, DeadNames, HasName, in_hand, retired}
 use Rattle.crq_rule.specs.Parts.{ground_of, Covers, IsGuarded, HasTag, IsOn, Names, IsPath, Reaches, rows_of, rows_of_old, rows_of_copy}
-use Rattle.crq_rule.specs.ListParts.{ranks, IsFinal, IsNamed}
+use Rattle.crq_rule.specs.ListParts.{ranks, StandFits, IsFinal, IsNamed}
 use Rattle.crq_rule.specs.HistoryParts.{StandsFrom}
 use Rattle.crq_rule.specs.Invariant.{Inv}
 use Rattle.crq_rule.specs.Ranks.{rank, list_in, head_of, IsOpen, Cell, at_head, at_row, link_at}
-use Rattle.crq_rule.specs.ListKinds.{is_final, is_passed, is_val, stands_after, walk_after, walked, is_cell, is_beyond, is_past, is_other_front, relieved, next_stand, walked_from, MayWalk, MaySeek}
+use Rattle.crq_rule.specs.ListKinds.{is_final, is_passed, is_val, stands_after, walk_after, walked, is_cell, is_beyond, is_past, is_other_front, relieved, front_of, new_stand, next_stand, noted_stand, is_mov, is_inv, walked_from, MayWalk, MaySeek}
 use Rattle.crq_rule.proofs.SweepLaws.{val_is, swept_walked}
 use Rattle.crq_rule.proofs.Puts.{put_here, put_else, put_all}
 use Rattle.crq_rule.proofs.PartLaws.{sort}
@@ -235,7 +235,7 @@ module _ (c : Core) (j g : ℕ) (b : j < c.start.layout.workers) (on : c.guard j
     still_owed (at_row p) may t = let past = past_is (c.found j).control (at_row p) (c.rows j) (c.words.link p) (cell_event c (at_row p)) d t in
         let s = beyond_is (c.found j).control p (c.rows j) d past.beyond in
         let in_list = covered_cell c inv p (covered_at p (subst (λ z. In z (rows_of (c.rows j))) s.row (rows_in (c.rows j) s.stand s.stands))) past.cell_is in
-        let holds : c.words.event p ≡ s.stand.event = ap c.words.event (sym s.row) ∙ inv.standing.holds j s.stand b s.stands in
+        let holds : c.words.event p ≡ s.stand.event = ap c.words.event (sym s.row) ∙ (inv.standing.each j s.stand b s.stands).holds in
         let generation : (c.words.head in_list.0).generation ≡ s.control.generation = sym (inv.sorted.generation in_list.0 p in_list.1 in_list.2) ∙ (past.generation ∙ sym s.generation) in
         let fits = inv.finds.controls j s.control b s.found in
         let same : in_list.0 ≡ q = sym (inv.sorted.belongs in_list.0 p in_list.1 in_list.2)
@@ -268,10 +268,10 @@ first_step link twin r y (p ∷ ps) ne none path = ⊎_elim
 
 module _ (c : Core) (j g : ℕ) (b : j < c.start.layout.workers) (on : c.guard j ≡ On g) (inv : Inv c) where
   -- a walk that begins at a head
-  at_first : (q : ℕ) → IsHead q → (c.words.head q).mark ≡ Val → WalkFits c j (rows_of (next_stand (c.words.head q) (c.words.event (c.words.head q).row))) (record { head = q; at = (c.words.head q).row })
+  at_first : (q : ℕ) → IsHead q → (c.words.head q).mark ≡ Val → WalkFits c j (rows_of (next_stand (at_head q) (c.words.head q) (c.words.event (c.words.head q).row))) (record { head = q; at = (c.words.head q).row })
   at_first q h val = record {
     opened = (h, present_open c inv q h val);
-    at_stand = next_in (c.words.head q) (c.words.event (c.words.head q).row);
+    at_stand = next_in (at_head q) (c.words.head q) (c.words.event (c.words.head q).row);
     left = λ front back e parts _ at put kept.
         let pending : IsPending c.history e = record {
           put = subst (λ z. Contains (puts z) e) (sym parts) (subst (λ z. Contains z e) (sym (filter_map-append put_of front back)) (Contains-append_left (puts front) (puts back) e put));
@@ -302,7 +302,7 @@ module _ (c : Core) (j g : ℕ) (b : j < c.start.layout.workers) (on : c.guard j
   -- each walk that there is after the step
   walk_fits : (cell : Cell) (seeks : Bool) (w : Walk) → MayWalk (c.rows j) cell → MaySeek (c.own j) (c.walk j) cell seeks → walk_after cell seeks (cell_link c cell) (c.walk j) ≡ Some w
       → WalkFits c j (rows_of (new_rows c j cell seeks)) w
-  walk_fits (at_head q) seeks w may seek is = let l = c.words.head q in let rows = rows_of (next_stand l (c.words.event l.row)) in
+  walk_fits (at_head q) seeks w may seek is = let l = c.words.head q in let rows = rows_of (next_stand (at_head q) l (c.words.event l.row)) in
       cond_both (seeks && is_val l.mark) (Some (record { head = q; at = l.row })) None (λ o. o ≡ Some w → WalkFits c j rows w)
       (λ yes e. subst (WalkFits c j rows) (same_Some (record { head = q; at = l.row }) w e) (at_first q may (val_is l.mark (and_parts seeks (is_val l.mark) yes).1)))
       (λ _ n. absurd (none-some w n)) is
@@ -312,6 +312,44 @@ module _ (c : Core) (j g : ℕ) (b : j < c.start.layout.workers) (on : c.guard j
       let x = seek.0 in
       subst (WalkFits c j (rows_of (stands_after (at_row r) true l e ss))) (same_Some (cond (is_passed l.mark) (record x { at = l.row }) x) w (sym (ap (walked l) seek.1) ∙ is))
       (at_next r (rows_of (stands_after (at_row r) true l e ss)) x seek.1 seek.2 i (row_stays r true l e ss i) (row_next r true l e ss))
+
+-- What is known of the stands after a walk
+
+abbrev Fits : Core → Stand → Type 0
+Fits c = StandFits c.words.head c.words.link c.words.twin c.words.event
+
+none_link : (l : Link) → None ≡ Some l → ⊥
+none_link l e = cc
+
+none_number : (t : ℕ) → None ≡ Some t → ⊥
+none_number t e = cc
+
+mov_is : (m : Mark) → is_mov m ≡ true → m ≡ Mov
+mov_is Val e = absurd (false≢true e)
+mov_is Invalid e = absurd (false≢true e)
+mov_is Mov e = refl
+mov_is Del e = absurd (false≢true e)
+
+-- the first row of a frozen head
+new_front : (c : Core) (cell : Cell) (q : ℕ) → front_of cell (cell_link c cell) ≡ Some q → ((c.words.head q).mark ≡ Mov) × ((c.words.head q).row ≡ (cell_link c cell).row)
+new_front c (at_row r) q is = absurd (none_number q is)
+new_front c (at_head h) q is = cond_both (is_mov (c.words.head h).mark) (Some h) None (λ o. o ≡ Some q → ((c.words.head q).mark ≡ Mov) × ((c.words.head q).row ≡ (c.words.head h).row))
+    (λ yes e. let same : h ≡ q = same_Some h q e in (ap (λ z. (c.words.head z).mark) (sym same) ∙ mov_is (c.words.head h).mark yes, ap (λ z. (c.words.head z).row) (sym same))) (λ _ e. absurd (none_number q e)) is
+
+new_fits : (c : Core) (cell : Cell) → Fits c (new_stand cell (cell_link c cell) (cell_event c cell))
+new_fits c cell = record { holds = refl; last = λ l is. absurd (none_link l is); copy = λ t is. absurd (none_number t is); valid = λ v. absurd (false≢true v); front = λ q is. inr (new_front c cell q is) }
+
+-- the row of the stand s, of which the link l was found
+noted_fits : (c : Core) (s : Stand) (l : Link) → c.words.link s.row ≡ l → Fits c s → Fits c (noted_stand l s)
+noted_fits c s l found was = record {
+  holds = was.holds;
+  last = λ m. cond_both (is_final l.mark) (Some l) s.last (λ o. o ≡ Some m → (c.words.link s.row ≡ m) × IsFinal m.mark)
+      (λ yes e. let same = same_Some l m e in (found ∙ same, subst (λ (z : Link). IsFinal z.mark) same (final_is l.mark yes))) (λ _. was.last m);
+  copy = was.copy;
+  valid = cond_both (is_inv l.mark) s.valid true (λ b. b ≡ true → (c.words.link s.row).mark ≡ Invalid → ⊥) (λ _. was.valid)
+      (λ no _ e. false≢true (sym no ∙ ap is_inv (ap (λ (z : Link). z.mark) (sym found) ∙ e)));
+  front = was.front;
+}
 
 -- A walk keeps the invariant
 pub walk_keeps : (c : Core) (j : ℕ) (cell : Cell) (seeks : Bool) → j < c.start.layout.workers → IsOn (c.guard j) → MayWalk (c.rows j) cell → MaySeek (c.own j) (c.walk j) cell seeks → Inv c → Inv (walked_from c j cell seeks)
@@ -336,20 +374,12 @@ walk_keeps c j cell seeks b is_on may seek inv = record {
   sorted = inv.sorted;
   marks = inv.marks;
   standing = record {
-    holds = λ k s. put_all c.rows j (new_rows c j cell seeks) (λ k ss. k < c.start.layout.workers → In s ss → c.words.event s.row ≡ s.event)
-        (λ d i. ⊎_elim (inv.standing.holds j s d) (⊎_elim
-        (λ h. subst (λ (z : Stand). c.words.event z.row ≡ z.event) (sym h.1) refl)
-        (λ h. subst (λ (z : Stand). c.words.event z.row ≡ z.event) (sym h.3) (inv.standing.holds j h.0 d h.1)))
-        (stood cell seeks (cell_link c cell) (cell_event c cell) (c.rows j) s i))
-        (λ k _. inv.standing.holds k s) k;
-    last = λ k s m. put_all c.rows j (new_rows c j cell seeks) (λ k ss. k < c.start.layout.workers → In s ss → s.last ≡ Some m → (c.words.link s.row ≡ m) × IsFinal m.mark)
-        (λ d i is. ⊎_elim (λ h. inv.standing.last j s m d h is) (⊎_elim
-        (λ h. absurd (none-some m (sym (ap (λ (z : Stand). z.last) h.1) ∙ is)))
-        (λ h. let same : cell_link c cell ≡ m = same_Some (cell_link c cell) m (sym (ap (λ (z : Stand). z.last) h.3) ∙ is) in
-        (ap (λ (z : Stand). c.words.link z.row) h.3 ∙ (sym (ap (link_at c.words.head c.words.link) h.2) ∙ same), subst (λ z. IsFinal z.mark) same (final_is (cell_link c cell).mark h.4))))
-        (stood cell seeks (cell_link c cell) (cell_event c cell) (c.rows j) s i))
-        (λ k _. inv.standing.last k s m) k;
+    each = λ k s. put_all c.rows j (new_rows c j cell seeks) (λ k ss. k < c.start.layout.workers → In s ss → Fits c s)
+        (λ d i. ⊎_elim (inv.standing.each j s d) (⊎_elim (λ h. subst (Fits c) (sym h.1) (new_fits c cell))
+        (λ h. subst (Fits c) (sym h.3) (noted_fits c h.0 (cell_link c cell) (sym (ap (link_at c.words.head c.words.link) h.2)) (inv.standing.each j h.0 d h.1))))
+        (stood cell seeks (cell_link c cell) (cell_event c cell) (c.rows j) s i)) (λ k _. inv.standing.each k s) k;
   };
+  copying = inv.copying;
   lanes = record {
     is_row = λ r v. ⊎_elim (inv.lanes.is_row r) (λ h. (inv.holders.in_chain h.0 r h.1 h.2).0) (guarded r v);
     rises = λ r v some. ⊎_elim (λ o. inv.lanes.rises r o some) (λ h. (chain_next c inv h.0 r h.1 h.2 some).1) (guarded r v);

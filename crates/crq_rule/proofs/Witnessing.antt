@@ -1,5 +1,5 @@
 -- The parts are no empty talk: a state with a listed row that holds a pending event and that a guard covers, a cut row that has a tag, and a retired row meets the invariant.
-use Rattle.std.proofs.Common.{◌++◌, ◌⊎◌, ◌≡◌, ◌≢◌, ⊎_elim, inl, inr, ℕ, ◌-◌, ◌*◌, ◌/◌, ◌<◌, ◌≤◌, List, [], ◌∷◌, length, Option, Some, None, sym, refl, ap, ◌∙◌, subst, arith}
+use Rattle.std.proofs.Common.{◌++◌, ◌⊎◌, ◌≡◌, ◌≢◌, ⊎_elim, inl, inr, ℕ, ◌-◌, ◌*◌, ◌/◌, ◌<◌, ◌≤◌, List, [], ◌∷◌, length, Option, Some, None, sym, refl, ap, ◌∙◌, subst, arith, false}
 use mathlib.Core.Logic.{dite}
 use native.Mathlib.Decide.{ℕ_discrete}
 use Rattle.crq_base.specs.declared.event.Event.{Event}
@@ -25,7 +25,7 @@ use Rattle.crq_rule.specs.Places.{IsRow, IsHomeRow, IsHead}
 use Rattle.crq_rule.specs.Core.{Core, Holding, in_hand, listed, cut_by, retired}
 use Rattle.crq_rule.specs.Parts.{Holders, Stamps, Leads, IsPath, ground_of, rows_of, stamp_of}
 use Rattle.crq_rule.specs.Ranks.{rank, head_for, bucket, list_in, Rises}
-use Rattle.crq_rule.specs.ListParts.{Heads, Sorted, Marks, Standing, Lanes, Naming, IsShut, IsOldHead, IsNewHead, MarkFits, IsFinal, ranks}
+use Rattle.crq_rule.specs.ListParts.{Heads, Sorted, Marks, StandFits, Standing, Lanes, Naming, IsShut, IsOldHead, IsNewHead, MarkFits, IsFinal, ranks}
 use Rattle.crq_rule.specs.HistoryParts.{Carriers, Told, EndsInBegin}
 use Rattle.crq_rule.specs.Invariant.{Inv}
 use Rattle.crq_rule.specs.Rule.{rows_from}
@@ -85,7 +85,7 @@ abbrev own : ℕ → List Entry
 own = put (λ _. []) 0 entries
 
 abbrev stand : Stand
-stand = record { row = 1; event = event; last = None }
+stand = record { row = 1; event = event; last = None; twin = None; valid = false; front = None }
 
 abbrev stands_at : ℕ → List Stand
 stands_at = put (λ _. []) 0 (stand ∷ [])
@@ -239,15 +239,23 @@ sorted = record {
       (λ _ _ _ n. absurd n) p;
 }
 
-stands : Standing 2 links core.words.event stands_at
+no_stand : (s : Stand) → None ≡ Some s → ⊥
+no_stand s e = cc
+
+stands : Standing 2 core.words.head links core.words.twin core.words.event stands_at
 stands = record {
-  holds = λ k s. put_all (λ _. []) 0 (stand ∷ []) (λ k ss. k < 2 → In s ss → event ≡ s.event) (λ _ i. ⊎_elim (λ (e : s ≡ stand). sym (ap (λ (z : Stand). z.event) e)) (λ n. absurd n) i) (λ _ _ _ n. absurd n) k;
-  last = λ k s l. put_all (λ _. []) 0 (stand ∷ []) (λ k ss. k < 2 → In s ss → s.last ≡ Some l → (links s.row ≡ l) × IsFinal l.mark)
-      (λ _ i e. ⊎_elim (λ (z : s ≡ stand). absurd (no_last l (sym (ap (λ (z : Stand). z.last) z) ∙ e))) (λ n. absurd n) i) (λ _ _ _ n. absurd n) k;
+  each = λ k s. put_all (λ _. []) 0 (stand ∷ []) (λ k ss. k < 2 → In s ss → StandFits core.words.head links core.words.twin core.words.event s)
+      (λ _ i. ⊎_elim (λ (e : s ≡ stand). subst (StandFits core.words.head links core.words.twin core.words.event) (sym e) stand_fits) (λ n. absurd n) i) (λ _ _ _ n. absurd n) k;
 }
   where
     no_last : (l : Link) → None ≡ Some l → ⊥
     no_last l e = cc
+
+    no_number : (t : ℕ) → None ≡ Some t → ⊥
+    no_number t e = cc
+
+    stand_fits : StandFits core.words.head links core.words.twin core.words.event stand
+    stand_fits = record { holds = refl; last = λ l e. absurd (no_last l e); copy = λ t e. absurd (no_number t e); valid = λ v. absurd (false≢true v); front = λ t e. absurd (no_number t e) }
 
 lanes : Lanes layout core.shape (ground_of core) core.words.event
 lanes = record {
@@ -350,6 +358,7 @@ core_inv = record {
   sorted = sorted;
   marks = marks;
   standing = stands;
+  copying = record { each = λ _ s _ e. absurd (no_stand s e) };
   lanes = lanes;
   writing = record { placed = λ _ _ _ i. absurd i; in_hand_is = λ _ _ _ i. absurd i; stands = λ _ _ _ i. absurd i };
   naming = naming;

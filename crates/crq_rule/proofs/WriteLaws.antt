@@ -18,7 +18,7 @@ use Rattle.crq_rule.specs.Places.{IsRow, IsHead}
 use Rattle.crq_rule.specs.Core.{Core, IsOutside, HasName, in_hand, listed}
 use Rattle.crq_rule.specs.Parts.{newest, Ground, ground_of, footings, IsEvent, IsGuarded, Leads, Names, IsPath, Reaches, Covers, rows_of}
 use Rattle.crq_rule.specs.Ranks.{rank, list_in, Rises}
-use Rattle.crq_rule.specs.ListParts.{ranks, MarkFits, IsNamed, row_word}
+use Rattle.crq_rule.specs.ListParts.{ranks, MarkFits, StandFits, IsFinal, IsNamed, row_word}
 use Rattle.crq_rule.specs.HistoryParts.{IsCarrying, IsLive}
 use Rattle.crq_rule.specs.Invariant.{Inv}
 use Rattle.crq_rule.specs.ListKinds.{Content, new_link, no_twin, new_time, new_source, new_sequence, new_load, IsContent, content_number, content_word, link_after, twin_after, event_after, unwritten, wrote, written_at}
@@ -28,7 +28,7 @@ use Rattle.crq_rule.proofs.PartLaws.{home_is_row, sort, of_whom}
 use Rattle.crq_rule.specs.declared.debts.CutDebt.{CutDebt}
 use Rattle.crq_rule.proofs.SizeLaws.{sizes_rows}
 use Rattle.crq_rule.proofs.SteadyLaws.{steady_rows}
-use Rattle.crq_rule.proofs.CoverLaws.{stand_row, row_footing, names_covered, footing_covered}
+use Rattle.crq_rule.proofs.CoverLaws.{stand_row, old_footing, row_footing, names_covered, footing_covered}
 
 -- Links and twins that change at the row r alone
 
@@ -188,6 +188,18 @@ module _ (c : Core) (j r : ℕ) (x : Content) (b : j < c.start.layout.workers) (
   stand_else : (k : ℕ) (s : Stand) → k < c.start.layout.workers → In s (c.rows k) → s.row ≢ r
   stand_else k s d i = let v = on_stand k s.row d (stand_row (c.rows k) s i) in covered_else k v.0 s.row v.1
 
+  old_else : (k : ℕ) (s : Stand) → k < c.start.layout.workers → c.old k ≡ Some s → s.row ≢ r
+  old_else k s d is = let v = footing_covered (ground_of c) c.cut c.holding inv.cover k s.row d (old_footing c.rows c.old c.copying k s is) in covered_else k v.0 s.row v.1
+
+  stand_new : (s : Stand) → s.row ≢ r → StandFits c.words.head c.words.link c.words.twin c.words.event s → StandFits c.words.head link twin event s
+  stand_new s ne was = record {
+    holds = events_else s.row ne ∙ was.holds;
+    last = λ l e. let h = was.last l e in (links_else s.row ne ∙ h.0, h.1);
+    copy = λ t e. let h = was.copy t e in (twins_else s.row ne ∙ h.0, h.1);
+    valid = λ v e. was.valid v (ap (λ (l : Link). l.mark) (sym (links_else s.row ne)) ∙ e);
+    front = λ q e. ⊎_elim (λ final. inl (subst (λ (l : Link). IsFinal l.mark) (sym (links_else s.row ne)) final)) inr (was.front q e);
+  }
+
   -- the row that the link of a covered row names
   next_else : (k g s : ℕ) → Covers (ground_of c) k g s → 0 < (c.words.link s).row → (c.words.link s).row ≢ r
   next_else k g s v above = covered_else k g (c.words.link s).row (names_covered (ground_of c) k g s (c.words.link s).row v (above, inl refl))
@@ -262,9 +274,9 @@ module _ (c : Core) (j r : ℕ) (x : Content) (b : j < c.start.layout.workers) (
       bare = λ s d out live. twins_else s (outside_else s out) ∙ inv.marks.bare s d out (λ m. live (ap (λ (l : Link). l.mark) (links_else s (outside_else s out)) ∙ m));
       aged = λ s d out. subst (λ (l : Link). l.mark ≡ Mov → l.generation < newest c.words.control) (sym (links_else s (outside_else s out))) (inv.marks.aged s d out);
     };
-    standing = record {
-      holds = λ k s d i. events_else s.row (stand_else k s d i) ∙ inv.standing.holds k s d i;
-      last = λ k s l d i e. let h = inv.standing.last k s l d i e in (links_else s.row (stand_else k s d i) ∙ h.0, h.1);
+    standing = record { each = λ k s d i. stand_new s (stand_else k s d i) (inv.standing.each k s d i) };
+    copying = record {
+      each = λ k s d at. let o = inv.copying.each k s d at in let ne = old_else k s d at in (stand_new s ne o.0, ap (λ (l : Link). l.mark) (links_else s.row ne) ∙ o.1);
     };
     lanes = record {
       is_row = λ s v. inv.lanes.is_row s (guarded_old s v);

@@ -1,7 +1,7 @@
 -- The invariant that every step keeps.
 use Rattle.crq_rule.specs.Core.{Core}
 use Rattle.crq_rule.specs.Parts.{ground_of, Spelled, Reading, Finds, Guards, Holders, Cutting, Stamps, Chains, Cover}
-use Rattle.crq_rule.specs.ListParts.{Sizes, Dues, Heads, Sorted, Marks, Standing, Lanes, Writing, Naming}
+use Rattle.crq_rule.specs.ListParts.{Sizes, Dues, Heads, Sorted, Marks, Standing, Copying, Lanes, Writing, Naming}
 use Rattle.crq_rule.specs.Steady.{Steady}
 use Rattle.crq_rule.specs.HistoryParts.{Carriers, Told, Walkers}
 use Rattle.crq_rule.specs.ScarceParts.{Scarce, Refusals, Swept}
@@ -22,7 +22,8 @@ pub record Inv (c : Core) : Type 0 where
   pub heads : Heads c.words.control c.shape c.words.head
   pub sorted : Sorted c.shape c.words.head c.words.link c.words.event c.chain
   pub marks : Marks c.start.layout c.words.control c.words.head c.words.link c.words.twin c.holding
-  pub standing : Standing c.start.layout.workers c.words.link c.words.event c.rows
+  pub standing : Standing c.start.layout.workers c.words.head c.words.link c.words.twin c.words.event c.rows
+  pub copying : Copying c.start.layout.workers c.words.head c.words.link c.words.twin c.words.event c.old
   pub lanes : Lanes c.start.layout c.shape (ground_of c) c.words.event
   pub writing : Writing c.start.layout.workers c.words.link c.words.twin c.words.event c.hand c.written
   pub naming : Naming c.start.layout c.words.head c.words.link c.words.event c.named c.holding

@@ -128,26 +128,61 @@ is_val Inv = false
 is_val Mov = false
 is_val Del = false
 
-abbrev pub next_stand : Link → Event → List Stand
-next_stand l e = cond (l.row == 0) [] (record { row = l.row; event = e; last = None } ∷ [])
+abbrev pub is_mov : Mark → Bool
+is_mov Val = false
+is_mov Inv = false
+is_mov Mov = true
+is_mov Del = false
 
--- the stands on the row r alone
+abbrev pub is_inv : Mark → Bool
+is_inv Val = false
+is_inv Inv = true
+is_inv Mov = false
+is_inv Del = false
+
+-- a cell with this mark may be followed by another row
+abbrev pub is_cell : Mark → Bool
+is_cell Val = true
+is_cell Inv = true
+is_cell Mov = false
+is_cell Del = false
+
+-- the frozen head of which the row that the cell's link l names is the first
+abbrev pub front_of : Cell → Link → Option ℕ
+front_of (at_head q) l = cond (is_mov l.mark) (Some q) None
+front_of (at_row r) l = None
+
+abbrev pub new_stand : Cell → Link → Event → Stand
+new_stand cell l e = record { row = l.row; event = e; last = None; twin = None; valid = false; front = front_of cell l }
+
+abbrev pub next_stand : Cell → Link → Event → List Stand
+next_stand cell l e = cond (l.row == 0) [] (new_stand cell l e ∷ [])
+
+-- the row r is the copy that was found
+abbrev pub is_twin : ℕ → Option ℕ → Bool
+is_twin r None = false
+is_twin r (Some t) = t == r
+
+-- the stands on the row r and on a row that it copies alone
 abbrev pub only_row : ℕ → List Stand → List Stand
 only_row r [] = []
-only_row r (s ∷ ss) = cond (s.row == r) (s ∷ only_row r ss) (only_row r ss)
+only_row r (s ∷ ss) = cond ((s.row == r) || is_twin r s.twin) (s ∷ only_row r ss) (only_row r ss)
 
--- the link of the row r was found to be its last one
-abbrev pub ended : ℕ → Link → List Stand → List Stand
-ended r l [] = []
-ended r l (s ∷ ss) = cond (s.row == r) (record s { last = Some l }) s ∷ ended r l ss
+-- the link of the row r was found to be l
+abbrev pub noted_stand : Link → Stand → Stand
+noted_stand l s = record s { last = cond (is_final l.mark) (Some l) s.last; valid = cond (is_inv l.mark) s.valid true }
 
--- a caller that seeks a present row leaves all others behind, and so does one that found the row present
+abbrev pub noted : ℕ → Link → List Stand → List Stand
+noted r l [] = []
+noted r l (s ∷ ss) = cond (s.row == r) (noted_stand l s) s ∷ noted r l ss
+
+-- a caller that seeks a present row leaves all others behind, and so does one that found a row that may be followed by another
 abbrev pub kept_stands : Bool → ℕ → Link → List Stand → List Stand
-kept_stands seeks r l ss = cond (seeks || is_val l.mark) (only_row r ss) ss
+kept_stands seeks r l ss = cond (seeks || is_cell l.mark) (only_row r ss) ss
 
 abbrev pub stands_after : Cell → Bool → Link → Event → List Stand → List Stand
-stands_after (at_head q) seeks l e ss = next_stand l e
-stands_after (at_row r) seeks l e ss = next_stand l e ++ cond (is_final l.mark) (ended r l (kept_stands seeks r l ss)) (kept_stands seeks r l ss)
+stands_after (at_head q) seeks l e ss = next_stand (at_head q) l e
+stands_after (at_row r) seeks l e ss = next_stand (at_row r) l e ++ noted r l (kept_stands seeks r l ss)
 
 -- a walk that was at the row r, whose link was found to be l
 abbrev pub walked : Link → Option Walk → Option Walk
@@ -157,13 +192,6 @@ walked l (Some w) = Some (cond (is_passed l.mark) (record w { at = l.row }) w)
 abbrev pub walk_after : Cell → Bool → Link → Option Walk → Option Walk
 walk_after (at_head q) seeks l w = cond (seeks && is_val l.mark) (Some (record { head = q; at = l.row })) None
 walk_after (at_row r) seeks l w = cond seeks (walked l w) None
-
--- a cell with this mark may be followed by another row
-abbrev pub is_cell : Mark → Bool
-is_cell Val = true
-is_cell Inv = true
-is_cell Mov = false
-is_cell Del = false
 
 -- the dead row d is of the cell's list, and stands after the cell, or at it
 abbrev pub is_beyond : Option Control → Cell → List Stand → CutDebt → Bool

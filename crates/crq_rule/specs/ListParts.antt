@@ -96,9 +96,20 @@ pub record Marks (l : Layout) (control : Control) (head link : ℕ → Link) (tw
 
 -- 11. Stands: what a caller knows of the rows that it stands on
 
-pub record Standing (n : ℕ) (link : ℕ → Link) (event : ℕ → Event) (rows : ℕ → List Stand) : Type 0 where
-  pub holds : (k : ℕ) (s : Stand) → k < n → In s (rows k) → event s.row ≡ s.event
-  pub last : (k : ℕ) (s : Stand) (l : Link) → k < n → In s (rows k) → s.last ≡ Some l → (link s.row ≡ l) × IsFinal l.mark
+pub record StandFits (head link : ℕ → Link) (twin : ℕ → ℕ) (event : ℕ → Event) (s : Stand) : Type 0 where
+  pub holds : event s.row ≡ s.event
+  pub last : (l : Link) → s.last ≡ Some l → (link s.row ≡ l) × IsFinal l.mark
+  pub copy : (t : ℕ) → s.twin ≡ Some t → (twin s.row ≡ t) × (0 < t)
+  pub valid : s.valid ≡ true → (link s.row).mark ≡ Invalid → ⊥
+  -- the first row of a frozen head stays so until it has its last mark
+  pub front : (q : ℕ) → s.front ≡ Some q → IsFinal (link s.row).mark ⊎ (((head q).mark ≡ Mov) × ((head q).row ≡ s.row))
+
+pub record Standing (n : ℕ) (head link : ℕ → Link) (twin : ℕ → ℕ) (event : ℕ → Event) (rows : ℕ → List Stand) : Type 0 where
+  pub each : (k : ℕ) (s : Stand) → k < n → In s (rows k) → StandFits head link twin event s
+
+-- and of the row whose copy it has yet to link, which is frozen
+pub record Copying (n : ℕ) (head link : ℕ → Link) (twin : ℕ → ℕ) (event : ℕ → Event) (old : ℕ → Option Stand) : Type 0 where
+  pub each : (k : ℕ) (s : Stand) → k < n → old k ≡ Some s → StandFits head link twin event s × ((link s.row).mark ≡ Mov)
 
 -- 12. Lanes: from a row that a guard covers links lead on to greater rows of the same list
 

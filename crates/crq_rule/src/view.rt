@@ -35,12 +35,18 @@ pub struct Deal {
     pub span: u64,
 }
 
-/// A row that a caller stands on, and the event that it holds. Where its link was found dead or frozen, that is its last
-/// one, which never changes again.
+/// A row that a caller stands on, and the event that it holds.
 pub struct Stand {
     pub row: u64,
     pub event: Event,
+    /// Its link, where that was found dead or frozen: then it is the last one, which never changes again.
     pub last: Option<Link>,
+    /// The row's copy in the next table, if it was found.
+    pub twin: Option<u64>,
+    /// Whether the row was found not to be a copy that isn't valid yet.
+    pub valid: bool,
+    /// The frozen head of which the row was found to be the first.
+    pub front: Option<u64>,
 }
 
 /// The rows of a list that a caller stands on, the one found last first, and the frozen row whose copy it hasn't linked
