@@ -50,6 +50,11 @@ IsTakingAt n table (Walking r) p = IsWalkAt p r
 IsTakingAt n table (Reading r l place read) p = IsPresent n table r l p × (2 ≤ place) × (place < 6) × ((e : Event) → StandsOn p.position.rows r e → IsRead place read e)
 IsTakingAt n table (Marking r l e) p = IsPresent n table r l p × StandsOn p.position.rows r e
 
+-- a take that walks has read the table of this control word
+abbrev pub SeesTable : TakeState → Control → Caller → Type 0
+SeesTable Load x p = Unit {0}
+SeesTable _ x p = p.sight ≡ Some (record { table = x })
+
 -- a caller that began and takes from the one list of the table that it found, and owes no dead row
 pub record IsTaking (n : ℕ) (table : Table) (x : Control) (op : TakeOp) (p : Caller) : Type 0 where
   pub counted : n ≤ length p.made
@@ -63,6 +68,7 @@ pub record IsTaking (n : ℕ) (table : Table) (x : Control) (op : TakeOp) (p : C
   pub uncut : p.cut ≡ None
   pub free : p.debts.cut ≡ None
   pub below : (r : ℕ) (l : Link) (e : Event) → op.state ≡ Marking r l e → e.time < op.limit
+  pub sees : SeesTable op.state x p
   pub at : IsTakingAt n table op.state p
 
 abbrev pub taking_exchanges : TakeState → Bool

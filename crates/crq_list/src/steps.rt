@@ -36,7 +36,7 @@ pub(crate) fn walk_step(table: &Table, pass: &mut Pass, spot: Spot, seeks: bool)
     requires of { IsPassOf table.now pass.old }
     requires on { IsOn (caller table.now pass.old).guard }
     requires may { MayWalk (caller table.now pass.old).position.rows (cell spot) }
-    requires seek { MaySeek (caller table.now pass.old).own (caller table.now pass.old).walk (cell spot) seeks }
+    requires seek { MaySeek (caller table.now pass.old).own (caller table.now pass.old).found.control (caller table.now pass.old).walk (cell spot) seeks }
     ensures { Saw table.now pass.old pass.new (cell spot) seeks result }
 {
     let word = word_of(table, spot);

@@ -95,6 +95,7 @@ module _ {table : Table} {x : Control} {pass : Pass} (of : IsPassOf table pass) 
     control = inside.control;
     one = one;
     is_head = heads.0;
+    sees = tt;
     opened = heads.1;
     control_is = refl;
     uncut = inside.uncut;

@@ -16,6 +16,7 @@ use Rattle.crq_rule.specs.Moves.{Lawful}
 use Rattle.crq_rule.specs.Opening.{IsFresh, IsOpening, no_debts}
 use Rattle.crq_rule.proofs.ScarceLaws.{none_base}
 use Rattle.crq_rule.proofs.Counting.{rows_in}
+use Rattle.crq_rule.proofs.ListOpening.{no_sight}
 use Rattle.crq_rule.proofs.Openings.{fresh_at, none_control}
 use Rattle.crq_rule.proofs.HolderLaws.{none_some}
 use Rattle.crq_rows.specs.Passes.{first_part, IsOwed, IsNew, AreNew}
@@ -42,6 +43,7 @@ fresh_lawful start n b = record {
   owed_now = λ d x is. absurd (no_debt d is);
   owed_fits = λ d is. absurd (no_debt d is);
   scarce = λ b vain. absurd (none_base b vain.0);
+  sighted = λ s is. absurd (no_sight s is);
   controlled = λ x is. absurd (none_control x is);
 }
 

@@ -1,5 +1,5 @@
 -- A take that begins, and one that finds nothing, keep the invariant.
-use Rattle.std.proofs.Common.{◌≡◌, ◌≢◌, ◌⊎◌, ⊎_elim, ℕ, ◌<◌, ◌≤◌, List, [], ◌∷◌, ◌++◌, length, Option, Some, None, sym, refl, ap, ◌∙◌, subst, arith}
+use Rattle.std.proofs.Common.{◌≡◌, ◌≢◌, ⊎_elim, false, ℕ, ◌<◌, ◌≤◌, List, [], ◌∷◌, ◌++◌, length, Option, Some, None, sym, refl, ap, ◌∙◌, subst, arith}
 use Rattle.std.specs.List.{Contains}
 use Rattle.crq_base.specs.declared.event.Event.{Event}
 use Rattle.crq_base.specs.declared.entry.Entry.{Entry}
@@ -13,26 +13,24 @@ use Rattle.crq_base.specs.Lists.{In}
 use Rattle.crq_rule.specs.declared.layout.Layout.{Layout}
 use Rattle.crq_rule.specs.declared.layout.Start.{Start}
 use Rattle.crq_rule.specs.declared.view.Found.{Found}
-use Rattle.crq_rule.specs.declared.view.Stand.{Stand}
-use Rattle.crq_rule.specs.declared.view.Walk.{Walk}
+use Rattle.crq_rule.specs.declared.view.Sight.{Sight}
 use Rattle.crq_rule.specs.Lists.{put}
-use Rattle.crq_rule.specs.Places.{IsHead}
 use Rattle.crq_rule.specs.Core.{Core, Holding, caller_of}
-use Rattle.crq_rule.specs.Parts.{Finds, Fits, NotAfter, rows_of}
-use Rattle.crq_rule.specs.HistoryParts.{Carriers, Walkers, StandsFrom}
-use Rattle.crq_rule.specs.Ranks.{Shape, head_of, IsOpen}
+use Rattle.crq_rule.specs.Parts.{Finds, Fits, NotAfter}
+use Rattle.crq_rule.specs.HistoryParts.{Carriers}
+use Rattle.crq_rule.specs.Ranks.{Shape}
 use Rattle.crq_rule.specs.Invariant.{Inv}
 use Rattle.crq_rule.specs.ListKinds.{StandsOn, MayMiss, begun_by, control_loaded, missed}
-use Rattle.crq_rule.proofs.Puts.{put_else, put_all}
-use Rattle.crq_rule.proofs.HistoryLaws.{told_other, told_begin, pending_same, out_later, front_of}
+use Rattle.crq_rule.proofs.Puts.{put_all}
+use Rattle.crq_rule.proofs.HistoryLaws.{told_other, told_begin, settling_more, pending_same}
+use Rattle.crq_rule.proofs.WalkerLaws.{walkers_grown, walkers_rest, walkers_begin}
 use Rattle.crq_rule.proofs.Pendings.{counted_grown, none_counted}
 use Rattle.crq_rule.proofs.ScarceLaws.{base_grown, scarce_drop, scarce_grown, refusals_grown, refusals_put}
 use Rattle.crq_rule.proofs.SweepLaws.{swept_grown, swept_begun}
-use Rattle.crq_rule.proofs.SteadyLaws.{steady_one}
 use Rattle.crq_rule.proofs.SearchLaws.{left_beyond, beyond_time}
 
-none_walk : (w : Walk) → None ≡ Some w → ⊥
-none_walk w e = cc
+none_sight : (s : Sight) → None ≡ Some s → ⊥
+none_sight s e = cc
 
 miss_begin : (j limit k : ℕ) → Miss j limit ≡ Begin k → ⊥
 miss_begin j limit k e = cc
@@ -48,12 +46,13 @@ some_control : (x y : Control) → Some x ≡ Some y → x ≡ y
 some_control x y e = cc
 
 -- the caller j found the control word
-pub finds_control : (start : Start) (control : Control) (shape : ℕ → Shape) (current : Current) (found : ℕ → Found) (j : ℕ) → Fits start control shape control
-    → Finds start control shape current found → Finds start control shape current (put found j (record (found j) { control = Some control }))
-finds_control start control shape current found j now old = record {
+pub finds_control : (start : Start) (control : Control) (shape : ℕ → Shape) (current : Current) (found : ℕ → Found) (sight : ℕ → Option Sight) (j : ℕ) → Fits start control shape control
+    → Finds start control shape current found sight → Finds start control shape current (put found j (record (found j) { control = Some control })) sight
+finds_control start control shape current found sight j now old = record {
   controls = λ k x. put_all found j (record (found j) { control = Some control }) (λ k f. k < start.layout.workers → f.control ≡ Some x → Fits start control shape x)
       (λ _ e. subst (Fits start control shape) (some_control control x e) now) (λ k _. old.controls k x) k;
   currents = λ k x. put_all found j (record (found j) { control = Some control }) (λ k f. k < start.layout.workers → f.current ≡ Some x → NotAfter x current) (old.currents j x) (λ k _. old.currents k x) k;
+  sights = old.sights;
 }
 
 -- an entry that is neither a put nor a take
@@ -65,27 +64,12 @@ carriers_same l history x link twin event holding none kept old = record {
   one = old.one;
 }
 
--- the caller j adds an entry and gives up its walk, and each row that carries an event carries it still, unless that is out now
-pub walkers_entry : (l : Layout) (control : Control) (history : List Entry) (begun begun' : ℕ → ℕ) (link link' : ℕ → Link) (twin : ℕ → ℕ) (event : ℕ → Event) (holding : ℕ → Holding) (rows : ℕ → List Stand)
-    (walk : ℕ → Option Walk) (j : ℕ) (x : Entry) → ((k : ℕ) → k < l.workers → begun k ≤ length history) → ((k : ℕ) → k ≢ j → begun' k ≡ begun k)
-    → ((at : ℕ) (e : Event) → (Contains (outs (history ++ x ∷ [])) e → ⊥) → StandsFrom l link twin event holding at e → StandsFrom l link' twin event holding at e)
-    → Walkers l control history begun link twin event holding rows walk → Walkers l control (history ++ x ∷ []) begun' link' twin event holding rows (put walk j None)
-walkers_entry l control history begun begun' link link' twin event holding rows walk j x low others stays old = record {
-  opened = λ k w. put_all walk j None (λ k o. k < l.workers → o ≡ Some w → IsHead w.head × IsOpen control w.head) (λ _ e. absurd (none_walk w e)) (λ k _. old.opened k w) k;
-  at_stand = λ k w. put_all walk j None (λ k o. k < l.workers → o ≡ Some w → (w.at ≡ 0) ⊎ In w.at (rows_of (rows k))) (λ _ e. absurd (none_walk w e)) (λ k _. old.at_stand k w) k;
-  left = λ k w front back e. put_all walk j None
-      (λ k o. k < l.workers → o ≡ Some w → history ++ x ∷ [] ≡ front ++ back → length front ≡ begun' k → head_of control e ≡ w.head → Contains (puts front) e → (Contains (outs (history ++ x ∷ [])) e → ⊥) → StandsFrom l link' twin event holding w.at e)
-      (λ _ q. absurd (none_walk w q))
-      (λ k ne b is parts long head settled kept. let long' : length front ≡ begun k = long ∙ others k ne in let r = front_of history (x ∷ []) front back (begun k) parts long' (low k b) in
-      stays w.at e kept (old.left k w front r.0 e b is r.1 long' head settled (λ o. kept (out_later history x e o)))) k;
-}
-
 -- the control word was loaded
 pub control_keeps : (c : Core) (j : ℕ) → j < c.start.layout.workers → Inv c → Inv (control_loaded c j)
 control_keeps c j b inv = record {
   spelled = inv.spelled;
   reading = inv.reading;
-  finds = finds_control _ _ _ _ _ j inv.sizes.now inv.finds;
+  finds = finds_control _ _ _ _ _ _ j inv.sizes.now inv.finds;
   guards = inv.guards;
   holders = inv.holders;
   cutting = inv.cutting;
@@ -105,17 +89,30 @@ control_keeps c j b inv = record {
   naming = inv.naming;
   carriers = inv.carriers;
   told = inv.told;
+  settling = inv.settling;
   walkers = inv.walkers;
   scarce = inv.scarce;
   refusals = inv.refusals;
   swept = inv.swept;
 }
 
+-- a caller that begins anew has read no table
+finds_begun : (start : Start) (control : Control) (shape : ℕ → Shape) (current : Current) (found : ℕ → Found) (sight : ℕ → Option Sight) (j : ℕ)
+    → Finds start control shape current found sight → Finds start control shape current found (put sight j None)
+finds_begun start control shape current found sight j old = record {
+  controls = old.controls;
+  currents = old.currents;
+  sights = λ k s. put_all sight j None (λ k o. k < start.layout.workers → o ≡ Some s → Fits start control shape s.table × (s.table.moving ≡ false)) (λ _ e. absurd (none_sight s e)) (λ k _. old.sights k s) k;
+}
+
+nothing : {e : Event} → Contains [] e → ⊥
+nothing h = let k = h.1 in absurd (omega arith)
+
 pub begin_keeps : (c : Core) (j : ℕ) → j < c.start.layout.workers → Inv c → Inv (begun_by c j)
 begin_keeps c j b inv = record {
   spelled = inv.spelled;
   reading = inv.reading;
-  finds = finds_control _ _ _ _ _ j inv.sizes.now inv.finds;
+  finds = finds_begun _ _ _ _ _ _ j (finds_control _ _ _ _ _ _ j inv.sizes.now inv.finds);
   guards = inv.guards;
   holders = inv.holders;
   cutting = inv.cutting;
@@ -135,7 +132,8 @@ begin_keeps c j b inv = record {
   naming = inv.naming;
   carriers = carriers_same _ _ (Begin j) _ _ _ _ refl refl inv.carriers;
   told = told_begin _ _ _ _ _ j b inv.told;
-  walkers = walkers_entry _ _ _ _ _ _ _ _ _ _ _ _ j (Begin j) inv.told.begun_low (put_else c.begun j (length c.history)) (λ _ _ _ s. s) inv.walkers;
+  settling = settling_more _ _ _ (Begin j ∷ []) (λ _ n. absurd (nothing n)) (λ _ _ _ _ n. nothing n) inv.settling;
+  walkers = walkers_begin _ _ _ _ _ _ j (length c.history) (walkers_grown _ _ _ _ _ _ (Begin j ∷ []) inv.walkers);
   scarce = scarce_drop _ _ _ _ _ _ _ _ j (λ k x _ ne. base_grown _ _ _ _ _ _ k x (other_begin j k ne)) inv.scarce;
   refusals = refusals_put _ _ _ _ j [] (λ _. none_counted (c.history ++ Begin j ∷ []) j) (λ k ne. counted_grown _ _ k (c.refused k) (other_begin j k ne)) inv.refusals;
   swept = swept_begun _ _ _ _ _ _ j (λ k ne. other_begin j k ne) inv.swept;
@@ -146,7 +144,7 @@ miss_legal : (c : Core) (j limit : ℕ) → j < c.start.layout.workers → ((x :
 miss_legal c j limit b may inv = let from = inv.told.began j b may.1.began in let front = from.0 in let w = may.1.walks.0 in (
   front,
   from.2,
-  λ f settled less. ⊎_elim (λ o. o) (λ kept. let beyond = left_beyond c inv j w front (Begin j ∷ from.2.back) f b may.1.walks.1 (steady_one c inv) from.2.parts from.1 settled kept in ⊎_elim
+  λ f settled less. ⊎_elim (λ o. o) (λ kept. let beyond = left_beyond c inv j w may.0 front (Begin j ∷ from.2.back) f b may.1.walks.1 may.1.sight may.1.one_list from.2.parts from.1 settled kept in ⊎_elim
       (λ (none : w.at ≡ 0). let some = beyond.some_row in absurd (omega arith))
       (λ (h : (e : Event) × StandsOn (c.rows j) w.at e × (limit ≤ e.time)). let e = h.0 in let s = h.1.0 in
       let holds : c.words.event w.at ≡ e = ap c.words.event (sym h.1.2) ∙ ((inv.standing.each j s b h.1.1).holds ∙ h.1.3) in
@@ -158,7 +156,7 @@ pub miss_keeps : (c : Core) (j limit : ℕ) → j < c.start.layout.workers → (
 miss_keeps c j limit b may inv = record {
   spelled = inv.spelled;
   reading = inv.reading;
-  finds = finds_control _ _ _ _ _ j inv.sizes.now inv.finds;
+  finds = finds_control _ _ _ _ _ _ j inv.sizes.now inv.finds;
   guards = inv.guards;
   holders = inv.holders;
   cutting = inv.cutting;
@@ -178,7 +176,8 @@ miss_keeps c j limit b may inv = record {
   naming = inv.naming;
   carriers = carriers_same _ _ (Miss j limit) _ _ _ _ refl refl inv.carriers;
   told = told_other _ _ _ _ _ j (Miss j limit) b (miss_legal c j limit b may inv) refl refl (miss_begin j limit) inv.told;
-  walkers = walkers_entry _ _ _ _ c.begun _ _ _ _ _ _ _ j (Miss j limit) inv.told.begun_low (λ _ _. refl) (λ _ _ _ s. s) inv.walkers;
+  settling = settling_more _ _ _ (Miss j limit ∷ []) (λ _ n. absurd (nothing n)) (λ _ _ _ _ n. nothing n) inv.settling;
+  walkers = walkers_rest _ _ _ _ _ _ j (walkers_grown _ _ _ _ _ _ (Miss j limit ∷ []) inv.walkers);
   scarce = scarce_grown _ _ _ _ _ _ _ (λ k. no_begin j limit k) inv.scarce;
   refusals = refusals_grown _ _ _ _ (λ k. no_begin j limit k) inv.refusals;
   swept = swept_grown _ _ _ _ _ _ _ (λ k. no_begin j limit k) inv.swept;

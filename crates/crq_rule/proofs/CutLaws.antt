@@ -5,7 +5,7 @@ use native.Mathlib.Decide.{ℕ_discrete}
 use Rattle.crq_base.specs.declared.event.Event.{Event}
 use Rattle.crq_base.specs.declared.words.Link.{Link}
 use Rattle.crq_base.specs.declared.words.Mark.{Mark}
-use Rattle.crq_base.specs.declared.words.Mark.TheVariants.{Mov, Del}
+use Rattle.crq_base.specs.declared.words.Mark.TheVariants.{Mov, Del, Val}
 use Rattle.crq_base.specs.Words.{IsLink}
 use Rattle.crq_base.specs.Lists.{In}
 use Rattle.crq_rule.specs.declared.debts.CutDebt.{CutDebt}
@@ -14,7 +14,6 @@ use Rattle.crq_rule.specs.declared.view.Guard.{Guard}
 use Rattle.crq_rule.specs.declared.view.Guard.TheVariants.{On}
 use Rattle.crq_rule.specs.declared.view.CutRow.{CutRow}
 use Rattle.crq_rule.specs.declared.view.Stand.{Stand}
-use Rattle.crq_rule.specs.declared.view.Walk.{Walk}
 use Rattle.crq_rule.specs.Lists.{put}
 use Rattle.crq_rule.specs.Places.{IsRow, IsHead}
 use Rattle.crq_rule.specs.Core.{Core, IsOutside, DeadNames, HasName, Holding, in_hand, listed, cut_by, retired, caller_of}
@@ -22,14 +21,15 @@ use Rattle.crq_rule.specs.Parts.{Spelled, Holders, Stamps, stamp_of, Chains, Lea
 use Rattle.crq_rule.specs.ListParts.{Heads, Sorted, Marks, MarkFits, StandFits, Standing, Copying, IsFinal, Lanes, Writing, row_word, Naming, IsNamed, ranks}
 use Rattle.crq_rule.specs.HistoryParts.{Carriers, IsLive, Walkers, StandsFrom, IsCarrying}
 use Rattle.crq_rule.specs.ScarceParts.{IsLate}
-use Rattle.crq_rule.specs.Invariant.{Inv}
-use Rattle.crq_rule.specs.Ranks.{list_in, IsOpen, Rises, Cell, at_head, at_row, link_at, heads_set, links_set, without_row}
+use Rattle.crq_rule.specs.Invariant.{takes_of, Inv}
+use Rattle.crq_rule.specs.Ranks.{list_in, Rises, Cell, at_head, at_row, link_at, heads_set, links_set, without_row}
 use Rattle.crq_rule.specs.ListKinds.{cut_from, without_stand, unnamed, StandsOn, MayWalk, MayCut}
 use Rattle.crq_rule.proofs.Puts.{put_here, put_else, put_all}
 use Rattle.crq_rule.proofs.PartLaws.{sort, of_whom, read_cut, cutting_cut}
 use Rattle.crq_rule.proofs.HolderLaws.{none_some, some_some}
 use Rattle.crq_rule.specs.ListKinds.{is_cell}
-use Rattle.crq_rule.proofs.HeadLaws.{cell_final, cell_frozen, cell_listed, dead_carries, heads_rows}
+use Rattle.crq_rule.proofs.HeadLaws.{dead_kept, cell_final, cell_frozen, cell_listed, dead_carries, heads_rows}
+use Rattle.crq_rule.proofs.WalkerLaws.{walkers_stop, walkers_links}
 use Rattle.crq_rule.proofs.SizeLaws.{sizes_rows, dues_named}
 use Rattle.crq_rule.proofs.SteadyLaws.{steady_rows, steady_names, guarded_out, outside_twin}
 use Rattle.crq_rule.proofs.CoverLaws.{guarded_by, stand_row, row_footing, footing_covered}
@@ -70,9 +70,6 @@ debt_left x (Some y) d is = dite (ℕ_discrete y.row x)
   where
     no_debt : (d : CutDebt) → None ≡ Some d → ⊥
     no_debt d e = cc
-
-no_walk : (w : Walk) → None ≡ Some w → ⊥
-no_walk w e = cc
 
 -- The cell's link changes in its row alone
 
@@ -416,25 +413,18 @@ module _ (c : Core) (j : ℕ) (cell : Cell) (x : ℕ) (l : Link) (b : j < c.star
     one = λ r s v w. inv.carriers.one r s (live_before r v) (live_before s w);
   }
 
-  from_before : (at : ℕ) (e : Event) → StandsFrom c.start.layout c.words.link c.words.twin c.words.event c.holding at e → StandsFrom c.start.layout links c.words.twin c.words.event holding at e
-  from_before at e s = record {
+  from_before : (g at : ℕ) (e : Event) → StandsFrom c.words.link c.words.event g at e → StandsFrom links c.words.event g at e
+  from_before g at e s = record {
     row = s.row;
     some_row = s.some_row;
-    live = live_now s.row s.live;
+    kept = subst (λ (m : Mark). (m ≡ Val) ⊎ (m ≡ Mov)) (sym (same_mark s.row)) s.kept;
+    of = link_generation c.words.head c.words.link l.row cell s.row ∙ s.of;
     holds = s.holds;
-    reached = path_pass c.words.link links c.words.twin x passes lone at s.row s.reached.through (not_x s.row s.live) s.reached.path;
+    follows = path_pass c.words.link links (λ _. 0) x passes refl at s.row s.follows.through (λ z. dead_kept (c.words.link s.row).mark (ap (λ z. (c.words.link z).mark) z ∙ dead) s.kept) s.follows.path;
   }
 
-  walkers_part : Walkers c.start.layout c.words.control c.history c.begun links c.words.twin c.words.event holding (put c.rows j now_rows) (put c.walk j None)
-  walkers_part = record {
-    opened = λ k w. put_all c.walk j None (λ i o. i < n → o ≡ Some w → IsHead w.head × IsOpen c.words.control w.head) (λ _ e. absurd (no_walk w e)) (λ i _. inv.walkers.opened i w) k;
-    at_stand = λ k w. put_all c.walk j None (λ i o. i < n → o ≡ Some w → (w.at ≡ 0) ⊎ In w.at (rows_of (put c.rows j now_rows i))) (λ _ e. absurd (no_walk w e))
-        (λ i ne a e. subst (λ ss. (w.at ≡ 0) ⊎ In w.at (rows_of ss)) (sym (put_else c.rows j now_rows i ne)) (inv.walkers.at_stand i w a e)) k;
-    left = λ k w front back e a is split long of_head was_put not_out. from_before w.at e (inv.walkers.left k w front back e a (walk_before k w is) split long of_head was_put not_out);
-  }
-    where
-      walk_before : (k : ℕ) (w : Walk) → put c.walk j None k ≡ Some w → c.walk k ≡ Some w
-      walk_before k w = put_all c.walk j None (λ i o. o ≡ Some w → c.walk i ≡ Some w) (λ e. absurd (no_walk w e)) (λ _ _ e. e) k
+  walkers_part : Walkers n c.history c.settling (record (takes_of c) { walk = put c.walk j None; rows = put c.rows j now_rows }) links c.words.event
+  walkers_part = walkers_stop _ _ _ _ _ _ j now_rows (walkers_links _ _ _ _ _ _ links c.words.event (λ _ r _ _. link_generation c.words.head c.words.link l.row cell r) (λ _ g at e _ _ _. from_before g at e) inv.walkers)
 
   low : l.row < 2 ^ 24
   low = subst (λ (z : Link). z.row < 2 ^ 24) at_x (inv.spelled.links x row_x).row
@@ -463,7 +453,7 @@ module _ (c : Core) (j : ℕ) (cell : Cell) (x : ℕ) (l : Link) (b : j < c.star
     cover = cover_part;
     sizes = sizes_rows _ _ _ _ _ _ _ _ _ (λ h _. head_generation c.words.head c.words.link l.row cell h) (λ r _ out. inl (was_outside r out, link_generation c.words.head c.words.link l.row cell r)) inv.sizes;
     dues = dues_named _ _ _ _ _ _ _ (λ k d _ has. inl (names_before k d has)) inv.dues;
-    steady = steady_names _ _ _ _ _ _ (λ k d _ has. inl (names_before k d has)) (steady_rows _ _ _ _ _ _ _ (λ r _ out. inl (was_outside r out, link_generation c.words.head c.words.link l.row cell r, inl (same_mark r))) inv.steady);
+    steady = steady_names _ _ _ _ _ _ _ (λ k d _ has. inl (names_before k d has)) (steady_rows _ _ _ _ _ _ _ _ (λ r _ out. inl (was_outside r out, link_generation c.words.head c.words.link l.row cell r, inl (same_mark r))) inv.steady);
     heads = heads_part;
     sorted = sorted_part;
     marks = marks_part;
@@ -474,6 +464,7 @@ module _ (c : Core) (j : ℕ) (cell : Cell) (x : ℕ) (l : Link) (b : j < c.star
     naming = naming_part;
     carriers = carriers_part;
     told = inv.told;
+    settling = inv.settling;
     walkers = walkers_part;
     scarce = scarce_lasts _ _ _ _ _ _ _ _ _ (le_refl _) (λ k inside. lasts_held _ _ _ _ x (cut_by j) k (λ g _ _. subst (IsLate c.guard g) (sym was) tt)
         (λ g _ low _. inr (since_low c.words.epoch (c.words.announced j) g (c.guard j) (inv.guards.each j b) (omega arith)))) inv.scarce;

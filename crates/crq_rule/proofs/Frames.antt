@@ -14,7 +14,7 @@ use Rattle.crq_rule.specs.ListParts.{Sizes, Marks, Standing, Copying, Lanes, Wri
 use Rattle.crq_rule.specs.Steady.{Steady}
 use Rattle.crq_rule.specs.HistoryParts.{Carriers, Walkers}
 use Rattle.crq_rule.specs.ScarceParts.{Scarce, Refusals}
-use Rattle.crq_rule.specs.Invariant.{Inv}
+use Rattle.crq_rule.specs.Invariant.{takes_of, Inv}
 use Rattle.crq_rule.specs.Kinds.{after_made}
 
 -- the epoch word, announcements, guards, ticks, epochs read, tags, bases, positions and walks
@@ -28,7 +28,7 @@ pub frame_guards : (c : Core) (e : ℕ) (announced : ℕ → ℕ) (epochs : ℕ 
     → Standing c.start.layout.workers c.words.head c.words.link c.words.twin c.words.event rows
     → Copying c.start.layout.workers c.words.head c.words.link c.words.twin c.words.event old
     → Lanes c.start.layout c.shape (record (ground_of c) { guard = guard; footing = footings rows old c.copying }) c.words.event
-    → Walkers c.start.layout c.words.control c.history c.begun c.words.link c.words.twin c.words.event c.holding rows walk
+    → Walkers c.start.layout.workers c.history c.settling (record (takes_of c) { walk = walk; rows = rows }) c.words.link c.words.event
     → Scarce c.start.layout e c.history base guard c.holding
     → Inv (record c { words = record c.words { epoch = e; announced = announced }; epochs = epochs; guard = guard; tick = tick; cut = cut; base = base; rows = rows; old = old; walk = walk })
 frame_guards c e announced epochs guard tick cut base rows old walk inv reading guards holders cutting stamps cover standing copying lanes walkers scarce = record {
@@ -54,6 +54,7 @@ frame_guards c e announced epochs guard tick cut base rows old walk inv reading 
   naming = inv.naming;
   carriers = inv.carriers;
   told = inv.told;
+  settling = inv.settling;
   walkers = walkers;
   scarce = scarce;
   refusals = inv.refusals;
@@ -68,16 +69,15 @@ pub frame_rows : (c : Core) (stamp : ℕ → ℕ) (hand : ℕ → List ℕ) (rip
     → Stamps c.start.layout c.words.epoch stamp ripening holding
     → Cover (ground_of c) cut holding
     → Sizes c.start c.words.control c.shape c.words.head c.words.link holding
-    → Steady c.start c.words.control c.words.link holding c.named
+    → Steady c.start c.words.control c.words.link holding c.named c.settling
     → Marks c.start.layout c.words.control c.words.head c.words.link c.words.twin holding
     → Writing c.start.layout.workers c.words.link c.words.twin c.words.event hand c.written
     → Naming c.start.layout c.words.head c.words.link c.words.event c.named holding
     → Carriers c.start.layout c.history c.words.link c.words.twin c.words.event holding
-    → Walkers c.start.layout c.words.control c.history c.begun c.words.link c.words.twin c.words.event holding c.rows c.walk
     → Scarce c.start.layout c.words.epoch c.history base c.guard holding
     → Refusals c.start.layout.workers c.history refused
     → Inv (record c { words = record c.words { stamp = stamp }; hand = hand; ripening = ripening; cut = cut; base = base; refused = refused; holding = holding })
-frame_rows c stamp hand ripening cut base refused holding inv reading holders cutting stamps cover sizes steady marks writing naming carriers walkers scarce refusals = record {
+frame_rows c stamp hand ripening cut base refused holding inv reading holders cutting stamps cover sizes steady marks writing naming carriers scarce refusals = record {
   spelled = inv.spelled;
   reading = reading;
   finds = inv.finds;
@@ -100,7 +100,8 @@ frame_rows c stamp hand ripening cut base refused holding inv reading holders cu
   naming = naming;
   carriers = carriers;
   told = inv.told;
-  walkers = walkers;
+  settling = inv.settling;
+  walkers = inv.walkers;
   scarce = scarce;
   refusals = refusals;
   swept = inv.swept;
@@ -131,6 +132,7 @@ frame_made c j m inv = record {
   naming = inv.naming;
   carriers = inv.carriers;
   told = inv.told;
+  settling = inv.settling;
   walkers = inv.walkers;
   scarce = inv.scarce;
   refusals = inv.refusals;

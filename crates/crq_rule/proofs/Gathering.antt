@@ -19,6 +19,7 @@ use Rattle.crq_rule.specs.Core.{Core, caller_of}
 use Rattle.crq_rule.specs.HistoryParts.{Told}
 use Rattle.crq_rule.specs.Invariant.{Inv}
 use Rattle.crq_rule.specs.Rule.{IsWords, Carries, Stands}
+use Rattle.crq_rule.proofs.SteadyLaws.{all_settled}
 use Rattle.crq_rule.specs.Deals.{HasAll, settled_part, dealt_again, Gathered, spanned_part, spans, IsSilent}
 
 -- A new deal of the core state, which no part of the invariant but the history reads
@@ -50,6 +51,7 @@ redealt_keeps c deal own told inv = record {
   naming = inv.naming;
   carriers = inv.carriers;
   told = told;
+  settling = inv.settling;
   walkers = inv.walkers;
   scarce = inv.scarce;
   refusals = inv.refusals;
@@ -72,7 +74,6 @@ module _ (n : ℕ) (history : List Entry) (deal : Deal) (own : ℕ → List Entr
     each = λ j b. refl;
     inside = λ e i. absurd i;
     sourced = λ j e i. absurd i;
-    settled = told.settled;
     begun_low = told.begun_low;
     began = λ j b ends. absurd (no_begin ends.0 ends.1 ends.2);
   }
@@ -87,7 +88,6 @@ module _ (n : ℕ) (history : List Entry) (deal : Deal) (own : ℕ → List Entr
     each = told.each;
     inside = told.inside;
     sourced = λ j e i. absurd (subst (In (Put j e)) none i);
-    settled = told.settled;
     begun_low = told.begun_low;
     began = told.began;
   }
@@ -144,7 +144,7 @@ gathers key slots id me all s h _ at _ = let c = h.core in let told = h.kept.tol
       since = told.since;
       is = refl;
       legal = told.legal;
-      settled = told.settled;
+      settled = all_settled c h.kept;
       each = λ k p f. let old = h.views id k me.0 p at f in (told.extends ∙ ap (λ (p : Caller). p.deal.history ++ told.since) (sym old.is), told.each p.number old.inside ∙ ap (λ (p : Caller). p.own) (sym old.is));
       counted = λ k p f. let old = h.views id k me.0 p at f in subst (AreCounted c.history p.number) (ap (λ (p : Caller). p.refused) (sym old.is)) (h.kept.refusals.each p.number old.inside);
       inside = λ k p e f i. let old = h.views id k me.0 p at f in subst (λ (p : Caller). whose e < p.start.layout.workers) (sym old.is) (told.inside e i);

@@ -17,7 +17,8 @@ use Rattle.crq_rule.proofs.Puts.{put_here, put_else}
 use Rattle.crq_rule.proofs.PartLaws.{read_epoch, read_tick, read_cut, read_risen, tagged_some, guard_set, tick_set, guards_risen, found_at, announced_low, cutting_guard, cutting_cut, stamps_risen}
 use Rattle.crq_rule.proofs.HolderLaws.{holders_tagged, none_some}
 use Rattle.crq_rule.proofs.CoverLaws.{nowhere_now, less_nowhere, cover_guard, cover_less, cover_tagged}
-use Rattle.crq_rule.proofs.StandLaws.{lanes_guard, lanes_less, standing_nowhere, copying_nowhere, walkers_none}
+use Rattle.crq_rule.proofs.StandLaws.{lanes_guard, lanes_less, standing_nowhere, copying_nowhere}
+use Rattle.crq_rule.proofs.WalkerLaws.{walkers_stop}
 use Rattle.crq_rule.proofs.ScarceLaws.{some_base, scarce_put, scarce_lasts, lasts_guard, base_begun}
 use Rattle.crq_rule.proofs.Frames.{frame_guards}
 
@@ -100,7 +101,7 @@ leave_keeps c j b uncut none inv = frame_guards c _ _ _ _ _ _ _ _ _ _ inv inv.re
     (standing_nowhere _ _ _ _ _ _ j inv.standing)
     (copying_nowhere _ _ _ _ _ _ j inv.copying)
     (lanes_guard _ _ _ _ j Off (λ _. nowhere_now c.rows c.old c.copying j none) (lanes_less _ _ _ _ _ less inv.lanes))
-    (walkers_none _ _ _ _ _ _ _ _ _ _ j [] inv.walkers)
+    (walkers_stop _ _ _ _ _ _ j [] inv.walkers)
     (scarce_lasts _ _ _ _ _ _ _ _ _ (le_refl _) (λ k inside. lasts_guard _ _ _ _ j Off k inside
     (λ r g row held _. absurd (let o = inv.holders.of_cut j r row held in none_some o.1.0 (sym uncut ∙ o.1.1))) (λ _ _ _. tt)) inv.scarce)
   where

@@ -1,5 +1,5 @@
 -- How the parts on heads and marks stay, and what marks say.
-use Rattle.std.proofs.Common.{◌≡◌, ⊎_elim, inl, inr, ℕ, ◌+◌, true, refl, sym, ap, ◌∙◌, subst}
+use Rattle.std.proofs.Common.{◌≡◌, ⊎_elim, inl, inr, ℕ, ◌+◌, true, refl, sym, ap, ◌∙◌, subst, ◌⊎◌}
 use Rattle.std.proofs.lemmas.Bool.{false≢true}
 use Rattle.crq_base.specs.declared.words.Link.{Link}
 use Rattle.crq_base.specs.declared.words.Mark.{Mark}
@@ -34,18 +34,31 @@ cell_listed (retired t) m cell out fits = absurd (cell_final m cell fits)
 
 -- Carriers
 
+val_del : Val ≡ Del → ⊥
+val_del e = cc
+
+mov_del : Mov ≡ Del → ⊥
+mov_del e = cc
+
 pub val_carries : (m : Mark) (t : ℕ) (k : Mark) → m ≡ Val → IsCarrying m t k
 val_carries m t k val = subst (λ m. IsCarrying m t k) (sym val) tt
 
 pub dead_carries : (m : Mark) (t : ℕ) (k : Mark) → m ≡ Del → IsCarrying m t k → ⊥
 dead_carries m t k dead is = subst (λ m. IsCarrying m t k) dead is
 
--- what a take goes past carries nothing
-pub passed_carries : (m : Mark) (t : ℕ) (k : Mark) → is_passed m ≡ true → IsCarrying m t k → ⊥
-passed_carries Val t k passed is = false≢true passed
-passed_carries Invalid t k passed is = is
-passed_carries Mov t k passed is = false≢true passed
-passed_carries Del t k passed is = is
+-- what carries an event is present or frozen
+pub carries_kept : (m : Mark) (t : ℕ) (k : Mark) → IsCarrying m t k → (m ≡ Val) ⊎ (m ≡ Mov)
+carries_kept Val t k is = inl refl
+carries_kept Invalid t k is = absurd is
+carries_kept Mov t k is = inr refl
+carries_kept Del t k is = absurd is
+
+pub dead_kept : (m : Mark) → m ≡ Del → (m ≡ Val) ⊎ (m ≡ Mov) → ⊥
+dead_kept m dead kept = ⊎_elim (λ v. val_del (sym v ∙ dead)) (λ v. mov_del (sym v ∙ dead)) kept
+
+-- what a take goes past isn't
+pub passed_kept : (m : Mark) → is_passed m ≡ true → (m ≡ Val) ⊎ (m ≡ Mov) → ⊥
+passed_kept m passed kept = ⊎_elim (λ v. false≢true (sym (ap is_passed v) ∙ passed)) (λ v. false≢true (sym (ap is_passed v) ∙ passed)) kept
 
 -- the twin's mark matters only where it isn't valid
 pub carries_on : (m : Mark) (t : ℕ) (k k' : Mark) → (k ≡ Invalid → k' ≡ Invalid) → IsCarrying m t k → IsCarrying m t k'

@@ -1,24 +1,26 @@
 -- How the part on the history stays where one caller adds entries, and what is pending after them.
-use Rattle.std.proofs.Common.{◌≡◌, ◌≢◌, ◌⊎◌, ◌↔◌, ⊎_elim, inl, inr, ℕ, ◌<◌, ◌≤◌, Bool, true, false, Some, cond, eqb, List, [], ◌∷◌, ◌++◌, length, sym, refl, ap, ◌∙◌, subst, append_assoc, append-nil, eq-eqb, ne_eqb, arith, le_refl}
+use Rattle.std.proofs.Common.{◌≡◌, ◌≢◌, ◌⊎◌, ◌↔◌, ⊎_elim, inl, inr, ℕ, ◌<◌, ◌≤◌, Bool, true, false, Option, Some, cond, eqb, List, [], ◌∷◌, ◌++◌, length, sym, refl, ap, ◌∙◌, subst, append_assoc, append-nil, eq-eqb, ne_eqb, arith, le_refl}
 use mathlib.Core.Logic.{dite}
 use native.Mathlib.Decide.{ℕ_discrete}
 use Rattle.std.proofs.lemmas.List.{length-append}
 use Rattle.std.proofs.Math.Seq.{get_or-append_seam}
 use Rattle.std.specs.List.{Contains}
-use Rattle.std.proofs.lemmas.List.Elements.{Contains-append_left, Contains-append_right, Contains-append_cases, Contains-push}
+use Rattle.std.proofs.lemmas.List.Elements.{Contains-append_left, Contains-append_cases, Contains-push}
 use Rattle.crq_base.specs.declared.event.Event.{Event}
 use Rattle.crq_base.specs.declared.entry.Entry.{Entry}
 use Rattle.crq_base.specs.declared.entry.Entry.TheVariants.{Begin, Put, Settled, Take, Miss, Table}
 use Rattle.crq_base.specs.Entries.{caller_of as whose}
-use Rattle.crq_base.specs.Histories.{put_of, puts, settleds, outs, own as own_of, IsPending, Began, MayFollow, IsLegalAfter, IsLegal}
+use Rattle.crq_base.specs.Histories.{put_of, settled_of, puts, settleds, outs, own as own_of, IsPending, Began, MayFollow, IsLegalAfter, IsLegal}
 use Rattle.crq_base.proofs.HistoryLaws.{puts-append, settleds-append, outs-append, own-append, legal_append, last_one, began_now}
 use Rattle.crq_base.proofs.Deeds.{alone, done_at}
 use Rattle.crq_base.specs.Lists.{In}
 use Rattle.crq_base.specs.Sources.{owner_of, IsFresh}
 use Rattle.crq_rule.specs.declared.view.Deal.{Deal}
 use Rattle.crq_rule.specs.Lists.{put}
-use Rattle.crq_rule.specs.HistoryParts.{Told, EndsInBegin}
+use Rattle.crq_rule.specs.HistoryParts.{Told, Settling, EndsInBegin}
 use Rattle.crq_rule.specs.ListKinds.{put_entries}
+use Rattle.crq_rule.specs.declared.debts.SettleDebt.{SettleDebt}
+use Rattle.crq_rule.proofs.Prefixes.{of_front, of_back, of_both}
 use Rattle.crq_rule.proofs.Puts.{put_here, put_else, put_all}
 
 put_settled : (j k : ℕ) (e f : Event) → Put j e ≡ Settled k f → ⊥
@@ -126,14 +128,13 @@ put_some k e q = cc
 -- Entries of one caller are added
 
 module _ (n : ℕ) (history : List Entry) (deal : Deal) (own : ℕ → List Entry) (begun : ℕ → ℕ) where
-  -- all parts but that on settled events, which is given
+  -- the part on the history
   pub told_more : (j : ℕ) (more : List Entry) (begun' : ℕ → ℕ) → j < n → IsLegalAfter history more → ((e : Entry) → In e more → whose e ≡ j)
       → ((k : ℕ) (e : Event) → In (Put k e) more → owner_of n deal.span e.src ≡ k)
-      → ((e : Event) → Contains (puts (history ++ more)) e → Contains (settleds (history ++ more)) e)
       → ((k : ℕ) → k ≢ j → begun' k ≡ begun k) → begun' j ≤ length (history ++ more)
       → (EndsInBegin (own j ++ more) → (front : List Entry) × (length front ≡ begun' j) × Began j (history ++ more) front)
       → Told n history deal own begun → Told n (history ++ more) deal (put own j (own j ++ more)) begun'
-  told_more j more begun' b legal mine sourced settled others low begins old = record {
+  told_more j more begun' b legal mine sourced others low begins old = record {
     legal = legal_append [] history more old.legal legal;
     spans = old.spans;
     since = old.since ++ more;
@@ -143,7 +144,6 @@ module _ (n : ℕ) (history : List Entry) (deal : Deal) (own : ℕ → List Entr
         (λ k ne c. own-append k old.since more ∙ ((λ i. old.each k c i ++ none_own j k more ne mine i) ∙ append-nil (own k)));
     inside = λ e i. ⊎_elim (old.inside e) (λ t. subst (λ k. k < n) (sym (mine e t)) b) (in_append old.since more e i);
     sourced = λ k e i. ⊎_elim (old.sourced k e) (sourced k e) (in_append old.since more (Put k e) i);
-    settled = settled;
     begun_low = λ k c. dite (ℕ_discrete k j) (λ e. subst (λ z. begun' z ≤ length (history ++ more)) (sym e) low)
         (λ ne. let l = old.begun_low k c in let same = others k ne in let wide = length-append history more in omega arith);
     began = put_all own j (own j ++ more) (λ k es. k < n → EndsInBegin es → (front : List Entry) × (length front ≡ begun' k) × Began k (history ++ more) front)
@@ -178,9 +178,6 @@ module _ (n : ℕ) (history : List Entry) (deal : Deal) (own : ℕ → List Entr
   )
       (λ x i. ⊎_elim (λ q. ap whose q) (λ i. ⊎_elim (λ q. ap whose q) (λ n. absurd n) i) i)
       (λ k f i. ⊎_elim (λ q. put_source k f q) (λ i. ⊎_elim (λ q. absurd (put_settled k j f e q)) (λ n. absurd n) i) i)
-      (λ f i. subst (λ z. Contains z f) (sym (settleds-append history (put_entries j e))) (⊎_elim
-      (λ old. Contains-append_left (settleds history) (e ∷ []) f (told.settled f old)) (Contains-append_right (settleds history) (e ∷ []) f)
-      (Contains-append_cases (puts history) (e ∷ []) f (subst (λ z. Contains z f) (puts-append history (put_entries j e)) i))))
       (λ _ _. refl)
       (let low = told.begun_low j b in let wide = length-append history (put_entries j e) in omega arith)
       (λ ends. absurd (settled_begin j ends.1 e (last_one (own j ++ Put j e ∷ []) ends.0 (Settled j e) (Begin ends.1) (append_assoc (own j) (Put j e ∷ []) (Settled j e ∷ []) ∙ ends.2))))
@@ -196,8 +193,6 @@ module _ (n : ℕ) (history : List Entry) (deal : Deal) (own : ℕ → List Entr
   told_entry j x begun' b may mine none others low begins told = told_more j (x ∷ []) begun' b (may, tt)
       (λ e i. ⊎_elim (λ q. ap whose q ∙ mine) (λ n. absurd n) i)
       (λ k e i. ⊎_elim (λ q. absurd (put_some k e (subst (λ z. puts (z ∷ []) ≡ []) (sym q) none))) (λ n. absurd n) i)
-      (λ e i. subst (λ z. Contains z e) (sym (settleds-append history (x ∷ []))) (Contains-append_left (settleds history) (settleds (x ∷ [])) e (told.settled e
-      (subst (λ z. Contains z e) (puts_same history x none) i))))
       others (let wide = length-append history (x ∷ []) in omega arith) begins told
 
   -- one that is neither a put nor a Begin
@@ -249,3 +244,29 @@ pending_same history x e none kept = (
 -- what is out stays out
 pub out_later : (history : List Entry) (x : Entry) (e : Event) → Contains (outs history) e → Contains (outs (history ++ x ∷ [])) e
 out_later history x e o = subst (λ z. Contains z e) (sym (outs-append history (x ∷ []))) (Contains-append_left (outs history) (outs (x ∷ [])) e o)
+
+-- Events that are owed
+
+put_in : (k : ℕ) (e : Event) (h : List Entry) → In (Put k e) h → Contains (puts h) e
+put_in k e (x ∷ h) i = ⊎_elim
+    (λ (same : Put k e ≡ x). of_front put_of (x ∷ []) h e (subst (λ z. Contains (puts (z ∷ [])) e) same (0, omega arith, refl)))
+    (λ t. of_back put_of (x ∷ []) h e (put_in k e h t)) i
+put_in k e [] i = absurd i
+
+in_left : (xs ys : List Entry) (a : Entry) → In a xs → In a (xs ++ ys)
+in_left [] ys a i = absurd i
+in_left (x ∷ xs) ys a i = ⊎_elim inl (λ t. inr (in_left xs ys a t)) i
+
+module _ (n : ℕ) (history : List Entry) (settling : ℕ → Option SettleDebt) where
+  -- entries are added: each put is settled with them, and none of an event that is owed
+  pub settling_more : (more : List Entry) → ((e : Event) → Contains (puts more) e → Contains (settleds (history ++ more)) e) → ((k : ℕ) (d : SettleDebt) → k < n → settling k ≡ Some d → Contains (settleds more) d.event → ⊥)
+      → Settling n history settling → Settling n (history ++ more) settling
+  settling_more more done none old = record {
+    owed = λ k d b is. let o = old.owed k d b is in (in_left history more (Put k d.event) o.0, λ s. ⊎_elim o.1 (none k d b is) (of_both settled_of history more d.event s));
+    unsettled = λ e put left. ⊎_elim (λ was. old.unsettled e was (λ s. left (of_front settled_of history more e s))) (λ new. absurd (left (done e new))) (of_both put_of history more e put);
+    lone = old.lone;
+  }
+
+  pub settling_put : (j : ℕ) (e : Event) → (Contains (puts history) e → ⊥) → Settling n history settling → Settling n (history ++ put_entries j e) settling
+  settling_put j e new old = settling_more (put_entries j e) (λ f i. of_back settled_of history (put_entries j e) f i)
+      (λ k d b is i. let o = old.owed k d b is in new (subst (Contains (puts history)) (only e d.event i) (put_in k d.event history o.0))) old

@@ -7,6 +7,7 @@ use Rattle.crq_base.specs.declared.words.Mark.TheVariants.{Del}
 use Rattle.crq_base.specs.Words.{link_word}
 use Rattle.crq_rule.specs.declared.view.Guard.TheVariants.{Off, Entering, On}
 use Rattle.crq_rule.specs.declared.view.Stand.{Stand}
+use Rattle.crq_rule.specs.declared.view.Sight.{Sight}
 use Rattle.crq_rule.specs.declared.view.Walk.{Walk}
 use Rattle.crq_rule.specs.declared.view.Sweep.{Sweep}
 use Rattle.crq_rule.specs.declared.view.Caller.{Caller}
@@ -17,7 +18,7 @@ use Rattle.crq_rule.specs.Invariant.{Inv}
 use Rattle.crq_rule.specs.ScarceParts.{pending}
 use Rattle.crq_rule.specs.Kinds.{tagged, new_base, new_tick, seen_stamp, base_looked, refused_after}
 use Rattle.crq_rule.specs.Ranks.{Cell, at_head, at_row, cell_place, link_at, heads_set, links_set}
-use Rattle.crq_rule.specs.ListKinds.{Content, new_link, no_twin, new_time, new_source, new_sequence, new_load, content_number, content_word, row_place, wrote, link_after, twin_after, event_after, put_entries, name_in, unhanded, forgotten, without_stand, unnamed, stands_after, walk_after, taken_on, sweep_on, clean_on, relieved}
+use Rattle.crq_rule.specs.ListKinds.{Content, new_link, no_twin, new_time, new_source, new_sequence, new_load, content_number, content_word, row_place, wrote, link_after, twin_after, event_after, put_entries, name_in, unhanded, forgotten, without_stand, unnamed, stands_after, walk_after, sight_after, taken_on, sweep_on, clean_on, relieved}
 use Rattle.crq_rule.specs.Steps.{Kind, split, join, epoch_load, recovery_load, enter, confirm, leave, scan, tick, tick_fails, retire, look, claim, write, read, walk, link, link_fails, control_load, begin, mark, mark_fails, cut, cut_fails, miss, May, After, place_of, entries_of}
 use Rattle.crq_rule.proofs.Puts.{put_else, put_through}
 use Rattle.crq_rule.proofs.GuardLaws.{load_keeps, recovery_keeps, enter_keeps, confirm_keeps, leave_keeps, scan_keeps, tick_keeps, tick_fails_keeps}
@@ -61,7 +62,10 @@ abbrev new_rows : Core → ℕ → Cell → Bool → List Stand
 new_rows c j cell seeks = let l = link_at c.words.head c.words.link cell in stands_after cell seeks l (c.words.event l.row) (c.rows j)
 
 abbrev new_walk : Core → ℕ → Cell → Bool → Option Walk
-new_walk c j cell seeks = walk_after cell seeks (link_at c.words.head c.words.link cell) (c.walk j)
+new_walk c j cell seeks = walk_after cell seeks (c.found j).control (link_at c.words.head c.words.link cell) (c.walk j)
+
+abbrev new_sight : Core → ℕ → Cell → Bool → Option Sight
+new_sight c j cell seeks = sight_after cell seeks (c.found j).control (link_at c.words.head c.words.link cell) (c.sight j)
 
 abbrev new_sweep : Core → ℕ → Cell → Bool → Option Sweep
 new_sweep c j cell seeks = let l = link_at c.words.head c.words.link cell in sweep_on (taken_on seeks (c.found j).control cell (c.rows j) (c.sweep j)) l (c.words.event l.row) (c.sweep j)
@@ -104,6 +108,7 @@ others_stay (write r x) c j i ne = λ y. record (caller_of c i) { written = put_
 others_stay (read r p) c j i ne = refl
 others_stay (walk cell seeks) c j i ne = λ x. record (caller_of c i) {
   position = record { rows = put_else c.rows j (new_rows c j cell seeks) i ne x; old = c.old i };
+  sight = put_else c.sight j (new_sight c j cell seeks) i ne x;
   walk = put_else c.walk j (new_walk c j cell seeks) i ne x;
   sweep = put_else c.sweep j (new_sweep c j cell seeks) i ne x;
   clean = put_else c.clean j (new_clean c j cell seeks) i ne x;
@@ -123,6 +128,7 @@ others_stay begin c j i ne = λ x. record (caller_of c i) {
   refused = put_else c.refused j [] i ne x;
   sweep = put_else c.sweep j None i ne x;
   clean = put_else c.clean j [] i ne x;
+  sight = put_else c.sight j None i ne x;
   walk = put_else c.walk j None i ne x;
   found = put_else c.found j (record (c.found j) { control = Some c.words.control }) i ne x;
 }

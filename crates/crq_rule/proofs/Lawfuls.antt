@@ -47,6 +47,7 @@ lawful c j b inv = record {
   owed_now = λ d x owed is. subst (λ (z : Control). d.generation ≡ z.generation) (sym (found_now c inv j x b is)) (named_now c inv j d b (inl owed)).0;
   owed_fits = λ d owed. let n = inv.naming.place j d b (inl owed) in (n.row, n.event);
   scarce = λ x vain. rows_counted c j x b vain inv;
+  sighted = λ s is. let f = inv.finds.sights j s b is in (f.0.spelled, f.1);
   controlled = λ x is. subst (λ z. IsControl z × (z.moving ≡ false) × (z.log ≡ 0)) (sym (found_now c inv j x b is)) (inv.spelled.is_control, steady_still c inv, steady_one c inv);
 }
   where

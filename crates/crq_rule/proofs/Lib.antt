@@ -5,6 +5,8 @@ pub mod HolderLaws
 pub mod CoverLaws
 pub mod StandLaws
 pub mod HeadLaws
+pub mod Prefixes
+pub mod WalkerLaws
 pub mod SizeLaws
 pub mod SteadyLaws
 pub mod ChainLaws

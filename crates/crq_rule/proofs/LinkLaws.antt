@@ -23,9 +23,9 @@ use Rattle.crq_rule.specs.Places.{IsRow, IsHomeRow, IsHead}
 use Rattle.crq_rule.specs.Core.{Core, IsOutside, HasName, caller_of, Holding, in_hand, listed, cut_by, retired}
 use Rattle.crq_rule.specs.Parts.{Fits, Spelled, IsEvent, Holders, Stamps, stamp_of, Chains, Leads, Names, IsPath, Reaches, Ground, ground_of, footings, Covers, IsGuarded, Cover, HasTag, IsOn, newest}
 use Rattle.crq_rule.specs.ListParts.{ranks, Heads, Sorted, MarkFits, Marks, IsFinal, StandFits, Standing, Copying, Lanes, row_word, Writing, IsNamed, Naming}
-use Rattle.crq_rule.specs.HistoryParts.{IsCarrying, IsLive, Carriers, Walkers}
+use Rattle.crq_rule.specs.HistoryParts.{IsCarrying, IsLive, Carriers, StandsFrom, Walkers}
 use Rattle.crq_rule.specs.Ranks.{rank, list_in, head_of, Cell, at_head, at_row, link_at, heads_set, links_set, Rises, after_cell}
-use Rattle.crq_rule.specs.Invariant.{Inv}
+use Rattle.crq_rule.specs.Invariant.{takes_of, Inv}
 use Rattle.crq_rule.specs.ListKinds.{is_cell, unhanded, forgotten, put_entries, linked, StandsOn, ComesAfter, MayLink}
 use Rattle.crq_rule.proofs.Puts.{put_here, put_else, put_all}
 use Rattle.crq_rule.proofs.PartLaws.{home_is_row, one_home, sort, of_whom, apart}
@@ -34,7 +34,8 @@ use Rattle.crq_rule.proofs.HeadLaws.{cell_final, cell_frozen, cell_listed, val_c
 use Rattle.crq_rule.proofs.SizeLaws.{fitting_list, sizes_rows}
 use Rattle.crq_rule.proofs.SteadyLaws.{found_now, steady_rows}
 use Rattle.crq_rule.proofs.CoverLaws.{stand_row, row_footing}
-use Rattle.crq_rule.proofs.HistoryLaws.{fresh_put, told_put, pending_put, put_pending, outs_put, not_out, front_of}
+use Rattle.crq_rule.proofs.HistoryLaws.{fresh_put, told_put, settling_put, pending_put, put_pending, not_out}
+use Rattle.crq_rule.proofs.WalkerLaws.{walkers_grown, walkers_links}
 use Rattle.crq_rule.proofs.ScarceLaws.{base_lasts, base_grown, lasts_held, scarce_drop, refusals_grown}
 use Rattle.crq_rule.proofs.SweepLaws.{swept_grown, swept_linked}
 use Rattle.crq_rule.proofs.ChainLaws.{IsOf, IsBelow, cell_leads, cell_rises, in_cell, cell_in, cell_next, leads_else, links_else, heads_else, links_same, heads_same, links_all, heads_all}
@@ -556,20 +557,18 @@ module _ (c : Core) (j : ℕ) (cell : Cell) (l : Link) (r : ℕ) (e : Event) whe
           other : (s : ℕ) → IsLive c.start.layout c.words.link c.words.twin c.holding s → c.words.event s ≡ e → ⊥
           other s live is = none (subst (Contains (puts c.history)) is (inv.carriers.pending s live).put)
 
-    walkers_after : Walkers c.start.layout c.words.control (c.history ++ put_entries j e) c.begun link' c.words.twin c.words.event holding' c.rows c.walk
-    walkers_after = let old = inv.walkers in record {
-      opened = old.opened;
-      at_stand = old.at_stand;
-      left = λ k w front back x b is parts size here was kept.
-          let rest = front_of c.history (put_entries j e) front back (c.begun k) parts size (inv.told.begun_low k b) in
-          let t = old.left k w front rest.0 x b is rest.1 size here was (λ out. kept (subst (λ xs. Contains xs x) (sym (outs_put c.history j e)) out)) in record {
-            row = t.row;
-            some_row = t.some_row;
-            live = live_after t.row t.live;
-            holds = t.holds;
-            reached = reaches_after cell c.words.head c.words.link c.words.twin q r w.at t.row (c.chain q) new refl same_row f.row.0 f.of (unlisted q f.is_head) t.reached;
-          };
+    from_after : (g at : ℕ) (x : Event) → StandsFrom c.words.link c.words.event g at x → StandsFrom link' c.words.event g at x
+    from_after g at x old = record {
+      row = old.row;
+      some_row = old.some_row;
+      kept = subst (λ (m : Mark). (m ≡ Val) ⊎ (m ≡ Mov)) (sym (same_mark old.row)) old.kept;
+      of = same_generation old.row ∙ old.of;
+      holds = old.holds;
+      follows = reaches_after cell c.words.head c.words.link (λ _. 0) q r at old.row (c.chain q) new refl same_row f.row.0 f.of (unlisted q f.is_head) old.follows;
     }
+
+    walkers_after : Walkers c.start.layout.workers (c.history ++ put_entries j e) c.settling (takes_of c) link' c.words.event
+    walkers_after = walkers_links _ _ _ _ _ _ link' c.words.event (λ _ s _ _. same_generation s) (λ _ g at x _ _ _. from_after g at x) (walkers_grown _ _ _ _ _ _ (put_entries j e) inv.walkers)
 
 -- no entry of a put is a Begin
 no_begin : (j : ℕ) (e : Event) (k : ℕ) → In (Begin k) (put_entries j e) → ⊥
@@ -590,7 +589,7 @@ link_keeps c j cell l r e b (x, may) is inv = let f = known c j x cell l r e b m
   sizes = sizes_rows _ _ _ _ _ _ _ _ _ (λ h _. same_head c j cell l r e f inv h) (λ s b out. ⊎_elim (λ (z : s ≡ r). inr (let now = ap (λ z. (link' c j cell l r e z).generation) z ∙ new_now c j cell l r e f inv in omega arith))
       (λ h. inl (h, same_generation c j cell l r e f inv s)) (was_outside c j cell l r e f inv s out)) inv.sizes;
   dues = inv.dues;
-  steady = steady_rows _ _ _ _ _ _ _ (λ s b out. ⊎_elim (λ (z : s ≡ r). inr (ap (λ z. (link' c j cell l r e z).generation) z ∙ new_now c j cell l r e f inv, ap (λ z. (link' c j cell l r e z).mark) z ∙ own_mark c j cell l r e f inv))
+  steady = steady_rows _ _ _ _ _ _ _ _ (λ s b out. ⊎_elim (λ (z : s ≡ r). inr (ap (λ z. (link' c j cell l r e z).generation) z ∙ new_now c j cell l r e f inv, ap (λ z. (link' c j cell l r e z).mark) z ∙ own_mark c j cell l r e f inv))
       (λ h. inl (h, same_generation c j cell l r e f inv s, inl (same_mark c j cell l r e f inv s))) (was_outside c j cell l r e f inv s out)) inv.steady;
   heads = heads_after c j cell l r e f inv;
   sorted = sorted_after c j cell l r e f inv;
@@ -602,6 +601,7 @@ link_keeps c j cell l r e b (x, may) is inv = let f = known c j x cell l r e b m
   naming = naming_after c j cell l r e f inv;
   carriers = carriers_after c j cell l r e f inv (fresh_put c.start.layout.workers c.history c.deal c.own c.begun j e b may.fresh inv.told);
   told = told_put c.start.layout.workers c.history c.deal c.own c.begun j e b may.fresh inv.told;
+  settling = settling_put _ _ _ j e (fresh_put c.start.layout.workers c.history c.deal c.own c.begun j e b may.fresh inv.told) inv.settling;
   walkers = walkers_after c j cell l r e f inv;
   scarce = let home = (inv.holders.held j r b may.in_hand_is).0 in scarce_drop _ _ _ _ _ _ _ _ j
       (λ k x _ ne old. base_grown _ _ _ (put_entries j e) _ _ k x (no_begin j e k) (base_lasts _ _ _ _ _ _ _ _ k x (le_refl _)

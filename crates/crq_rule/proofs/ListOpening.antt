@@ -13,13 +13,15 @@ use Rattle.crq_rule.specs.declared.debts.CutDebt.{CutDebt}
 use Rattle.crq_rule.specs.declared.layout.Start.{Start}
 use Rattle.crq_rule.specs.declared.view.Guard.TheVariants.{Off, On}
 use Rattle.crq_rule.specs.declared.view.Stand.{Stand}
+use Rattle.crq_rule.specs.declared.view.Sight.{Sight}
 use Rattle.crq_rule.specs.declared.view.Walk.{Walk}
 use Rattle.crq_rule.specs.Core.{in_hand, listed}
 use Rattle.crq_rule.specs.Ranks.{first_head_of, IsOpen}
 use Rattle.crq_rule.specs.Parts.{ground_of, Fits}
 use Rattle.crq_rule.specs.Steady.{Steady}
 use Rattle.crq_rule.specs.ListParts.{Sizes, Dues, Heads, Sorted, Marks, Standing, Copying, Lanes, Writing, Naming, IsShut}
-use Rattle.crq_rule.specs.HistoryParts.{Carriers, Told, Walkers, IsLive}
+use Rattle.crq_rule.specs.HistoryParts.{Carriers, Told, Settling, Walkers, IsLive}
+use Rattle.crq_rule.specs.Invariant.{takes_of}
 use Rattle.crq_rule.specs.Opening.{home_of, opening_core, opening_head, open_head, shut_head}
 use Rattle.crq_rule.proofs.PartLaws.{sort}
 
@@ -35,13 +37,16 @@ no_walk w e = cc
 no_debt : (d : CutDebt) → None ≡ Some d → ⊥
 no_debt d e = cc
 
+pub no_sight : (s : Sight) → None ≡ Some s → ⊥
+no_sight s e = cc
+
 no_old : (s : Stand) → None ≡ Some s → ⊥
 no_old s e = cc
 
 no_name : (d : CutDebt) → (None ≡ Some d) ⊎ (None ≡ Some d) → ⊥
 no_name d has = ⊎_elim (no_debt d) (no_debt d) has
 
-no_settle : (d : SettleDebt) → None ≡ Some d → ⊥
+pub no_settle : (d : SettleDebt) → None ≡ Some d → ⊥
 no_settle d e = cc
 
 no_copy : (d : CopyDebt) → None ≡ Some d → ⊥
@@ -114,8 +119,8 @@ module _ (s : Start) (first : IsFirst s.first) where
   pub opening_dues : Dues s.layout.workers (opening_core s).words.control (opening_core s).shape (opening_core s).settling (opening_core s).copying (opening_core s).named
   opening_dues = record { settles = λ k d _ is. absurd (no_settle d is); copies = λ k d _ is. absurd (no_copy d is); named = λ k d _ has. absurd (no_name d has) }
 
-  pub opening_steady : Steady s (opening_core s).words.control (opening_core s).words.link (opening_core s).holding (opening_core s).named
-  opening_steady = record { still = refl; first = refl; one = refl; rows = λ r _ out. absurd (out (home_of s.layout r) refl); marks = λ r _ out. absurd (out (home_of s.layout r) refl); named = λ k d _ has. absurd (no_name d has) }
+  pub opening_steady : Steady s (opening_core s).words.control (opening_core s).words.link (opening_core s).holding (opening_core s).named (opening_core s).settling
+  opening_steady = record { still = refl; first = refl; one = refl; rows = λ r _ out. absurd (out (home_of s.layout r) refl); marks = λ r _ out. absurd (out (home_of s.layout r) refl); named = λ k d _ has. absurd (no_name d has); settled = λ _ _. refl }
 
   none_live : (r : ℕ) → IsLive s.layout (opening_core s).words.link (opening_core s).words.twin (opening_core s).holding r → ⊥
   none_live r live = hand_listed _ live.1.0 live.1.1
@@ -132,10 +137,12 @@ module _ (s : Start) (first : IsFirst s.first) where
     each = λ _ _. refl;
     inside = λ _ i. absurd i;
     sourced = λ _ _ i. absurd i;
-    settled = λ _ i. i;
     begun_low = λ _ _. omega arith;
     began = λ j _ e. absurd (no_begin e.0 e.1 e.2);
   }
 
-  pub opening_walkers : Walkers s.layout (opening_core s).words.control (opening_core s).history (opening_core s).begun (opening_core s).words.link (opening_core s).words.twin (opening_core s).words.event (opening_core s).holding (opening_core s).rows (opening_core s).walk
-  opening_walkers = record { opened = λ k w _ at. absurd (no_walk w at); at_stand = λ k w _ at. absurd (no_walk w at); left = λ k w _ _ _ _ at _ _ _ _ _. absurd (no_walk w at) }
+  pub opening_settling : Settling s.layout.workers (opening_core s).history (opening_core s).settling
+  opening_settling = record { owed = λ _ d _ is. absurd (no_settle d is); unsettled = λ e put _. let low = put.1 in absurd (omega arith); lone = λ _ _ d _ _ _ is _ _. absurd (no_settle d is) }
+
+  pub opening_walkers : Walkers s.layout.workers (opening_core s).history (opening_core s).settling (takes_of (opening_core s)) (opening_core s).words.link (opening_core s).words.event
+  opening_walkers = record { seen = λ _ x _ is. absurd (no_sight x is); walked = λ _ w _ is. absurd (no_walk w is) }

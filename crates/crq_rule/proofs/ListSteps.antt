@@ -1,5 +1,5 @@
 -- What a step function asks of each kind on lists.
-use Rattle.std.proofs.Common.{◌≡◌, ◌≢◌, inl, ℕ, zero, suc, ◌+◌, ◌*◌, ◌^◌, ◌<◌, ◌≤◌, Bool, false, List, [], ◌∷◌, ◌++◌, None, Some, cond, get_or, set, eqb, sym, refl, ap, ◌∙◌, subst, arith, eq-eqb, ne_eqb}
+use Rattle.std.proofs.Common.{◌≡◌, ◌≢◌, inl, ℕ, zero, suc, ◌+◌, ◌*◌, ◌^◌, ◌<◌, ◌≤◌, Bool, false, List, [], ◌∷◌, ◌++◌, None, Some, cond, get_or, set, eqb, sym, refl, ap, ◌∙◌, subst, arith, eq-eqb, ne_eqb, ⊎_elim}
 use mathlib.Core.Logic.{dite}
 use native.Mathlib.Decide.{ℕ_discrete}
 use prog.Atomic.{either}
@@ -12,6 +12,8 @@ use Rattle.crq_base.specs.declared.words.Mark.TheVariants.{Val, Del}
 use Rattle.crq_base.specs.declared.words.Control.{Control}
 use Rattle.crq_base.specs.Words.{link_word, IsLink}
 use Rattle.crq_rule.specs.declared.layout.Start.{Start}
+use Rattle.std.proofs.lemmas.Option.{same_Some}
+use Rattle.crq_rule.specs.declared.view.Sight.{Sight}
 use Rattle.crq_rule.specs.declared.view.Stand.{Stand}
 use Rattle.crq_rule.specs.declared.view.Caller.{Caller}
 use Rattle.crq_rule.specs.Places.{index, control, link, IsPlace, IsRow, word_of}
@@ -20,7 +22,7 @@ use Rattle.crq_rule.specs.Parts.{ground_of, IsOn, Leads, IsGuarded}
 use Rattle.crq_rule.specs.ListParts.{row_word}
 use Rattle.crq_rule.specs.Invariant.{Inv}
 use Rattle.crq_rule.specs.Ranks.{rank, list_in, head_of, IsOpen, Cell, at_head, at_row, cell_place, link_at, heads_set, links_set}
-use Rattle.crq_rule.specs.ListKinds.{is_cell, stands_after, walk_after, taken_on, sweep_on, clean_on, relieved, Content, new_link, no_twin, new_time, new_source, new_sequence, new_load, IsContent, content_number, content_word, row_place, wrote, writes, links, event_word, loads_control, begins, marks, cuts, misses, MayWalk, MaySeek, MayLink, MayMark, MayCut, MayMiss, ComesAfter, put_entries, unhanded, forgotten, cut_debt, name_in, StandsOn, without_stand, unnamed}
+use Rattle.crq_rule.specs.ListKinds.{is_cell, stands_after, walk_after, sight_after, taken_on, sweep_on, clean_on, relieved, Content, new_link, no_twin, new_time, new_source, new_sequence, new_load, IsContent, content_number, content_word, row_place, wrote, writes, links, event_word, loads_control, begins, marks, cuts, misses, MayWalk, MaySeek, MayLink, MayMark, MayCut, MayMiss, ComesAfter, put_entries, unhanded, forgotten, cut_debt, name_in, without_stand, unnamed}
 use Rattle.crq_rule.specs.Steps.{Kind, write, walk, link as link_kind, link_fails, control_load, begin, mark, mark_fails, cut, cut_fails, miss, May, After, kind_of, place_of}
 use Rattle.crq_rule.specs.Rule.{IsWords}
 use Rattle.crq_rule.specs.Moves.{MovesBy, By, Walked, WalksOn, IsWalkable, FoundControl, wins, quiet}
@@ -138,13 +140,13 @@ module _ (key : Start) (p : Caller) where
   walkable (at_row r) c b inv may = let v : IsGuarded (ground_of c) r = subst (IsGuarded (ground_of c)) may.1.2 (guarded_by j (stand_covered c j may.1.0 b may.1.1 inv)) in
       (outside_mark c inv r (inv.lanes.is_row r v) (guarded_out c inv r v), λ x found. guarded_now c inv r v ∙ ap (λ (y : Control). y.generation) (sym (found_now c inv j x b found)))
 
-  pub walk_moves : (cell : Cell) (seeks : Bool) → IsOn p.guard → MayWalk p.position.rows cell → MaySeek p.own p.walk cell seeks → MovesBy WalkKind key p (index key.layout (cell_place cell)) (λ w. w) (Walked cell seeks)
+  pub walk_moves : (cell : Cell) (seeks : Bool) → IsOn p.guard → MayWalk p.position.rows cell → MaySeek p.own p.found.control p.walk cell seeks → MovesBy WalkKind key p (index key.layout (cell_place cell)) (λ w. w) (Walked cell seeks)
   walk_moves cell seeks on may seek c ws inv words b is = let l = link_at c.words.head c.words.link cell in let e = c.words.event l.row in
       let may' : MayWalk (c.rows j) cell = subst (λ (q : Caller). MayWalk q.position.rows cell) is may in
       let place = cell_is cell c ws b inv words may' in let at = words.shows.each (cell_place cell) place in (
         walk cell seeks,
         refl,
-        (subst (λ (q : Caller). IsOn q.guard) is on, may', subst (λ (q : Caller). MaySeek q.own q.walk cell seeks) is seek),
+        (subst (λ (q : Caller). IsOn q.guard) is on, may', subst (λ (q : Caller). MaySeek q.own q.found.control q.walk cell seeks) is seek),
         same_words key c (After (walk cell seeks) c j) ws (index key.layout (cell_place cell)) refl refl words,
         subst (λ (z : ℕ × Caller). Walked cell seeks z.0 z.1 (caller_of (After (walk cell seeks) c j) j)) (λ i. (sym (at ∙ cell_word c cell) i, sym is i)) record {
           link = l;
@@ -153,7 +155,8 @@ module _ (key : Start) (p : Caller) where
           word = refl;
           after = λ i. record (caller_of c j) {
             position = record { rows = sym (put_here c.rows j (stands_after cell seeks l e (c.rows j))) i; old = c.old j };
-            walk = sym (put_here c.walk j (walk_after cell seeks l (c.walk j))) i;
+            sight = sym (put_here c.sight j (sight_after cell seeks (c.found j).control l (c.sight j))) i;
+            walk = sym (put_here c.walk j (walk_after cell seeks (c.found j).control l (c.walk j))) i;
             sweep = sym (put_here c.sweep j (sweep_on (taken_on seeks (c.found j).control cell (c.rows j) (c.sweep j)) l e (c.sweep j))) i;
             clean = sym (put_here c.clean j (clean_on (taken_on seeks (c.found j).control cell (c.rows j) (c.sweep j)) l (c.clean j))) i;
             debts = owed_by (c.settling j) (c.copying j) (sym (put_here c.named j (record (c.named j) { first = relieved (c.found j).control cell (c.rows j) l e (c.named j).first })) i);
@@ -234,20 +237,19 @@ module _ (key : Start) (p : Caller) where
       }))
       (λ apart. lost CutKind (cut_fails cell) w (link_word l) (link_word new) (cuts y) refl (λ _. tt) (λ _. refl) c ws words is apart)
 
-  -- a row on which the caller stands is of the open table
-  stood_now : (c : Core) → Inv c → (r : ℕ) {e : Event} → j < c.start.layout.workers → StandsOn (c.rows j) r e → (c.words.link r).generation ≡ c.words.control.generation
-  stood_now c inv r b on = subst (λ r. (c.words.link r).generation ≡ c.words.control.generation) on.2 (guarded_now c inv on.0.row (guarded_by j (stand_covered c j on.0 b on.1 inv)))
-
-  listed_by : (c : Core) → Inv c → (x : Control) → j < c.start.layout.workers → (c.found j).control ≡ Some x → (e : Event) → list_in c.shape x.generation e ≡ head_of x e
-  listed_by c inv x b found e = fitting_list c.start c.words.control c.shape x (inv.finds.controls j x b found) e
+  -- the row at which a walk stands is of the table that the take read
+  walk_generation : (c : Core) → Inv c → (x : Control) {r : ℕ} {e : Event} → j < c.start.layout.workers → MayMark x r e (caller_of c j) → (c.words.link r).generation ≡ x.generation
+  walk_generation c inv x {r} b may = let w = may.walks in let t = inv.walkers.walked j w.0 b w.1 in
+      let table = ap (λ (s : Sight). s.table.generation) (same_Some t.0 (record { table = x }) (sym t.1 ∙ may.sight)) in
+      let some = (inv.lanes.is_row r (subst (IsGuarded (ground_of c)) may.on.2 (guarded_by j (stand_covered c j may.on.0 b may.on.1 inv)))).0 in
+      ⊎_elim (λ z. let same = w.2 in absurd (omega arith)) (λ h. subst (λ r. (c.words.link r).generation ≡ x.generation) w.2 (h.1 ∙ table)) t.2.at_stand
 
   pub mark_moves : (x : Control) (r : ℕ) (e : Event) (l : Link) → IsLink l → l.mark ≡ Val → MayMark x r e p
       → MovesBy MarkKind key p (index key.layout (link r)) (λ w. either (eqb w (link_word l)) (link_word (record l { mark = Del })) w) (By (wins (link_word l) (marks x r e)) quiet)
   mark_moves x r e l bits val may c ws inv words b is = let new : Link = record l { mark = Del } in let w = index key.layout (link r) in
-      let same : x ≡ c.words.control = found_now c inv j x b (ap (λ (q : Caller). q.found.control) (sym is) ∙ may.control) in
       let may' : MayMark x r e (caller_of c j) = subst (MayMark x r e) is may in
-      let now : (c.words.link r).generation ≡ x.generation = stood_now c inv r b may'.on ∙ ap (λ (y : Control). y.generation) (sym same) in
-      let named : cut_debt x r e ≡ name_in c.shape (c.words.link r).generation r e = (λ i. record { generation = x.generation; head = sym (listed_by c inv x b (ap (λ (q : Caller). q.found.control) (sym is) ∙ may.control) e) i; event = e; row = r; front = false })
+      let now : (c.words.link r).generation ≡ x.generation = walk_generation c inv x b may' in
+      let named : cut_debt x r e ≡ name_in c.shape (c.words.link r).generation r e = (λ i. record { generation = x.generation; head = sym (fitting_list c.start c.words.control c.shape x (inv.finds.sights j (record { table = x }) b may'.sight).0 e) i; event = e; row = r; front = false })
       ∙ ap (λ g. name_in c.shape g r e) (sym now) in
       let on : MayWalk (c.rows j) (at_row r) = (e, may'.on) in
       let place = cell_is (at_row r) c ws b inv words on in let at = words.shows.each (link r) place in
@@ -296,6 +298,7 @@ module _ (key : Start) (p : Caller) where
       refused = sym (put_here c.refused j []) i;
       sweep = sym (put_here c.sweep j None) i;
       clean = sym (put_here c.clean j []) i;
+      sight = sym (put_here c.sight j None) i;
       walk = sym (put_here c.walk j None) i;
       found = sym (put_here c.found j (record (c.found j) { control = Some c.words.control })) i;
     }),

@@ -32,13 +32,13 @@ use Rattle.crq_rule.specs.ListKinds.{is_cell, MayMark, name_in, marked}
 use Rattle.crq_rule.proofs.Puts.{put_here, put_else, put_all}
 use Rattle.crq_rule.proofs.PartLaws.{apart}
 use Rattle.crq_rule.proofs.CoverLaws.{guarded_by, stand_row}
-use Rattle.crq_rule.proofs.HistoryLaws.{told_other, out_later}
-use Rattle.crq_rule.proofs.CallLaws.{walkers_entry}
+use Rattle.crq_rule.proofs.HistoryLaws.{told_other, settling_more, out_later}
+use Rattle.crq_rule.proofs.WalkerLaws.{walkers_grown, walkers_links, walkers_rest}
 use Rattle.crq_rule.proofs.ScarceLaws.{scarce_grown, refusals_grown}
 use Rattle.crq_rule.proofs.SweepLaws.{swept_grown}
 use Rattle.crq_rule.proofs.HeadLaws.{cell_listed, val_carries, dead_carries, carries_on}
 use Rattle.crq_rule.proofs.SizeLaws.{sizes_rows, dues_named}
-use Rattle.crq_rule.proofs.SteadyLaws.{steady_one, steady_rows, steady_names}
+use Rattle.crq_rule.proofs.SteadyLaws.{steady_rows, steady_names}
 use Rattle.crq_rule.proofs.SearchLaws.{stand_covered, left_beyond, beyond_key}
 
 val_inv : Val ≡ Invalid → ⊥
@@ -55,6 +55,9 @@ take_begin j k e q = cc
 
 no_begin : (j : ℕ) (e : Event) (k : ℕ) → In (Begin k) (Take j e ∷ []) → ⊥
 no_begin j e k i = ⊎_elim (λ (q : Begin k ≡ Take j e). take_begin j k e (sym q)) (λ n. n) i
+
+nothing : {e : Event} → Contains [] e → ⊥
+nothing h = let k = h.1 in absurd (omega arith)
 
 final_val : (l m : Link) → l ≡ m → l.mark ≡ Val → IsFinal m.mark → ⊥
 final_val l m e val final = subst IsFinal (sym (ap (λ (z : Link). z.mark) e) ∙ val) final
@@ -262,13 +265,14 @@ module _ (l : Layout) (shape : ℕ → Shape) (link : ℕ → Link) (twin : ℕ 
       one = λ s t v w. old.one s t (live_was val s v) (live_was val t w);
     }
 
-    stands_dead : (at : ℕ) (f : Event) → (Contains (outs (history ++ Take j e ∷ [])) f → ⊥) → StandsFrom l link twin event holding at f → StandsFrom l (dead link r) twin event holding at f
-    stands_dead at f kept old = record {
+    stands_dead : (g at : ℕ) (f : Event) → (Contains (outs (history ++ Take j e ∷ [])) f → ⊥) → StandsFrom link event g at f → StandsFrom (dead link r) event g at f
+    stands_dead g at f kept old = record {
       row = old.row;
       some_row = old.some_row;
-      live = live_stays val old.row (else_row old.row f old.holds kept) old.live;
+      kept = subst (λ (m : Link). (m.mark ≡ Val) ⊎ (m.mark ≡ Mov)) (sym (put_else link r (record (link r) { mark = Del }) old.row (else_row old.row f old.holds kept))) old.kept;
+      of = dead_generation link r old.row ∙ old.of;
       holds = old.holds;
-      reached = reaches_same (dead link r) link (λ s. sym (dead_row link r s)) twin at old.row old.reached;
+      follows = reaches_same (dead link r) link (λ s. sym (dead_row link r s)) (λ _. 0) at old.row old.follows;
     }
 
 -- Mark
@@ -282,7 +286,7 @@ take_legal c j r e b may pending is inv = let from = inv.told.began j b may.1.be
     from.0,
     from.2,
     λ f settled kept less. beyond_key c inv w.at e f (ap c.words.event may.1.walks.2 ∙ is)
-        (left_beyond c inv j w from.0 (Begin j ∷ from.2.back) f b may.1.walks.1 (steady_one c inv) from.2.parts from.1 settled kept) less,
+        (left_beyond c inv j w may.0 from.0 (Begin j ∷ from.2.back) f b may.1.walks.1 may.1.sight may.1.one_list from.2.parts from.1 settled kept) less,
   ),
 )
 
@@ -307,8 +311,8 @@ mark_keeps c j r e b may val inv = let l = c.start.layout in let x = c.shape in 
   cover = cover_dead l x k t v h r _ _ _ inv.cover;
   sizes = sizes_rows _ _ _ _ _ _ _ _ _ (λ _ _. refl) (λ s _ out. inl (out, dead_generation k r s)) inv.sizes;
   dues = dues_named _ _ _ _ _ _ _ (λ i d _ has. ⊎_elim inl (λ same. inr (subst (λ (d : CutDebt). (d.generation ≤ newest c.words.control) × (d.head ≡ list_in c.shape d.generation d.event)) same (inv.sizes.rows r row outside, refl))) (names_before l x k t v h r j e c.named i d has)) inv.dues;
-  steady = steady_names _ _ _ _ _ _ (λ i d _ has. ⊎_elim inl (λ same. inr (r, row, outside, ap (λ (z : CutDebt). z.generation) (sym same) ∙ sym (dead_generation k r r))) (names_before l x k t v h r j e c.named i d has))
-      (steady_rows _ _ _ _ _ _ _ (λ s _ out. inl (out, dead_generation k r s, dead_mark k r s)) inv.steady);
+  steady = steady_names _ _ _ _ _ _ _ (λ i d _ has. ⊎_elim inl (λ same. inr (r, row, outside, ap (λ (z : CutDebt). z.generation) (sym same) ∙ sym (dead_generation k r r))) (names_before l x k t v h r j e c.named i d has))
+      (steady_rows _ _ _ _ _ _ _ _ (λ s _ out. inl (out, dead_generation k r s, dead_mark k r s)) inv.steady);
   heads = inv.heads;
   sorted = sorted_dead l x k t v h r _ _ inv.sorted;
   marks = marks_dead l x k t v h r _ _ (λ m. val_mov (sym val ∙ m)) inv.marks;
@@ -319,7 +323,8 @@ mark_keeps c j r e b may val inv = let l = c.start.layout in let x = c.shape in 
   naming = naming_dead l x k t v h r j e c.named c.words.head b may.1.free is row (subst IsEvent is (inv.spelled.events r row)) inv.naming;
   carriers = carriers_dead l x k t v h r val _ j e is live inv.carriers;
   told = told_other _ _ _ _ _ j (Take j e) b (take_legal c j r e b may pending is inv) refl refl (λ k. take_begin j k e) inv.told;
-  walkers = walkers_entry _ _ _ _ c.begun _ _ _ _ _ _ _ j (Take j e) inv.told.begun_low (λ _ _. refl) (stands_dead l x k t v h r val c.history j e is) inv.walkers;
+  settling = settling_more _ _ _ (Take j e ∷ []) (λ _ n. absurd (nothing n)) (λ _ _ _ _ n. nothing n) inv.settling;
+  walkers = walkers_rest _ _ _ _ _ _ j (walkers_links _ _ _ _ _ _ (dead k r) v (λ _ s _ _. dead_generation k r s) (λ _ g at f _ _. stands_dead l x k t v h r val c.history j e is g at f) (walkers_grown _ _ _ _ _ _ (Take j e ∷ []) inv.walkers));
   scarce = scarce_grown _ _ _ _ _ _ _ (λ k. no_begin j e k) inv.scarce;
   refusals = refusals_grown _ _ _ _ (λ k. no_begin j e k) inv.refusals;
   swept = swept_grown _ _ _ _ _ _ _ (λ k. no_begin j e k) inv.swept;

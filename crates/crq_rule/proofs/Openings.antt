@@ -38,7 +38,7 @@ use Rattle.crq_rule.proofs.Counting.{rows_in, in_rows, rows_once}
 use Rattle.crq_rule.proofs.Pendings.{none_counted}
 use Rattle.crq_rule.proofs.ScarceLaws.{none_base}
 use Rattle.crq_rule.proofs.SweepLaws.{none_sweep}
-use Rattle.crq_rule.proofs.ListOpening.{off_on, opening_control, opening_sizes, opening_dues, opening_steady, opening_heads, opening_sorted, opening_marks, opening_standing, opening_copying, opening_lanes, opening_writing, opening_naming, opening_carriers, opening_told, opening_walkers}
+use Rattle.crq_rule.proofs.ListOpening.{off_on, opening_control, opening_sizes, opening_dues, opening_steady, opening_heads, opening_sorted, opening_marks, opening_standing, opening_copying, opening_lanes, opening_writing, opening_naming, opening_carriers, opening_told, opening_settling, opening_walkers, no_sight}
 
 -- Words
 
@@ -150,7 +150,7 @@ opening_inv s first = let top = first.upto in let low = first.epoch in record {
     scanned = λ j k a _ i. absurd i;
     tags = λ j t x _ is _. absurd (none_some x is);
   };
-  finds = record { controls = λ j x _ is. absurd (none_control x is); currents = λ j x _ is. absurd (none_current x is) };
+  finds = record { controls = λ j x _ is. absurd (none_control x is); currents = λ j x _ is. absurd (none_current x is); sights = λ j x _ is. absurd (no_sight x is) };
   guards = record { each = λ _ _. refl; passed = λ k j a _ _ i _. tt };
   holders = opening_holders s;
   cutting = record { on = λ j x _ is. absurd (none_some x is); tags = λ j t g x _ is _ _. absurd (none_some x is) };
@@ -170,6 +170,7 @@ opening_inv s first = let top = first.upto in let low = first.epoch in record {
   naming = opening_naming s first;
   carriers = opening_carriers s first;
   told = opening_told s first;
+  settling = opening_settling s first;
   walkers = opening_walkers s first;
   scarce = record { each = λ k b _ is. absurd (none_base b is) };
   refusals = record { each = λ k _. none_counted [] k };

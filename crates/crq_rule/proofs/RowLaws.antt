@@ -17,7 +17,7 @@ use Rattle.crq_rule.proofs.SteadyLaws.{steady_rows}
 use Rattle.crq_rule.proofs.PartLaws.{read_cut, cutting_cut, stamps_look, stamps_retire, stamps_claim, sort, one_home}
 use Rattle.crq_rule.proofs.HolderLaws.{none_some, holders_retire, holders_claim}
 use Rattle.crq_rule.proofs.CoverLaws.{cover_retire, cover_claim, uncovered}
-use Rattle.crq_rule.proofs.StandLaws.{marks_held, writing_more, naming_held, carriers_held, walkers_held}
+use Rattle.crq_rule.proofs.StandLaws.{marks_held, writing_more, naming_held, carriers_held}
 use Rattle.crq_rule.proofs.ScarceLaws.{since_low, scarce_put, scarce_lasts, lasts_held, refusals_put, base_after, refused_counted}
 use Rattle.crq_rule.proofs.Frames.{frame_rows}
 use Rattle.crq_rule.proofs.GuardLaws.{on_low}
@@ -32,12 +32,11 @@ retire_keeps c j r t b may inv = let x = may.0 in let at = inv.holders.is_cut j 
     (stamps_retire _ _ _ _ _ r t (λ e. let z : 2 ≡ 3 = sym (ap sort held) ∙ e in absurd (omega arith)) (inv.reading.tags j t x b may.1 may.3) inv.stamps)
     (cover_retire _ _ _ j r t (inr (j, x, b, may.1, may.2, may.3)) inv.cover)
     (sizes_rows _ _ _ _ _ _ _ _ _ (λ _ _. refl) (λ s _ out. inl (kept held s out, refl)) inv.sizes)
-    (steady_rows _ _ _ _ _ _ _ (λ s _ out. inl (kept held s out, refl, inl refl)) inv.steady)
+    (steady_rows _ _ _ _ _ _ _ _ (λ s _ out. inl (kept held s out, refl, inl refl)) inv.steady)
     (marks_held _ _ _ _ r (retired t) _ _ (λ z. omega arith) (λ row. subst (λ h. MarkFits h (c.words.link r).mark) held (inv.marks.mark r row)) (kept held) inv.marks)
     inv.writing
     (naming_held _ _ c.words.twin _ r (retired t) _ _ _ (λ z. omega arith) inv.naming)
     (carriers_held _ _ _ _ r (retired t) _ _ (other held) (λ z. omega arith) inv.carriers)
-    (walkers_held _ _ _ _ r (retired t) _ _ _ _ _ _ (other held) (λ z. omega arith) inv.walkers)
     (scarce_lasts _ _ _ _ _ _ _ _ _ (le_refl _) (λ k inside. lasts_held _ _ _ _ r (retired t) k (λ g home late. before held g late) (λ g home low is. inr (after g low))) inv.scarce)
     inv.refusals
   where
@@ -56,7 +55,7 @@ retire_keeps c j r t b may inv = let x = may.0 in let at = inv.holders.is_cut j 
     other held z = let e : ◌≡◌ {A = ℕ} 2 1 = sym (ap sort held) ∙ z in absurd (omega arith)
 
 pub look_keeps : (c : Core) (j r : ℕ) → j < c.start.layout.workers → IsHomeRow c.start.layout j r → Inv c → Inv (looked c j r)
-look_keeps c j r b home inv = frame_rows c _ _ _ _ _ _ _ inv inv.reading inv.holders inv.cutting (stamps_look _ _ _ _ _ j r b home inv.stamps) inv.cover inv.sizes inv.steady inv.marks inv.writing inv.naming inv.carriers inv.walkers
+look_keeps c j r b home inv = frame_rows c _ _ _ _ _ _ _ inv inv.reading inv.holders inv.cutting (stamps_look _ _ _ _ _ j r b home inv.stamps) inv.cover inv.sizes inv.steady inv.marks inv.writing inv.naming inv.carriers
     (scarce_put _ _ _ _ _ _ _ _ _ _ j (base_looked c j r) (λ x _ is. base_after c j b inv r x home is) (λ _ _ _ _ old. old) inv.scarce)
     (refusals_put _ _ _ _ j (refused_after c.start.layout.home (c.hand j) (base_looked c j r) (c.refused j)) (λ _. refused_counted c j b inv r home) (λ _ _ old. old) inv.refusals)
 
@@ -74,12 +73,11 @@ claim_keeps c j r e b read ripe inv = let at = inv.stamps.ripe j r ripe.0 b ripe
     (stamps_claim _ _ _ _ _ j r b at.0 inv.stamps)
     (cover_claim _ _ _ j r (claimable_uncovered c j r e b read ripe inv) inv.cover)
     (sizes_rows _ _ _ _ _ _ _ _ _ (λ _ _. refl) (λ s _ out. inl (kept s out, refl)) inv.sizes)
-    (steady_rows _ _ _ _ _ _ _ (λ s _ out. inl (kept s out, refl, inl refl)) inv.steady)
+    (steady_rows _ _ _ _ _ _ _ _ (λ s _ out. inl (kept s out, refl, inl refl)) inv.steady)
     (marks_held _ _ _ _ r (in_hand j) _ _ (λ z. omega arith) (λ _. tt) kept inv.marks)
     (writing_more _ _ _ _ _ _ j r inv.writing)
     (naming_held _ _ c.words.twin _ r (in_hand j) _ _ _ (λ z. omega arith) inv.naming)
     (carriers_held _ _ _ _ r (in_hand j) _ _ (other at.1) (λ z. omega arith) inv.carriers)
-    (walkers_held _ _ _ _ r (in_hand j) _ _ _ _ _ _ (other at.1) (λ z. omega arith) inv.walkers)
     (scarce_lasts _ _ _ _ _ _ _ _ _ (le_refl _) (λ k inside. lasts_held _ _ _ _ r (in_hand j) k (λ _ _ n. absurd n) (λ _ home _ _. inl (ap in_hand (one_home c.start.layout j k r at.0 home)))) inv.scarce)
     inv.refusals
   where

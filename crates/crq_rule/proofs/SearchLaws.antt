@@ -1,5 +1,6 @@
 -- What a take that walks a list leaves behind: no event that comes before the row at which it is.
-use Rattle.std.proofs.Common.{◌≡◌, ⊎_elim, ℕ, ◌+◌, ◌*◌, ◌/◌, ◌%◌, ◌^◌, ◌<◌, ◌≤◌, true, List, [], ◌∷◌, ◌++◌, length, Some, sym, refl, subst, arith, le_refl}
+use Rattle.crq_base.specs.declared.words.Link.{Link}
+use Rattle.std.proofs.Common.{take, ◌≡◌, ⊎_elim, ℕ, ◌+◌, ◌*◌, ◌/◌, ◌%◌, ◌^◌, ◌<◌, ◌≤◌, true, List, [], ◌∷◌, ◌++◌, length, Some, sym, refl, subst, arith, le_refl, inl, ap, ◌∙◌, take}
 use Rattle.std.specs.List.{Contains}
 use Rattle.std.specs.Ordering.{nat_cmp, ordering_then, is_lt, MatchOrdering}
 use Rattle.std.specs.declared.cmp.Ordering.{Ordering}
@@ -8,7 +9,7 @@ use Rattle.std.proofs.lemmas.Cmp.{ranked}
 use Rattle.crq_base.specs.declared.event.Event.{Event}
 use Rattle.crq_base.specs.declared.entry.Entry.{Entry}
 use Rattle.crq_base.specs.declared.words.Control.{Control}
-use Rattle.crq_base.specs.Histories.{settleds, outs, IsEarlier, IsLegal}
+use Rattle.crq_base.specs.Histories.{put_of, puts, settleds, outs, IsEarlier, IsLegal}
 use Rattle.crq_base.proofs.HistoryLaws.{legal_front}
 use Rattle.crq_base.specs.Lists.{In}
 use Rattle.crq_rule.specs.declared.view.Walk.{Walk}
@@ -19,7 +20,9 @@ use Rattle.crq_rule.specs.ListParts.{ranks}
 use Rattle.crq_rule.specs.Ranks.{rank, head_for, bucket, head_of, IsOpen}
 use Rattle.crq_rule.specs.Invariant.{Inv}
 use Rattle.crq_rule.proofs.CoverLaws.{row_footing, names_covered, footing_covered}
-use Rattle.crq_rule.proofs.SteadyLaws.{guarded_twin}
+use Rattle.std.proofs.lemmas.Option.{same_Some}
+use Rattle.crq_rule.specs.declared.view.Sight.{Sight}
+use Rattle.crq_rule.proofs.Prefixes.{take_all, take_in, take_more}
 use Rattle.crq_rule.proofs.HistoryLaws.{settled_put}
 
 -- Ranks
@@ -57,15 +60,18 @@ one_head x e q none opened = let low = opened.0 in let high : q < x.generation %
 pub stand_covered : (c : Core) → Inv c → (j r : ℕ) → j < c.start.layout.workers → In r (rows_of (c.rows j)) → (g : ℕ) × Covers (ground_of c) j g r
 stand_covered c inv j r b i = footing_covered (ground_of c) c.cut c.holding inv.cover j r b (row_footing c.rows c.old c.copying j r i)
 
--- ranks rise on the way from a covered row
-pub path_rises : (c : Core) → Inv c → (k g a b : ℕ) (xs : List ℕ) → Covers (ground_of c) k g a
-    → IsPath c.words.link c.words.twin a xs b → ranks c.words.event a ≤ ranks c.words.event b
-path_rises c inv k g a b [] v p = subst (λ z. ranks c.words.event a ≤ ranks c.words.event z) p (le_refl _)
-path_rises c inv k g a b (x ∷ xs) v p = let later = path_rises c inv k g x b xs (names_covered (ground_of c) k g a x v p.0) p.1 in ⊎_elim
-    (λ (is : (c.words.link a).row ≡ x). let first = subst (λ z. 0 < z → ranks c.words.event a < ranks c.words.event z) is (inv.lanes.rises a (k, g, v)) p.0.0 in omega arith)
-    (λ (is : c.words.twin a ≡ x). let some = p.0.0 in
-    let none = guarded_twin c inv a (k, g, v) in absurd (omega arith))
-    p.0.1
+-- a way along links is one along links and twins
+pub with_twins : (links : ℕ → Link) (twins : ℕ → ℕ) (a b : ℕ) (xs : List ℕ) → IsPath links (λ _. 0) a xs b → IsPath links twins a xs b
+with_twins links twins a b [] p = p
+with_twins links twins a b (x ∷ xs) p = ((p.0.0, ⊎_elim inl (λ none. let some = p.0.0 in absurd (omega arith)) p.0.1), with_twins links twins x b xs p.1)
+
+-- ranks rise on the way from a covered row along links, and what they lead to is covered
+pub follow_rises : (c : Core) → Inv c → (k g a b : ℕ) (xs : List ℕ) → Covers (ground_of c) k g a → IsPath c.words.link (λ _. 0) a xs b → (ranks c.words.event a ≤ ranks c.words.event b) × Covers (ground_of c) k g b
+follow_rises c inv k g a b [] v p = (subst (λ z. ranks c.words.event a ≤ ranks c.words.event z) p (le_refl _), subst (Covers (ground_of c) k g) p v)
+follow_rises c inv k g a b (x ∷ xs) v p = ⊎_elim
+    (λ (is : (c.words.link a).row ≡ x). let later = follow_rises c inv k g x b xs (names_covered (ground_of c) k g a x v (p.0.0, inl is)) p.1 in
+    let first = subst (λ z. 0 < z → ranks c.words.event a < ranks c.words.event z) is (inv.lanes.rises a (k, g, v)) p.0.0 in let more = later.0 in (omega arith, later.1))
+    (λ none. let some = p.0.0 in absurd (omega arith)) p.0.1
 
 -- Walks
 
@@ -77,18 +83,23 @@ pub record IsBeyond (c : Core) (at : ℕ) (f : Event) : Type 0 where
   pub holds : c.words.event row ≡ f
   pub later : ranks c.words.event at ≤ ranks c.words.event row
 
-pub left_beyond : (c : Core) → Inv c → (j : ℕ) (w : Walk) (front back : List Entry) (f : Event) → j < c.start.layout.workers → c.walk j ≡ Some w → c.words.control.log ≡ 0
+pub left_beyond : (c : Core) → Inv c → (j : ℕ) (w : Walk) (x : Control) (front back : List Entry) (f : Event) → j < c.start.layout.workers → c.walk j ≡ Some w → c.sight j ≡ Some (record { table = x }) → x.log ≡ 0
     → c.history ≡ front ++ back → length front ≡ c.begun j → Contains (settleds front) f → (Contains (outs c.history) f → ⊥) → IsBeyond c w.at f
-left_beyond c inv j w front back f b walks one parts long settled kept =
-    let opened = inv.walkers.opened j w b walks in
+left_beyond c inv j w x front back f b is sees one parts long settled kept =
+    let walked = inv.walkers.walked j w b is in let t = walked.2 in
+    let table : walked.0.table ≡ x = ap (λ (s : Sight). s.table) (same_Some walked.0 (record { table = x }) (sym walked.1 ∙ sees)) in
     let legal : IsLegal front = legal_front [] front back (subst IsLegal parts inv.told.legal) in
-    let from = inv.walkers.left j w front back f b walks parts long (one_head c.words.control f w.head one opened.1) (settled_put front legal f settled) kept in
-    let v = stand_covered c inv j w.at b (⊎_elim (λ none. let some = from.some_row in absurd (omega arith)) (λ i. i) (inv.walkers.at_stand j w b walks)) in record {
+    let early : Contains (puts (take (length front) front)) f = take_all put_of front f (settled_put front legal f settled) in
+    let read : Contains (puts (take (c.read j) c.history)) f = take_more put_of (length front) (c.read j) c.history f (let low = (inv.walkers.seen j walked.0 b walked.1).after.0 in omega arith)
+    (subst (λ h. Contains (puts (take (length front) h)) f) (sym parts) (take_in put_of (length front) front back f (le_refl _) early)) in
+    let from = t.left f read kept (one_head walked.0.table f w.head (ap (λ (z : Control). z.log) table ∙ one) t.sees.1) in
+    let v = stand_covered c inv j w.at b (⊎_elim (λ none. let some = from.some_row in absurd (omega arith)) (λ i. i.0) t.at_stand) in
+    let to = follow_rises c inv j v.0 w.at from.row from.follows.through v.1 from.follows.path in record {
       row = from.row;
       some_row = from.some_row;
-      is_row = from.live.0;
+      is_row = inv.lanes.is_row from.row (j, v.0, to.1);
       holds = from.holds;
-      later = path_rises c inv j v.0 w.at from.row from.reached.through v.1 from.reached.path;
+      later = to.0;
     }
 
 beyond_fits : (c : Core) → Inv c → (at : ℕ) (f : Event) (beyond : IsBeyond c at f) → IsEvent f × (beyond.row < 2 ^ 24)

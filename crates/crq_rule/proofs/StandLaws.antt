@@ -1,5 +1,5 @@
--- How the parts on stands, lanes and walkers stay where a caller changes its guard or leaves, and how the parts that read holders stay where a row changes that isn't listed.
-use Rattle.std.proofs.Common.{◌≡◌, ◌≢◌, ◌⊎◌, ℕ, ◌<◌, List, [], ◌∷◌, ◌++◌, length, Option, Some, None, sym, ap, ◌∙◌, subst, inl}
+-- How the parts on stands and lanes stay where a caller changes its guard or leaves, and how the parts that read holders stay where a row changes that isn't listed.
+use Rattle.std.proofs.Common.{◌≡◌, ◌≢◌, ℕ, ◌<◌, List, [], ◌∷◌, ◌++◌, Option, Some, None, sym, ap, ◌∙◌, inl}
 use Rattle.crq_base.specs.declared.event.Event.{Event}
 use Rattle.crq_base.specs.declared.entry.Entry.{Entry}
 use Rattle.crq_base.specs.declared.words.Link.{Link}
@@ -9,17 +9,15 @@ use Rattle.crq_base.specs.declared.words.Mark.TheVariants.{Mov}
 use Rattle.crq_rule.specs.declared.view.Guard.{Guard}
 use Rattle.crq_rule.specs.declared.view.Stand.{Stand}
 use Rattle.crq_rule.specs.declared.view.Wrote.{Wrote}
-use Rattle.crq_rule.specs.declared.view.Walk.{Walk}
 use Rattle.crq_rule.specs.Lists.{put}
-use Rattle.crq_rule.specs.Places.{IsRow, IsHead}
+use Rattle.crq_rule.specs.Places.{IsRow}
 use Rattle.crq_rule.specs.Core.{Holding, IsOutside, DeadNames, listed}
-use Rattle.crq_rule.specs.Parts.{Covers, Ground, IsGuarded, rows_of}
+use Rattle.crq_rule.specs.Parts.{Covers, Ground, IsGuarded}
 use Rattle.crq_rule.specs.ListParts.{Marks, MarkFits, StandFits, Standing, Copying, Lanes, Writing, Naming}
-use Rattle.crq_rule.specs.HistoryParts.{Carriers, Walkers, IsLive, StandsFrom}
-use Rattle.crq_rule.specs.Ranks.{Shape, head_of, IsOpen}
-use Rattle.crq_base.specs.Histories.{puts, outs}
+use Rattle.crq_rule.specs.HistoryParts.{Carriers, IsLive}
+use Rattle.crq_rule.specs.Ranks.{Shape}
+use Rattle.crq_base.specs.Histories.{outs}
 use Rattle.crq_base.specs.Lists.{In}
-use Rattle.std.specs.Prelude.{Contains}
 use Rattle.crq_rule.proofs.Puts.{put_else, put_all, snoc_in}
 use Rattle.crq_rule.proofs.PartLaws.{sort}
 use Rattle.crq_rule.proofs.CoverLaws.{covered_guard, covered_less}
@@ -56,19 +54,6 @@ copying_nowhere n head link twin event old j was = record {
   each = λ k s. put_all old j None (λ k o. k < n → o ≡ Some s → StandFits head link twin event s × ((link s.row).mark ≡ Mov)) (λ _ e. absurd (none_old s e)) (λ k _. was.each k s) k;
 }
 
-none_walk : (w : Walk) → None ≡ Some w → ⊥
-none_walk w e = cc
-
-module _ (l : Layout) (control : Control) (history : List Entry) (begun : ℕ → ℕ) (link : ℕ → Link) (twin : ℕ → ℕ) (event : ℕ → Event) (holding : ℕ → Holding) (rows : ℕ → List Stand) (walk : ℕ → Option Walk) where
-  -- a caller gives up its walk, and moves
-  pub walkers_none : (j : ℕ) (ss : List Stand) → Walkers l control history begun link twin event holding rows walk → Walkers l control history begun link twin event holding (put rows j ss) (put walk j None)
-  walkers_none j ss old = record {
-    opened = λ k w. put_all walk j None (λ k o. k < l.workers → o ≡ Some w → IsHead w.head × IsOpen control w.head) (λ _ e. absurd (none_walk w e)) (λ k _. old.opened k w) k;
-    at_stand = λ k w. put_all walk j None (λ k o. k < l.workers → o ≡ Some w → (w.at ≡ 0) ⊎ In w.at (rows_of (put rows j ss k))) (λ _ e. absurd (none_walk w e))
-        (λ k ne b e. subst (λ ss. (w.at ≡ 0) ⊎ In w.at (rows_of ss)) (sym (put_else rows j ss k ne)) (old.at_stand k w b e)) k;
-    left = λ k w front back e. put_all walk j None (λ k o. k < l.workers → o ≡ Some w → history ≡ front ++ back → length front ≡ begun k → head_of control e ≡ w.head → Contains (puts front) e → (Contains (outs history) e → ⊥) → StandsFrom l link twin event holding w.at e) (λ _ q. absurd (none_walk w q)) (λ k _. old.left k w front back e) k;
-  }
-
 -- A row changes hands and isn't listed, neither before nor after
 module _ (l : Layout) (link : ℕ → Link) (twin : ℕ → ℕ) (holding : ℕ → Holding) (r : ℕ) (h : Holding) where
   listed_stays : sort (holding r) ≢ 1 → sort h ≢ 1 → (s q : ℕ) → holding s ≡ listed q → put holding r h s ≡ listed q
@@ -100,14 +85,6 @@ module _ (l : Layout) (link : ℕ → Link) (twin : ℕ → ℕ) (holding : ℕ 
     carried = λ e p. let c = old.carried e p in (c.0, live_stays was is c.0 c.1, c.2);
     pending = λ s v. old.pending s (live_was is s v);
     one = λ s t v w. old.one s t (live_was is s v) (live_was is t w);
-  }
-
-  pub walkers_held : (control : Control) (history : List Entry) (begun : ℕ → ℕ) (event : ℕ → Event) (rows : ℕ → List Stand) (walk : ℕ → Option Walk) → sort (holding r) ≢ 1 → sort h ≢ 1
-      → Walkers l control history begun link twin event holding rows walk → Walkers l control history begun link twin event (put holding r h) rows walk
-  walkers_held control history begun event rows walk was is old = record {
-    opened = old.opened;
-    at_stand = old.at_stand;
-    left = λ k w front back e b q f n m p o. let s = old.left k w front back e b q f n m p o in record { row = s.row; some_row = s.some_row; live = live_stays was is s.row s.live; holds = s.holds; reached = s.reached };
   }
 
 -- a caller takes one more row in hand

@@ -81,7 +81,7 @@ pub in_rows : (ss : List Stand) (r : ℕ) → In r (rows_of ss) → (s : Stand) 
 in_rows [] r i = absurd i
 in_rows (t ∷ ts) r i = ⊎_elim (λ (e : r ≡ t.row). (t, inl refl, sym e)) (λ h. let s = in_rows ts r h in (s.0, inr s.1, s.2)) i
 
-in_next : (cell : Cell) (l : Link) (e : Event) (s : Stand) → In s (next_stand cell l e) → (0 < l.row) × (s ≡ new_stand cell l e)
+pub in_next : (cell : Cell) (l : Link) (e : Event) (s : Stand) → In s (next_stand cell l e) → (0 < l.row) × (s ≡ new_stand cell l e)
 in_next cell l e s = cond_both (eqb l.row 0) [] (new_stand cell l e ∷ []) (λ ss. In s ss → (0 < l.row) × (s ≡ new_stand cell l e))
     (λ _ i. absurd i) (λ no i. let ne = eqb-false l.row 0 no in (omega arith, ⊎_elim (λ q. q) (λ n. absurd n) i))
 

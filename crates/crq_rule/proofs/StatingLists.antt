@@ -1,5 +1,5 @@
 -- The invariant that is kept implies what is stated of lists, carriers, the history and walkers.
-use Rattle.std.proofs.Common.{◌≡◌, ◌⊎◌, ⊎_elim, inl, inr, ℕ, ◌^◌, ◌<◌, true, List, [], ◌∷◌, length, sym, refl, ap, ◌∙◌, subst, arith, ◌≢◌}
+use Rattle.std.proofs.Common.{◌≡◌, ◌⊎◌, ⊎_elim, inl, inr, ℕ, ◌^◌, ◌<◌, true, List, [], ◌∷◌, length, sym, refl, ap, ◌∙◌, subst, arith, ◌≢◌, Some, take, le_refl}
 use Rattle.std.specs.List.{Contains}
 use Rattle.std.specs.Ordering.{nat_cmp, ordering_then, is_lt, MatchOrdering}
 use Rattle.std.specs.declared.cmp.Ordering.{Ordering}
@@ -8,25 +8,30 @@ use Rattle.std.proofs.lemmas.Cmp.{ranked}
 use Rattle.crq_base.specs.declared.event.Event.{Event}
 use Rattle.crq_base.specs.declared.entry.Entry.{Entry}
 use Rattle.crq_base.specs.declared.words.Mark.TheVariants.{Val, Del}
-use Rattle.crq_base.specs.Histories.{puts, outs, IsPending}
+use Rattle.crq_base.specs.Histories.{puts, outs, IsPending, put_of}
 use Rattle.crq_base.proofs.HistoryLaws.{began_one}
 use Rattle.crq_base.proofs.Verdicts.{contains_or}
 use Rattle.crq_base.specs.Lists.{In}
+use Rattle.crq_base.specs.declared.words.Control.{Control}
+use Rattle.crq_base.specs.declared.entry.Entry.TheVariants.{Begin}
+use Rattle.std.proofs.lemmas.Option.{same_Some}
+use Rattle.crq_rule.specs.declared.view.Sight.{Sight}
 use Rattle.crq_rule.specs.declared.view.Walk.{Walk}
 use Rattle.crq_rule.specs.Places.{IsRow, IsHead}
 use Rattle.crq_rule.specs.Core.{Core, Holding, cut_by, retired, IsOutside}
-use Rattle.crq_rule.specs.Parts.{ground_of, IsEvent, Leads}
+use Rattle.crq_rule.specs.Parts.{ground_of, IsEvent, Leads, Reaches, IsGuarded}
 use Rattle.crq_rule.specs.Ranks.{rank, head_of, Rises}
 use Rattle.crq_rule.specs.ListParts.{ranks, IsFinal, MarkFits}
 use Rattle.crq_rule.specs.HistoryParts.{StandsFrom}
 use Rattle.crq_rule.specs.Invariant.{Inv}
-use Rattle.crq_rule.specs.Stated.{IsCovered, Precedes, Ascends, IsListOf, LeadsOn, IsInHand, ListsHold, CarriersHold, HistoryHolds, IsWalking, WalkersHold}
+use Rattle.crq_rule.specs.Stated.{IsCovered, Precedes, Ascends, IsListOf, LeadsOn, IsInHand, ListsHold, CarriersHold, HistoryHolds, IsWalking, WalkersHold, StandsIn}
 use Rattle.crq_rule.specs.ListKinds.{is_cell}
 use Rattle.crq_rule.proofs.PartLaws.{sort}
-use Rattle.crq_rule.proofs.HeadLaws.{cell_listed}
-use Rattle.crq_rule.proofs.SteadyLaws.{outside_mark, listed_mark, outside_twin, open_is, shut_is}
+use Rattle.crq_rule.proofs.HeadLaws.{cell_listed, val_carries}
+use Rattle.crq_rule.proofs.SteadyLaws.{all_settled, present_is, guarded_out, outside_mark, listed_mark, outside_twin, open_is, shut_is}
 use Rattle.crq_rule.proofs.CoverLaws.{names_covered}
-use Rattle.crq_rule.proofs.SearchLaws.{stand_covered}
+use Rattle.crq_rule.proofs.SearchLaws.{with_twins, follow_rises, stand_covered}
+use Rattle.crq_rule.proofs.Prefixes.{take_all, take_in, take_more}
 
 -- Order
 
@@ -121,19 +126,35 @@ module _ (c : Core) (inv : Inv c) where
     own = inv.told.each;
     callers = inv.told.inside;
     sources = inv.told.sourced;
-    settled = inv.told.settled;
+    settled = all_settled c inv;
   }
 
   -- 8. Walkers
 
-  stands_from : (k : ℕ) (w : Walk) (front : List Entry) (e : Event) → IsWalking c k w front → head_of c.words.control e ≡ w.head → Contains (puts front) e → (Contains (outs c.history) e → ⊥)
-      → StandsFrom c.start.layout c.words.link c.words.twin c.words.event c.holding w.at e
-  stands_from k w front e walks head was kept = let from = inv.told.began k walks.inside walks.last in
-      inv.walkers.left k w front _ e walks.inside walks.walks walks.began.parts (ap length (began_one k c.history front from.0 walks.began from.2) ∙ from.1) head was kept
+  stands_from : (k : ℕ) (w : Walk) (x : Control) (front : List Entry) (e : Event) → IsWalking c k w x front → head_of x e ≡ w.head → Contains (puts front) e → (Contains (outs c.history) e → ⊥) → StandsFrom c.words.link c.words.event x.generation w.at e
+  stands_from k w x front e walks head was kept = let from = inv.told.began k walks.inside walks.last in let t = inv.walkers.walked k w walks.inside walks.walks in
+      let same : t.0.table ≡ x = ap (λ (s : Sight). s.table) (same_Some t.0 (record { table = x }) (sym t.1 ∙ walks.sees)) in
+      let long = ap length (began_one k c.history front from.0 walks.began from.2) ∙ from.1 in let low = (inv.walkers.seen k t.0 walks.inside t.1).after.0 in
+      let read = take_more put_of (length front) (c.read k) c.history e (omega arith)
+      (subst (λ h. Contains (puts (take (length front) h)) e) (sym walks.began.parts) (take_in put_of (length front) front (Begin k ∷ walks.began.back) e (le_refl _) (take_all put_of front e was))) in
+      subst (λ (z : Control). StandsFrom c.words.link c.words.event z.generation w.at e) same (t.2.left e read kept (ap (λ z. head_of z e) same ∙ head))
+
+  -- such a row is covered, and carries the event
+  from_carries : (k : ℕ) (w : Walk) (g : ℕ) (e : Event) → k < c.start.layout.workers → c.walk k ≡ Some w → StandsFrom c.words.link c.words.event g w.at e → (r : ℕ) × (0 < w.at) × StandsIn c e r × Reaches c.words.link c.words.twin w.at r
+  from_carries k w g e b is from = let t = (inv.walkers.walked k w b is).2 in
+      let v = stand_covered c inv k w.at b (⊎_elim (λ none. let some = from.some_row in absurd (omega arith)) (λ i. i.0) t.at_stand) in
+      let to = (follow_rises c inv k v.0 w.at from.row from.follows.through v.1 from.follows.path).1 in let at : IsGuarded (ground_of c) from.row = (k, v.0, to) in
+      let row = inv.lanes.is_row from.row at in let out = guarded_out c inv from.row at in let val = present_is c inv from.row row out from.kept in
+      let listed_at = cell_listed (c.holding from.row) (c.words.link from.row).mark (ap is_cell val) out (inv.marks.mark from.row row) in (
+        from.row,
+        from.some_row,
+        ((row, listed_at, val_carries (c.words.link from.row).mark (c.words.twin from.row) (c.words.link (c.words.twin from.row)).mark val), from.holds),
+        record { through = from.follows.through; path = with_twins c.words.link c.words.twin w.at from.row from.follows.through from.follows.path },
+      )
 
   pub walkers_hold : WalkersHold c
   walkers_hold = record {
-    at = λ k w b is. let o = inv.walkers.opened k w b is in (o.0, o.1, ⊎_elim inl (λ i. inr (stand_covered c inv k w.at b i)) (inv.walkers.at_stand k w b is));
-    left = λ k w front e walks head was p. let s = stands_from k w front e walks head was p.kept in (s.row, s.some_row, (s.live, s.holds), s.reached);
-    ended = λ k w front e walks none head was. ⊎_elim (λ o. o) (λ kept. let s = stands_from k w front e walks head was kept in let some = s.some_row in absurd (omega arith)) (contains_or (outs c.history) e);
+    at = λ k w b is. let t = inv.walkers.walked k w b is in (t.0, t.1, t.2.sees.0, t.2.sees.1, ⊎_elim inl (λ i. inr (stand_covered c inv k w.at b i.0)) t.2.at_stand);
+    left = λ k w x front e walks head was p. from_carries k w x.generation e walks.inside walks.walks (stands_from k w x front e walks head was p.kept);
+    ended = λ k w x front e walks none head was. ⊎_elim (λ o. o) (λ kept. let s = stands_from k w x front e walks head was kept in let some = s.some_row in absurd (omega arith)) (contains_or (outs c.history) e);
   }

@@ -1,10 +1,15 @@
 -- What holds as long as no table moves. No other file opens the part that says so.
-use Rattle.std.proofs.Common.{◌≡◌, ◌⊎◌, ⊎_elim, inl, inr, true, false, Bool, ℕ, ◌<◌, Some, refl, sym, ap, ◌∙◌, arith, ◌≤◌, subst}
-use Rattle.std.proofs.lemmas.Bool.{cases_lt, false≢true}
+use Rattle.std.proofs.Common.{◌≡◌, ◌⊎◌, ⊎_elim, inl, inr, true, false, Bool, ℕ, ◌<◌, Some, None, refl, sym, ap, ◌∙◌, arith, subst}
+use Rattle.std.proofs.lemmas.Bool.{false≢true}
 use Rattle.crq_base.specs.declared.event.Event.{Event}
 use Rattle.crq_base.specs.declared.words.Link.{Link}
 use Rattle.crq_base.specs.declared.words.Mark.TheVariants.{Val, Mov, Del}
 use Rattle.crq_base.specs.declared.words.Control.{Control}
+use Rattle.std.specs.Prelude.{Option, Contains}
+use Rattle.crq_base.specs.Histories.{puts, settleds, IsPending}
+use Rattle.crq_base.specs.Lists.{In}
+use Rattle.crq_base.proofs.Verdicts.{contains_or}
+use Rattle.crq_rule.specs.declared.debts.SettleDebt.{SettleDebt}
 use Rattle.crq_rule.specs.declared.debts.CutDebt.{CutDebt}
 use Rattle.crq_rule.specs.declared.layout.Start.{Start}
 use Rattle.crq_rule.specs.Places.{IsRow, IsHead}
@@ -14,7 +19,11 @@ use Rattle.crq_rule.specs.Ranks.{Shape, list_in, head_of, IsHeadIn, IsOpen}
 use Rattle.crq_rule.specs.ListParts.{IsShut, IsOldMark, IsOldHead, IsNewHead}
 use Rattle.crq_rule.specs.Steady.{Steady}
 use Rattle.crq_rule.specs.Invariant.{Inv}
+use Rattle.crq_rule.proofs.HeadLaws.{carries_kept}
 use Rattle.crq_rule.proofs.SizeLaws.{fitting_list}
+
+none_debt : (d : SettleDebt) → None ≡ Some d → ⊥
+none_debt d e = cc
 
 val_mov : Val ≡ Mov → ⊥
 val_mov e = cc
@@ -25,16 +34,12 @@ del_mov e = cc
 listed_hand : (q j : ℕ) → listed q ≡ in_hand j → ⊥
 listed_hand q j e = cc
 
--- what can't fail to hold of two numbers holds
-between : (a b q : ℕ) → (((a ≤ q) × (q < b) → ⊥) → ⊥) → (a ≤ q) × (q < b)
-between a b q h = (⊎_elim (λ (l : q < a). absurd (h (λ o. let p = o.0 in omega arith))) (λ l. l) (cases_lt q a), ⊎_elim (λ l. l) (λ (l : b ≤ q). absurd (h (λ o. let p = o.1 in omega arith))) (cases_lt q b))
-
-module _ (start : Start) (control : Control) (link : ℕ → Link) (holding : ℕ → Holding) (names : ℕ → DeadNames) where
+module _ (start : Start) (control : Control) (link : ℕ → Link) (holding : ℕ → Holding) (names : ℕ → DeadNames) (settling : ℕ → Option SettleDebt) where
   -- each row that is outside hands was so, and is as it was or dead now, or it is a present one of the open table
   pub steady_rows : (link' : ℕ → Link) (holding' : ℕ → Holding)
       → ((r : ℕ) → IsRow start.layout r → IsOutside holding' r → (IsOutside holding r × ((link' r).generation ≡ (link r).generation) × (((link' r).mark ≡ (link r).mark) ⊎ ((link' r).mark ≡ Del)))
       ⊎ (((link' r).generation ≡ control.generation) × ((link' r).mark ≡ Val)))
-      → Steady start control link holding names → Steady start control link' holding' names
+      → Steady start control link holding names settling → Steady start control link' holding' names settling
   steady_rows link' holding' was old = record {
     still = old.still;
     first = old.first;
@@ -42,11 +47,12 @@ module _ (start : Start) (control : Control) (link : ℕ → Link) (holding : �
     rows = λ r b out. ⊎_elim (λ h. h.1 ∙ old.rows r b h.0) (λ now. now.0) (was r b out);
     marks = λ r b out. ⊎_elim (λ h. ⊎_elim (λ same. ⊎_elim (λ v. inl (same ∙ v)) (λ d. inr (same ∙ d)) (old.marks r b h.0)) inr h.2) (λ now. inl now.1) (was r b out);
     named = old.named;
+    settled = old.settled;
   }
 
   -- each name was there, or is of a row of the open table
   pub steady_names : (names' : ℕ → DeadNames) → ((k : ℕ) (d : CutDebt) → k < start.layout.workers → HasName (names' k) d → HasName (names k) d ⊎ ((r : ℕ) × IsRow start.layout r × IsOutside holding r × (d.generation ≡ (link r).generation)))
-      → Steady start control link holding names → Steady start control link holding names'
+      → Steady start control link holding names settling → Steady start control link holding names' settling
   steady_names names' was old = record {
     still = old.still;
     first = old.first;
@@ -54,6 +60,7 @@ module _ (start : Start) (control : Control) (link : ℕ → Link) (holding : �
     rows = old.rows;
     marks = old.marks;
     named = λ k d b has. ⊎_elim (old.named k d b) (λ of. of.3 ∙ old.rows of.0 of.1 of.2) (was k d b has);
+    settled = old.settled;
   }
 
 module _ (c : Core) (inv : Inv c) where
@@ -105,6 +112,9 @@ module _ (c : Core) (inv : Inv c) where
   pub outside_mark : (r : ℕ) → IsRow c.start.layout r → IsOutside c.holding r → ((c.words.link r).mark ≡ Val) ⊎ ((c.words.link r).mark ≡ Del)
   outside_mark r row out = inv.steady.marks r row out
 
+  pub present_is : (r : ℕ) → IsRow c.start.layout r → IsOutside c.holding r → ((c.words.link r).mark ≡ Val) ⊎ ((c.words.link r).mark ≡ Mov) → (c.words.link r).mark ≡ Val
+  present_is r row out kept = ⊎_elim (λ v. v) (λ m. absurd (⊎_elim (λ v. val_mov (sym v ∙ m)) (λ d. del_mov (sym d ∙ m)) (outside_mark r row out))) kept
+
   pub listed_mark : (r q : ℕ) → IsRow c.start.layout r → c.holding r ≡ listed q → ((c.words.link r).mark ≡ Val) ⊎ ((c.words.link r).mark ≡ Del)
   listed_mark r q row is = outside_mark r row (λ j held. listed_hand q j (sym is ∙ held))
 
@@ -130,5 +140,20 @@ module _ (c : Core) (inv : Inv c) where
   pub shut_is : (q : ℕ) → IsHead q → (IsOpen c.words.control q → ⊥) → IsShut c.words.control.generation q (c.words.head q)
   shut_is q b out = inv.heads.other q b (λ o. out (subst (λ s. IsHeadIn c.words.control.generation s q) inv.sizes.now.size o)) (not_new q)
 
-  pub present_open : (q : ℕ) → IsHead q → (c.words.head q).mark ≡ Val → IsOpen c.words.control q
-  present_open q b val = between _ _ q (λ no. val_mov (sym val ∙ (shut_is q b no).mark))
+  -- An event that is pending stands in a row to which links lead from its head, where that is present and of the table of a control word that was found
+  pub list_carries : (x : Control) (q : ℕ) (e : Event) → Fits c.start c.words.control c.shape x → IsHead q → (c.words.head q).generation ≡ x.generation → IsPending c.history e → head_of x e ≡ q
+      → (r : ℕ) × In r (c.chain q) × (c.words.event r ≡ e) × (((c.words.link r).mark ≡ Val) ⊎ ((c.words.link r).mark ≡ Mov))
+  list_carries x q e fits head same pending at = let y = inv.carriers.carried e pending in
+      let in_list = inv.holders.of_chain y.1.1.0 y.0 y.1.0 y.1.1.1 in
+      let now : (c.words.head y.1.1.0).generation ≡ x.generation = sym (inv.sorted.generation y.1.1.0 y.0 in_list.0 in_list.1)
+      ∙ (outside_now y.0 y.1.0 (λ j held. listed_hand y.1.1.0 j (sym y.1.1.1 ∙ held)) ∙ ap (λ (z : Control). z.generation) (sym (fitting_now x fits))) in
+      let here : y.1.1.0 ≡ q = sym (inv.sorted.belongs y.1.1.0 y.0 in_list.0 in_list.1) ∙ ((λ k. list_in c.shape (now k) (y.2 k)) ∙ (fitting_list c.start c.words.control c.shape x fits e ∙ at)) in
+      (y.0, subst (λ z. In y.0 (c.chain z)) here in_list.1, y.2, carries_kept (c.words.link y.0).mark (c.words.twin y.0) (c.words.link (c.words.twin y.0)).mark y.1.2)
+
+  -- each event that was put is settled
+  pub all_settled : (e : Event) → Contains (puts c.history) e → Contains (settleds c.history) e
+  all_settled e put = ⊎_elim (λ s. s) (λ left. let o = inv.settling.unsettled e put left in absurd (none_debt o.2.0 (sym (inv.steady.settled o.0 o.1) ∙ o.2.1))) (contains_or (settleds c.history) e)
+
+  -- and so no event is owed
+  pub none_owed : (k : ℕ) (d : SettleDebt) → k < c.start.layout.workers → c.settling k ≡ Some d → ⊥
+  none_owed k d b is = none_debt d (sym (inv.steady.settled k b) ∙ is)

@@ -1,14 +1,14 @@
 -- A walk keeps the invariant: it comes to rows that its guard covers, or to the first row of a list.
-use Rattle.std.proofs.Common.{◌≡◌, ◌≢◌, ◌⊎◌, ⊎_elim, inl, inr, ℕ, ◌<◌, ◌≤◌, Bool, true, false, cond, eqb, ltb, leb, ◌&&◌, ◌||◌, List, [], ◌∷◌, ◌++◌, length, Option, Some, None, sym, refl, ap, ◌∙◌, subst, eq-eqb, arith}
+use Rattle.crq_rule.proofs.WalkerLaws.{walkers_at}
+use Rattle.crq_base.specs.declared.entry.Entry.TheVariants.{Begin}
+use Rattle.crq_rule.proofs.Prefixes.{of_take}
+use Rattle.std.proofs.Common.{◌≡◌, ◌≢◌, ◌⊎◌, ⊎_elim, inl, inr, ℕ, ◌<◌, ◌≤◌, Bool, true, false, cond, eqb, ltb, leb, ◌&&◌, ◌||◌, List, [], ◌∷◌, ◌++◌, length, Option, Some, None, sym, refl, ap, ◌∙◌, subst, eq-eqb, arith, pow_pos, length-append, le_refl}
 use Rattle.std.proofs.lemmas.Bool.{cond_both, eqb-true, ltb-true, leb-true, and_parts, or_cases, false≢true}
 use Rattle.std.proofs.lemmas.Option.{same_Some, none-some}
-use Rattle.std.proofs.lemmas.List.Elements.{Contains-append_left, filter_map-append}
-use Rattle.std.specs.Prelude.{Contains}
 use mathlib.Core.Logic.{dite}
 use native.Mathlib.Decide.{ℕ_discrete}
 use Rattle.crq_base.specs.declared.event.Event.{Event}
-use Rattle.crq_base.specs.declared.entry.Entry.{Entry}
-use Rattle.crq_base.specs.Histories.{puts, outs, put_of, IsPending}
+use Rattle.crq_base.specs.Histories.{put_of}
 use Rattle.crq_base.specs.declared.words.Link.{Link}
 use Rattle.crq_base.specs.declared.words.Mark.{Mark}
 use Rattle.crq_base.specs.declared.words.Mark.TheVariants.{Val, Inv as Invalid, Mov, Del}
@@ -19,24 +19,25 @@ use Rattle.crq_rule.specs.declared.view.Guard.{Guard}
 use Rattle.crq_rule.specs.declared.view.Guard.TheVariants.{Off, Entering, On}
 use Rattle.crq_rule.specs.declared.view.CutRow.{CutRow}
 use Rattle.crq_rule.specs.declared.view.Stand.{Stand}
+use Rattle.crq_rule.specs.declared.view.Sight.{Sight}
 use Rattle.crq_rule.specs.declared.view.Walk.{Walk}
 use Rattle.crq_rule.specs.Lists.{put}
 use Rattle.crq_rule.specs.Places.{IsHead}
 use Rattle.crq_rule.specs.Core.{Core, IsOutside, DeadNames, HasName, in_hand, retired}
-use Rattle.crq_rule.specs.Parts.{ground_of, Covers, IsGuarded, HasTag, IsOn, Names, IsPath, Reaches, rows_of, rows_of_old, rows_of_copy}
+use Rattle.crq_rule.specs.Parts.{ground_of, Covers, IsGuarded, HasTag, IsOn, Names, IsPath, Reaches, rows_of, rows_of_old, rows_of_copy, Leads, Follows, Fits}
 use Rattle.crq_rule.specs.ListParts.{ranks, StandFits, IsFinal, IsNamed}
-use Rattle.crq_rule.specs.HistoryParts.{StandsFrom}
-use Rattle.crq_rule.specs.Invariant.{Inv}
-use Rattle.crq_rule.specs.Ranks.{rank, list_in, head_of, IsOpen, Cell, at_head, at_row, link_at}
-use Rattle.crq_rule.specs.ListKinds.{is_final, is_passed, is_val, stands_after, walk_after, walked, is_cell, is_beyond, is_past, is_other_front, relieved, front_of, new_stand, next_stand, noted_stand, is_mov, is_inv, walked_from, MayWalk, MaySeek}
+use Rattle.crq_rule.specs.HistoryParts.{Walks, Sees}
+use Rattle.crq_rule.specs.Invariant.{Inv, takes_of}
+use Rattle.crq_rule.specs.Ranks.{rank, list_in, head_of, Cell, at_head, at_row, link_at, first_head_of}
+use Rattle.crq_rule.specs.ListKinds.{is_final, is_passed, is_val, stands_after, walk_after, walked, is_cell, is_beyond, is_past, is_other_front, relieved, front_of, new_stand, next_stand, noted_stand, is_mov, is_inv, walked_from, MayWalk, MaySeek, sight_after, read_after, begins_walk, table_seen}
 use Rattle.crq_rule.proofs.SweepLaws.{val_is, swept_walked}
 use Rattle.crq_rule.proofs.Puts.{put_here, put_else, put_all}
 use Rattle.crq_rule.proofs.PartLaws.{sort}
 use Rattle.crq_rule.proofs.CoverLaws.{row_footing}
 use Rattle.crq_rule.proofs.SizeLaws.{fitting_list, dues_named}
-use Rattle.crq_rule.proofs.HeadLaws.{cell_dead, cell_listed, passed_carries}
-use Rattle.crq_rule.proofs.SteadyLaws.{open_list, outside_now, outside_twin, guarded_out, guarded_twin, present_open, steady_names}
-use Rattle.crq_rule.proofs.Standings.{least, first_in, next_above, adjacent, longer, reached, path_in, in_join, join_in, rows_in, next_in, stood, row_stood, row_stays, row_next}
+use Rattle.crq_rule.proofs.HeadLaws.{cell_dead, cell_listed, passed_kept, passed_kept}
+use Rattle.crq_rule.proofs.SteadyLaws.{outside_twin, guarded_out, steady_names, list_carries, none_owed}
+use Rattle.crq_rule.proofs.Standings.{in_rows, in_next, least, first_in, next_above, adjacent, longer, reached, path_in, in_join, join_in, rows_in, next_in, stood, row_stood, row_stays, row_next, in_rows}
 
 -- the row is in a list
 abbrev pub IsListed : Core → ℕ → Type 0
@@ -56,7 +57,13 @@ abbrev new_names : Core → ℕ → Cell → DeadNames
 new_names c j cell = record (c.named j) { first = relieved (c.found j).control cell (c.rows j) (cell_link c cell) (cell_event c cell) (c.named j).first }
 
 abbrev new_walk : Core → ℕ → Cell → Bool → Option Walk
-new_walk c j cell seeks = walk_after cell seeks (cell_link c cell) (c.walk j)
+new_walk c j cell seeks = walk_after cell seeks (c.found j).control (cell_link c cell) (c.walk j)
+
+abbrev new_sight : Core → ℕ → Cell → Bool → Option Sight
+new_sight c j cell seeks = sight_after cell seeks (c.found j).control (cell_link c cell) (c.sight j)
+
+abbrev new_read : Core → ℕ → Cell → Bool → ℕ
+new_read c j cell seeks = read_after cell seeks (c.found j).control (cell_link c cell) (length c.history) (c.read j)
 
 module _ (c : Core) (inv : Inv c) where
   listed_some : (q : ℕ) → IsHead q → (r : ℕ) → In r (c.chain q) → 0 < r
@@ -252,71 +259,73 @@ module _ (c : Core) (j g : ℕ) (b : j < c.start.layout.workers) (on : c.guard j
         let first : l.row ≡ d.row = ap (λ z. (c.words.head z).row) (sym (eqb-true d.head p two.0)) ∙ ((is.front one.0).1 ∙ sym is.row) in
         false≢true (sym (ap (λ b. cond b false true) (eq-eqb l.row d.row first)) ∙ two.1)
 
--- what is known of the walk w of the caller j, which stands on these rows
-record WalkFits (c : Core) (j : ℕ) (rows : List ℕ) (w : Walk) : Type 0 where
-  opened : IsHead w.head × IsOpen c.words.control w.head
-  at_stand : (w.at ≡ 0) ⊎ In w.at rows
-  left : (front back : List Entry) (e : Event) → c.history ≡ front ++ back → length front ≡ c.begun j → head_of c.words.control e ≡ w.head → Contains (puts front) e → (Contains (outs c.history) e → ⊥)
-      → StandsFrom c.start.layout c.words.link c.words.twin c.words.event c.holding w.at e
+-- links lead from the first row to each other one
+followed : (link : ℕ → Link) (a y : ℕ) (xs : List ℕ) → ((r : ℕ) → In r xs → 0 < r) → Leads link a xs → In y xs → (0 < a) × Follows link a y
+followed link a y xs some leads i = reached link (λ _. 0) a y xs some leads i
 
--- the first step of a path from a row that has no twin is by its link
-first_step : (link : ℕ → Link) (twin : ℕ → ℕ) (r y : ℕ) (ps : List ℕ) → r ≢ y → twin r ≡ 0 → IsPath link twin r ps y → (0 < (link r).row) × Reaches link twin (link r).row y
-first_step link twin r y [] ne none path = absurd (ne path)
-first_step link twin r y (p ∷ ps) ne none path = ⊎_elim
-    (λ (e : (link r).row ≡ p). (subst (λ z. 0 < z) (sym e) path.0.0, record { through = ps; path = subst (λ z. IsPath link twin z ps y) (sym e) path.1 }))
-    (λ (e : twin r ≡ p). let some = path.0.0 in absurd (omega arith)) path.0.1
+-- the first step of a way is by the row's link
+first_step : (link : ℕ → Link) (r y : ℕ) (ps : List ℕ) → r ≢ y → IsPath link (λ _. 0) r ps y → (0 < (link r).row) × Follows link (link r).row y
+first_step link r y [] ne path = absurd (ne path)
+first_step link r y (p ∷ ps) ne path = ⊎_elim
+    (λ (e : (link r).row ≡ p). (subst (λ z. 0 < z) (sym e) path.0.0, record { through = ps; path = subst (λ z. IsPath link (λ _. 0) z ps y) (sym e) path.1 }))
+    (λ none. let some = path.0.0 in absurd (omega arith)) path.0.1
+
+-- what is seen where a walk begins
+record Begins (x : Option Control) (l : Link) : Type 0 where
+  control : Control
+  found : x ≡ Some control
+  val : l.mark ≡ Val
+  generation : l.generation ≡ control.generation
+
+begins_is : (x : Option Control) (l : Link) → begins_walk x l ≡ true → Begins x l
+begins_is None l t = absurd (false≢true t)
+begins_is (Some y) l t = let p = and_parts (is_val l.mark) (eqb l.generation y.generation) t in record { control = y; found = refl; val = val_is l.mark p.0; generation = eqb-true l.generation y.generation p.1 }
 
 module _ (c : Core) (j g : ℕ) (b : j < c.start.layout.workers) (on : c.guard j ≡ On g) (inv : Inv c) where
-  -- a walk that begins at a head
-  at_first : (q : ℕ) → IsHead q → (c.words.head q).mark ≡ Val → WalkFits c j (rows_of (next_stand (at_head q) (c.words.head q) (c.words.event (c.words.head q).row))) (record { head = q; at = (c.words.head q).row })
-  at_first q h val = record {
-    opened = (h, present_open c inv q h val);
-    at_stand = next_in (at_head q) (c.words.head q) (c.words.event (c.words.head q).row);
-    left = λ front back e parts _ at put kept.
-        let pending : IsPending c.history e = record {
-          put = subst (λ z. Contains (puts z) e) (sym parts) (subst (λ z. Contains z e) (sym (filter_map-append put_of front back)) (Contains-append_left (puts front) (puts back) e put));
-          kept = kept;
-        } in
-        let y = inv.carriers.carried e pending in
-        let in_list = inv.holders.of_chain y.1.1.0 y.0 y.1.0 y.1.1.1 in
-        let same : y.1.1.0 ≡ q = sym (inv.sorted.belongs y.1.1.0 y.0 in_list.0 in_list.1)
-        ∙ ((λ k. list_in c.shape ((sym (inv.sorted.generation y.1.1.0 y.0 in_list.0 in_list.1) ∙ outside_now c inv y.0 y.1.0 (listed_out c inv y.1.1.0 y.0 in_list.0 in_list.1)) k) (y.2 k)) ∙ (open_list c inv e ∙ at)) in
-        let to = reached c.words.link c.words.twin (c.words.head q).row y.0 (c.chain q) (listed_some c inv q h) (inv.chains.leads q h) (subst (λ z. In y.0 (c.chain z)) same in_list.1) in
-        record { row = y.0; some_row = to.0; live = y.1; holds = y.2; reached = to.1 };
+  -- a walk that begins at the first head of the table of the control word that was found
+  at_first : (q : ℕ) (x : Control) → IsHead q → Fits c.start c.words.control c.shape x → (c.words.head q).generation ≡ x.generation → q ≡ first_head_of x.generation
+      → Walks c.history c.words.link c.words.event (record { table = x; read = length c.history; walk = record { head = q; at = (c.words.head q).row }; rows = next_stand (at_head q) (c.words.head q) (c.words.event (c.words.head q).row) })
+  at_first q x h fits same first = record {
+    sees = (h, (omega arith, let some = pow_pos x.log in omega arith));
+    at_stand = ⊎_elim inl (λ i. inr (i, next_generation i)) (next_in (at_head q) (c.words.head q) (c.words.event (c.words.head q).row));
+    left = λ e put kept at.
+        let y = list_carries c inv x q e fits h same (record { put = of_take put_of (length c.history) c.history e put; kept = kept }) at in
+        let to = followed c.words.link (c.words.head q).row y.0 (c.chain q) (listed_some c inv q h) (inv.chains.leads q h) y.1 in
+        record { row = y.0; some_row = to.0; kept = y.3; of = inv.sorted.generation q y.0 h y.1 ∙ same; holds = y.2; follows = to.1 };
   }
+    where
+      next_generation : In (c.words.head q).row (rows_of (next_stand (at_head q) (c.words.head q) (c.words.event (c.words.head q).row))) → (c.words.link (c.words.head q).row).generation ≡ x.generation
+      next_generation i = let s = in_rows (next_stand (at_head q) (c.words.head q) (c.words.event (c.words.head q).row)) (c.words.head q).row i in
+          let some = (in_next (at_head q) (c.words.head q) (c.words.event (c.words.head q).row) s.0 s.1).0 in
+          let here = first_in c.words.link (ranks c.words.event) (c.words.head q).row (c.chain q) (inv.chains.leads q h) some in inv.sorted.generation q (c.words.head q).row h here ∙ same
 
   -- a walk that stays at its row, or goes past it
-  at_next : (r : ℕ) (rows : List ℕ) (x : Walk) → c.walk j ≡ Some x → x.at ≡ r → In r (rows_of (c.rows j)) → In r rows → ((c.words.link r).row ≡ 0) ⊎ In (c.words.link r).row rows
-      → WalkFits c j rows (cond (is_passed (c.words.link r).mark) (record x { at = (c.words.link r).row }) x)
-  at_next r rows x is at i stays next = let l = c.words.link r in cond_both (is_passed l.mark) (record x { at = l.row }) x (WalkFits c j rows)
+  at_next : (r : ℕ) (ss : List Stand) (s : Sight) (w : Walk) → Walks c.history c.words.link c.words.event (record { table = s.table; read = c.read j; walk = w; rows = c.rows j }) → w.at ≡ r → In r (rows_of (c.rows j)) → In r (rows_of ss)
+      → ((c.words.link r).row ≡ 0) ⊎ In (c.words.link r).row (rows_of ss)
+      → Walks c.history c.words.link c.words.event (record { table = s.table; read = c.read j; walk = cond (is_passed (c.words.link r).mark) (record w { at = (c.words.link r).row }) w; rows = ss })
+  at_next r ss s w old at i stays next = let l = c.words.link r in
+      cond_both (is_passed l.mark) (record w { at = l.row }) w (λ w. Walks c.history c.words.link c.words.event (record { table = s.table; read = c.read j; walk = w; rows = ss }))
       (λ passed. record {
-        opened = inv.walkers.opened j x b is;
-        at_stand = next;
-        left = λ front back e parts len of put kept. let f = inv.walkers.left j x front back e b is parts len of put kept in
-            let ne : r ≢ f.row = λ same. passed_carries (c.words.link f.row).mark (c.words.twin f.row) (c.words.link (c.words.twin f.row)).mark (subst (λ z. is_passed (c.words.link z).mark ≡ true) same passed) f.live.2 in
-            let to = first_step c.words.link c.words.twin r f.row f.reached.through ne (guarded_twin c inv r (covered_at c j g b on inv r i)) (subst (λ z. IsPath c.words.link c.words.twin z f.reached.through f.row) at f.reached.path) in
-            record { row = f.row; some_row = to.0; live = f.live; holds = f.holds; reached = to.1 };
+        sees = old.sees;
+        at_stand = dite (ℕ_discrete l.row 0) inl (λ ne. ⊎_elim inl (λ i'. inr (i', inv.lanes.generation r (covered_at c j g b on inv r i) (omega arith) ∙ here_generation)) next);
+        left = λ e put kept of. let f = old.left e put kept of in
+            let ne : r ≢ f.row = λ same. passed_kept (c.words.link f.row).mark (subst (λ z. is_passed (c.words.link z).mark ≡ true) same passed) f.kept in
+            let to = first_step c.words.link r f.row f.follows.through ne (subst (λ z. IsPath c.words.link (λ _. 0) z f.follows.through f.row) at f.follows.path) in
+            record { row = f.row; some_row = to.0; kept = f.kept; of = f.of; holds = f.holds; follows = to.1 };
       })
-      (λ _. record { opened = inv.walkers.opened j x b is; at_stand = inr (subst (λ z. In z rows) (sym at) stays); left = λ front back e. inv.walkers.left j x front back e b is })
-
-  -- each walk that there is after the step
-  walk_fits : (cell : Cell) (seeks : Bool) (w : Walk) → MayWalk (c.rows j) cell → MaySeek (c.own j) (c.walk j) cell seeks → walk_after cell seeks (cell_link c cell) (c.walk j) ≡ Some w
-      → WalkFits c j (rows_of (new_rows c j cell seeks)) w
-  walk_fits (at_head q) seeks w may seek is = let l = c.words.head q in let rows = rows_of (next_stand (at_head q) l (c.words.event l.row)) in
-      cond_both (seeks && is_val l.mark) (Some (record { head = q; at = l.row })) None (λ o. o ≡ Some w → WalkFits c j rows w)
-      (λ yes e. subst (WalkFits c j rows) (same_Some (record { head = q; at = l.row }) w e) (at_first q may (val_is l.mark (and_parts seeks (is_val l.mark) yes).1)))
-      (λ _ n. absurd (none-some w n)) is
-  walk_fits (at_row r) false w may seek is = absurd (none-some w is)
-  walk_fits (at_row r) true w may seek is = let l = c.words.link r in let e = c.words.event l.row in let ss = (c.rows j) in
-      let i = subst (λ z. In z (rows_of ss)) may.1.2 (rows_in ss may.1.0 may.1.1) in
-      let x = seek.0 in
-      subst (WalkFits c j (rows_of (stands_after (at_row r) true l e ss))) (same_Some (cond (is_passed l.mark) (record x { at = l.row }) x) w (sym (ap (walked l) seek.1) ∙ is))
-      (at_next r (rows_of (stands_after (at_row r) true l e ss)) x seek.1 seek.2 i (row_stays r true l e ss i) (row_next r true l e ss))
+      (λ _. record {
+        sees = old.sees;
+        at_stand = ⊎_elim inl (λ h. inr (subst (λ z. In z (rows_of ss)) (sym at) stays, h.1)) old.at_stand;
+        left = old.left;
+      })
+    where
+      here_generation : (c.words.link r).generation ≡ s.table.generation
+      here_generation = ⊎_elim (λ (z : w.at ≡ 0). let some = (inv.lanes.is_row r (covered_at c j g b on inv r i)).0 in absurd (omega arith)) (λ h. subst (λ z. (c.words.link z).generation ≡ s.table.generation) at h.1) old.at_stand
 
 -- What is known of the stands after a walk
 
-abbrev Fits : Core → Stand → Type 0
-Fits c = StandFits c.words.head c.words.link c.words.twin c.words.event
+abbrev Stands : Core → Stand → Type 0
+Stands c = StandFits c.words.head c.words.link c.words.twin c.words.event
 
 none_link : (l : Link) → None ≡ Some l → ⊥
 none_link l e = cc
@@ -336,11 +345,11 @@ new_front c (at_row r) q is = absurd (none_number q is)
 new_front c (at_head h) q is = cond_both (is_mov (c.words.head h).mark) (Some h) None (λ o. o ≡ Some q → ((c.words.head q).mark ≡ Mov) × ((c.words.head q).row ≡ (c.words.head h).row))
     (λ yes e. let same : h ≡ q = same_Some h q e in (ap (λ z. (c.words.head z).mark) (sym same) ∙ mov_is (c.words.head h).mark yes, ap (λ z. (c.words.head z).row) (sym same))) (λ _ e. absurd (none_number q e)) is
 
-new_fits : (c : Core) (cell : Cell) → Fits c (new_stand cell (cell_link c cell) (cell_event c cell))
+new_fits : (c : Core) (cell : Cell) → Stands c (new_stand cell (cell_link c cell) (cell_event c cell))
 new_fits c cell = record { holds = refl; last = λ l is. absurd (none_link l is); copy = λ t is. absurd (none_number t is); valid = λ v. absurd (false≢true v); front = λ q is. inr (new_front c cell q is) }
 
 -- the row of the stand s, of which the link l was found
-noted_fits : (c : Core) (s : Stand) (l : Link) → c.words.link s.row ≡ l → Fits c s → Fits c (noted_stand l s)
+noted_fits : (c : Core) (s : Stand) (l : Link) → c.words.link s.row ≡ l → Stands c s → Stands c (noted_stand l s)
 noted_fits c s l found was = record {
   holds = was.holds;
   last = λ m. cond_both (is_final l.mark) (Some l) s.last (λ o. o ≡ Some m → (c.words.link s.row ≡ m) × IsFinal m.mark)
@@ -351,12 +360,30 @@ noted_fits c s l found was = record {
   front = was.front;
 }
 
+-- a walk begins at this head
+abbrev begins : Core → ℕ → Bool → ℕ → Bool
+begins c j seeks q = seeks && begins_walk (c.found j).control (c.words.head q)
+
+abbrev Seeks : Core → ℕ → ℕ → Type 0
+Seeks c j q = MaySeek (c.own j) (c.found j).control (c.walk j) (at_head q) true
+
+-- the table of a sight was found, and is steady
+abbrev IsSteady : Core → Sight → Type 0
+IsSteady c s = Fits c.start c.words.control c.shape s.table × (s.table.moving ≡ false)
+
+abbrev Walked : Core → Sight → ℕ → List Stand → Walk → Type 0
+Walked c s read rows w = Walks c.history c.words.link c.words.event (record { table = s.table; read = read; walk = w; rows = rows })
+
 -- A walk keeps the invariant
-pub walk_keeps : (c : Core) (j : ℕ) (cell : Cell) (seeks : Bool) → j < c.start.layout.workers → IsOn (c.guard j) → MayWalk (c.rows j) cell → MaySeek (c.own j) (c.walk j) cell seeks → Inv c → Inv (walked_from c j cell seeks)
+pub walk_keeps : (c : Core) (j : ℕ) (cell : Cell) (seeks : Bool) → j < c.start.layout.workers → IsOn (c.guard j) → MayWalk (c.rows j) cell → MaySeek (c.own j) (c.found j).control (c.walk j) cell seeks → Inv c → Inv (walked_from c j cell seeks)
 walk_keeps c j cell seeks b is_on may seek inv = record {
   spelled = inv.spelled;
   reading = inv.reading;
-  finds = inv.finds;
+  finds = record {
+    controls = inv.finds.controls;
+    currents = inv.finds.currents;
+    sights = λ k s. put_all c.sight j (new_sight c j cell seeks) (λ k o. k < c.start.layout.workers → o ≡ Some s → Fits c.start c.words.control c.shape s.table × (s.table.moving ≡ false)) (λ _ is. steady_after cell seek s is) (λ k _. inv.finds.sights k s) k;
+  };
   guards = inv.guards;
   holders = inv.holders;
   cutting = inv.cutting;
@@ -369,14 +396,14 @@ walk_keeps c j cell seeks b is_on may seek inv = record {
   };
   sizes = inv.sizes;
   dues = dues_named _ _ _ _ _ _ _ (λ k d _ has. inl (names_before k d has)) inv.dues;
-  steady = steady_names _ _ _ _ _ _ (λ k d _ has. inl (names_before k d has)) inv.steady;
+  steady = steady_names _ _ _ _ _ _ _ (λ k d _ has. inl (names_before k d has)) inv.steady;
   heads = inv.heads;
   sorted = inv.sorted;
   marks = inv.marks;
   standing = record {
-    each = λ k s. put_all c.rows j (new_rows c j cell seeks) (λ k ss. k < c.start.layout.workers → In s ss → Fits c s)
-        (λ d i. ⊎_elim (inv.standing.each j s d) (⊎_elim (λ h. subst (Fits c) (sym h.1) (new_fits c cell))
-        (λ h. subst (Fits c) (sym h.3) (noted_fits c h.0 (cell_link c cell) (sym (ap (link_at c.words.head c.words.link) h.2)) (inv.standing.each j h.0 d h.1))))
+    each = λ k s. put_all c.rows j (new_rows c j cell seeks) (λ k ss. k < c.start.layout.workers → In s ss → Stands c s)
+        (λ d i. ⊎_elim (inv.standing.each j s d) (⊎_elim (λ h. subst (Stands c) (sym h.1) (new_fits c cell))
+        (λ h. subst (Stands c) (sym h.3) (noted_fits c h.0 (cell_link c cell) (sym (ap (link_at c.words.head c.words.link) h.2)) (inv.standing.each j h.0 d h.1))))
         (stood cell seeks (cell_link c cell) (cell_event c cell) (c.rows j) s i)) (λ k _. inv.standing.each k s) k;
   };
   copying = inv.copying;
@@ -408,15 +435,17 @@ walk_keeps c j cell seeks b is_on may seek inv = record {
   scarce = inv.scarce;
   refusals = inv.refusals;
   swept = swept_walked c j b inv cell seeks;
-  walkers = record {
-    opened = λ k w. put_all c.walk j (new_walk c j cell seeks) (λ k o. k < c.start.layout.workers → o ≡ Some w → IsHead w.head × IsOpen c.words.control w.head) (λ _ is. (fits w is).opened) (λ k _. inv.walkers.opened k w) k;
-    at_stand = λ k w. put_all c.walk j (new_walk c j cell seeks) (λ k o. k < c.start.layout.workers → o ≡ Some w → (w.at ≡ 0) ⊎ In w.at (rows_of (put c.rows j (new_rows c j cell seeks) k)))
-        (λ _ is. subst (λ ss. (w.at ≡ 0) ⊎ In w.at (rows_of ss)) (sym (put_here c.rows j (new_rows c j cell seeks))) (fits w is).at_stand)
-        (λ k ne d is. subst (λ ss. (w.at ≡ 0) ⊎ In w.at (rows_of ss)) (sym (put_else c.rows j (new_rows c j cell seeks) k ne)) (inv.walkers.at_stand k w d is)) k;
-    left = λ k w front back e. put_all c.walk j (new_walk c j cell seeks) (λ k o. k < c.start.layout.workers → o ≡ Some w → c.history ≡ front ++ back → length front ≡ c.begun k → head_of c.words.control e ≡ w.head → Contains (puts front) e → (Contains (outs c.history) e → ⊥)
-        → StandsFrom c.start.layout c.words.link c.words.twin c.words.event c.holding w.at e)
-        (λ _ is. (fits w is).left front back e) (λ k _. inv.walkers.left k w front back e) k;
-  };
+  settling = inv.settling;
+  walkers = walkers_at _ _ _ _ _ _ j (takes_of (walked_from c j cell seeks))
+      (λ k ne i. (c.begun k, put_else c.read j (new_read c j cell seeks) k ne i, put_else c.sight j (new_sight c j cell seeks) k ne i, put_else c.walk j (new_walk c j cell seeks) k ne i, put_else c.rows j (new_rows c j cell seeks) k ne i))
+      (λ s d is. subst (λ r. Sees c.start.layout.workers c.history c.settling (c.begun j) r s) (sym (put_here c.read j (new_read c j cell seeks))) (sees_after cell seek s (sym (put_here c.sight j (new_sight c j cell seeks)) ∙ is)))
+      (λ w d is. let n = walks_after cell may seek w (sym (put_here c.walk j (new_walk c j cell seeks)) ∙ is) in (
+        n.0,
+        put_here c.sight j (new_sight c j cell seeks) ∙ n.1,
+        subst (λ (z : ℕ × List Stand). Walks c.history c.words.link c.words.event (record { table = n.0.table; read = z.0; walk = w; rows = z.1 }))
+            (λ i. (sym (put_here c.read j (new_read c j cell seeks)) i, sym (put_here c.rows j (new_rows c j cell seeks)) i)) n.2,
+      ))
+      inv.walkers;
 }
   where
     on : (g : ℕ) × (c.guard j ≡ On g)
@@ -432,5 +461,52 @@ walk_keeps c j cell seeks b is_on may seek inv = record {
     guarded : (r : ℕ) → IsGuarded (ground_of (walked_from c j cell seeks)) r → IsGuarded (ground_of c) r ⊎ IsListed c r
     guarded r v = ⊎_elim (λ o. inl (v.0, v.1, o)) inr (old v.0 v.1 r v.2)
 
-    fits : (w : Walk) → new_walk c j cell seeks ≡ Some w → WalkFits c j (rows_of (new_rows c j cell seeks)) w
-    fits w is = walk_fits c j on.0 b on.1 inv cell seeks w may seek is
+    seeks_so : (q : ℕ) → MaySeek (c.own j) (c.found j).control (c.walk j) (at_head q) seeks → begins c j seeks q ≡ true → Seeks c j q × Begins (c.found j).control (c.words.head q)
+    seeks_so q seek t = let p = and_parts seeks (begins_walk (c.found j).control (c.words.head q)) t in (subst (MaySeek (c.own j) (c.found j).control (c.walk j) (at_head q)) p.0 seek, begins_is (c.found j).control (c.words.head q) p.1)
+
+    steady_after : (cell : Cell) → MaySeek (c.own j) (c.found j).control (c.walk j) cell seeks → (s : Sight) → new_sight c j cell seeks ≡ Some s → IsSteady c s
+    steady_after (at_row r) seek s is = inv.finds.sights j s b is
+    steady_after (at_head q) seek s is = by (begins c j seeks q) refl is
+      where
+        by : (t : Bool) → begins c j seeks q ≡ t → cond t (table_seen (c.found j).control) (c.sight j) ≡ Some s → IsSteady c s
+        by false t is = inv.finds.sights j s b is
+        by true t is = let y = (seeks_so q seek t).0.1 in subst (IsSteady c) (same_Some (record { table = y.0 }) s (sym (ap table_seen y.1) ∙ is)) (inv.finds.controls j y.0 b y.1, y.2)
+
+    -- a take that begins to walk has read the table after its Begin
+    sees_after : (cell : Cell) → MaySeek (c.own j) (c.found j).control (c.walk j) cell seeks → (s : Sight) → new_sight c j cell seeks ≡ Some s → Sees c.start.layout.workers c.history c.settling (c.begun j) (new_read c j cell seeks) s
+    sees_after (at_row r) seek s is = inv.walkers.seen j s b is
+    sees_after (at_head q) seek s is = by (begins c j seeks q) refl is
+      where
+        by : (t : Bool) → begins c j seeks q ≡ t → cond t (table_seen (c.found j).control) (c.sight j) ≡ Some s → Sees c.start.layout.workers c.history c.settling (c.begun j) (cond t (length c.history) (c.read j)) s
+        by false t is = inv.walkers.seen j s b is
+        by true t is = let began = inv.told.began j b (seeks_so q seek t).0.0 in record {
+          after = (let wide = ap length began.2.parts ∙ length-append began.0 (Begin j ∷ began.2.back) in let long = began.1 in omega arith, le_refl _);
+          owed = λ i d e owes _. absurd (none_owed c inv i d e owes);
+        }
+
+    walks_after : (cell : Cell) → MayWalk (c.rows j) cell → MaySeek (c.own j) (c.found j).control (c.walk j) cell seeks → (w : Walk) → new_walk c j cell seeks ≡ Some w
+        → (s : Sight) × (new_sight c j cell seeks ≡ Some s) × Walked c s (new_read c j cell seeks) (new_rows c j cell seeks) w
+    walks_after (at_head q) may seek w is = by (begins c j seeks q) refl is
+      where
+        by : (t : Bool) → begins c j seeks q ≡ t → cond t (Some (record { head = q; at = (c.words.head q).row })) None ≡ Some w
+            → (s : Sight) × (cond t (table_seen (c.found j).control) (c.sight j) ≡ Some s) × Walked c s (cond t (length c.history) (c.read j)) (new_rows c j (at_head q) seeks) w
+        by false t is = absurd (none-some w is)
+        by true t is = let so = seeks_so q seek t in let y = so.0.1 in
+            let same : so.1.control ≡ y.0 = same_Some so.1.control y.0 (sym so.1.found ∙ y.1) in (
+              record { table = y.0 },
+              ap table_seen y.1,
+              subst (Walked c (record { table = y.0 }) (length c.history) (new_rows c j (at_head q) seeks)) (same_Some (record { head = q; at = (c.words.head q).row }) w is)
+                  (at_first c j on.0 b on.1 inv q y.0 may (inv.finds.controls j y.0 b y.1) (so.1.generation ∙ ap (λ (z : Control). z.generation) same) y.3),
+            )
+    walks_after (at_row r) may seek w is = by seeks seek is
+      where
+        by : (t : Bool) → MaySeek (c.own j) (c.found j).control (c.walk j) (at_row r) t → cond t (walked (c.words.link r) (c.walk j)) None ≡ Some w → (s : Sight) × (c.sight j ≡ Some s) × Walked c s (c.read j) (new_rows c j (at_row r) t) w
+        by false seek is = absurd (none-some w is)
+        by true seek is = let l = c.words.link r in let e = c.words.event l.row in let ss = c.rows j in let x = seek.0 in
+            let i = subst (λ z. In z (rows_of ss)) may.1.2 (rows_in ss may.1.0 may.1.1) in
+            let old = inv.walkers.walked j x b seek.1 in (
+              old.0,
+              old.1,
+              subst (Walked c old.0 (c.read j) (new_rows c j (at_row r) true)) (same_Some (cond (is_passed l.mark) (record x { at = l.row }) x) w (sym (ap (walked l) seek.1) ∙ is))
+                  (at_next c j on.0 b on.1 inv r (new_rows c j (at_row r) true) old.0 x old.2 seek.2 i (row_stays r true l e ss i) (row_next r true l e ss)),
+            )

@@ -39,7 +39,7 @@ use Rattle.crq_rule.proofs.HolderLaws.{none_some, some_some}
 use Rattle.crq_rule.proofs.Pendings.{none_counted}
 use Rattle.crq_rule.proofs.ScarceLaws.{none_base}
 use Rattle.crq_rule.proofs.SweepLaws.{none_sweep}
-use Rattle.crq_rule.proofs.ListOpening.{no_walk}
+use Rattle.crq_rule.proofs.ListOpening.{no_sight, no_settle, no_walk}
 use Rattle.crq_rule.proofs.Counting.{rows_in, in_rows, rows_once}
 use Rattle.crq_rule.proofs.Openings.{opening_link, opening_inv}
 
@@ -293,7 +293,6 @@ told = record {
   each = put_all (λ _. []) 0 entries (λ j es. j < 2 → own_of j entries ≡ es) (λ _. refl) (λ j ne _. own_other j (Put 0 event ∷ []) (Settled 0 event) (λ e. ne (sym e)) ∙ own_other j [] (Put 0 event) (λ e. ne (sym e)));
   inside = λ e i. ⊎_elim (λ (z : e ≡ Put 0 event). subst (λ x. whose x < 2) (sym z) (omega arith)) (λ t. ⊎_elim (λ (z : e ≡ Settled 0 event). subst (λ x. whose x < 2) (sym z) (omega arith)) (λ n. absurd n) t) i;
   sourced = λ j e i. ⊎_elim (λ z. by_put j e z) (λ t. ⊎_elim (λ z. absurd (put_settled j e z)) (λ n. absurd n) t) i;
-  settled = λ _ i. i;
   begun_low = λ _ _. omega arith;
   began = λ j. put_all (λ _. []) 0 entries (λ j es. j < 2 → EndsInBegin es → (front : List Entry) × (length front ≡ 0) × Began j entries front)
       (λ _ e. absurd (settled_begin e.1 (last_one (Put 0 event ∷ []) e.0 (Settled 0 event) (Begin e.1) e.2))) (λ _ _ _ e. absurd (not_nil e.0 [] (Begin e.1) (sym e.2))) j;
@@ -353,7 +352,7 @@ core_inv = record {
     rows = λ r _ _. let g = generation r in omega arith;
   };
   dues = old.dues;
-  steady = record { still = refl; first = refl; one = refl; rows = λ r _ _. generation r; marks = λ r _ _. present_dead r; named = old.steady.named };
+  steady = record { still = refl; first = refl; one = refl; rows = λ r _ _. generation r; marks = λ r _ _. present_dead r; named = old.steady.named; settled = old.steady.settled };
   heads = next_head;
   sorted = sorted;
   marks = marks;
@@ -364,7 +363,8 @@ core_inv = record {
   naming = naming;
   carriers = carriers;
   told = told;
-  walkers = record { opened = old.walkers.opened; at_stand = λ k w b at. absurd (no_walk w at); left = λ k w _ _ _ _ at _ _ _ _ _. absurd (no_walk w at) };
+  settling = record { owed = λ k d b is. absurd (no_settle d is); unsettled = λ _ put left. absurd (left put); lone = λ _ _ d _ _ _ is _ _. absurd (no_settle d is) };
+  walkers = record { seen = λ _ x _ is. absurd (no_sight x is); walked = λ _ w _ is. absurd (no_walk w is) };
   scarce = record { each = λ k b _ is. absurd (none_base b is) };
   refusals = record { each = λ k _. none_counted entries k };
   swept = record { left = λ k r s _ is. absurd (none_sweep s is); clean_is = λ k q r _ i. absurd i };

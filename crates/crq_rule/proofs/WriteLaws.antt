@@ -4,14 +4,12 @@ use mathlib.Core.Logic.{dite}
 use native.Mathlib.Decide.{ℕ_discrete}
 use Rattle.crq_base.specs.declared.event.Event.{Event}
 use Rattle.crq_base.specs.declared.words.Link.{Link}
-use Rattle.crq_base.specs.declared.words.Mark.TheVariants.{Mov, Del}
+use Rattle.crq_base.specs.declared.words.Mark.TheVariants.{Val, Mov, Del}
 use Rattle.crq_base.specs.Words.{IsLink}
 use Rattle.crq_base.specs.Histories.{IsPending}
 use Rattle.crq_base.specs.Lists.{In}
 use Rattle.crq_rule.specs.declared.view.Guard.{Guard}
-use Rattle.crq_rule.specs.declared.view.Guard.TheVariants.{On}
 use Rattle.crq_rule.specs.declared.view.Stand.{Stand}
-use Rattle.crq_rule.specs.declared.view.Walk.{Walk}
 use Rattle.crq_rule.specs.declared.view.Wrote.{Wrote}
 use Rattle.crq_rule.specs.Lists.{put}
 use Rattle.crq_rule.specs.Places.{IsRow, IsHead}
@@ -19,13 +17,15 @@ use Rattle.crq_rule.specs.Core.{Core, IsOutside, HasName, in_hand, listed}
 use Rattle.crq_rule.specs.Parts.{newest, Ground, ground_of, footings, IsEvent, IsGuarded, Leads, Names, IsPath, Reaches, Covers, rows_of}
 use Rattle.crq_rule.specs.Ranks.{rank, list_in, Rises}
 use Rattle.crq_rule.specs.ListParts.{ranks, MarkFits, StandFits, IsFinal, IsNamed, row_word}
-use Rattle.crq_rule.specs.HistoryParts.{IsCarrying, IsLive}
+use Rattle.crq_rule.specs.HistoryParts.{IsCarrying, IsLive, StandsFrom}
 use Rattle.crq_rule.specs.Invariant.{Inv}
 use Rattle.crq_rule.specs.ListKinds.{Content, new_link, no_twin, new_time, new_source, new_sequence, new_load, IsContent, content_number, content_word, link_after, twin_after, event_after, unwritten, wrote, written_at}
 use Rattle.crq_rule.proofs.SweepLaws.{swept_events}
 use Rattle.crq_rule.proofs.Puts.{put_here, put_else, put_all}
 use Rattle.crq_rule.proofs.PartLaws.{home_is_row, sort, of_whom}
 use Rattle.crq_rule.specs.declared.debts.CutDebt.{CutDebt}
+use Rattle.crq_rule.proofs.SearchLaws.{follow_rises}
+use Rattle.crq_rule.proofs.WalkerLaws.{walkers_links}
 use Rattle.crq_rule.proofs.SizeLaws.{sizes_rows}
 use Rattle.crq_rule.proofs.SteadyLaws.{steady_rows}
 use Rattle.crq_rule.proofs.CoverLaws.{stand_row, old_footing, row_footing, names_covered, footing_covered}
@@ -65,13 +65,6 @@ module _ (link link' : ℕ → Link) (twin twin' : ℕ → ℕ) (r : ℕ) (same 
         through = v.reaches.through;
         path = path_back v.at s v.reaches.through (λ x t. out x (record { inside = v.inside; on = v.on; at = v.at; stands = v.stands; reaches = t })) v.reaches.path;
       };
-    }
-
-    -- what is reached from a row on which a caller stands is reached by the new ones
-    pub reaches_same : (k g a b : ℕ) → ((x : ℕ) → Covers ground k g x → x ≢ r) → k < workers → guard k ≡ On g → In a (footing k) → Reaches link twin a b → Reaches link' twin' a b
-    reaches_same k g a b out inside on i t = record {
-      through = t.through;
-      path = path_stays a b t.through (λ s u. out s (record { inside = inside; on = on; at = a; stands = i; reaches = u })) t.path;
     }
 
   -- a list without r
@@ -261,7 +254,7 @@ module _ (c : Core) (j r : ℕ) (x : Content) (b : j < c.start.layout.workers) (
     };
     sizes = sizes_rows _ _ _ _ _ _ _ _ _ (λ _ _. refl) (λ s _ out. inl (out, ap (λ (l : Link). l.generation) (links_else s (λ e. out j (ap c.holding e ∙ held))))) inv.sizes;
     dues = inv.dues;
-    steady = steady_rows _ _ _ _ _ _ _ (λ s _ out. let same = links_else s (λ e. out j (ap c.holding e ∙ held)) in inl (out, ap (λ (l : Link). l.generation) same, inl (ap (λ (l : Link). l.mark) same))) inv.steady;
+    steady = steady_rows _ _ _ _ _ _ _ _ (λ s _ out. let same = links_else s (λ e. out j (ap c.holding e ∙ held)) in inl (out, ap (λ (l : Link). l.generation) same, inl (ap (λ (l : Link). l.mark) same))) inv.steady;
     heads = inv.heads;
     sorted = record {
       rises = λ q d. rises_same (ranks c.words.event) (ranks event) 0 (c.chain q) (λ s i. ap (λ e. rank e s) (events_else s (chained_else q s d i))) (inv.sorted.rises q d);
@@ -308,17 +301,8 @@ module _ (c : Core) (j r : ℕ) (x : Content) (b : j < c.start.layout.workers) (
     scarce = inv.scarce;
     refusals = inv.refusals;
     swept = swept_events _ _ _ _ _ _ event (λ q s d i. events_else s (chained_else q s d i)) inv.swept;
-    walkers = record {
-      opened = inv.walkers.opened;
-      at_stand = inv.walkers.at_stand;
-      left = λ k v front back e d at parts long q put_before kept. let h = inv.walkers.left k v front back e d at parts long q put_before kept in record {
-        row = h.row;
-        some_row = h.some_row;
-        live = live_new h.row h.live;
-        holds = live_event h.row h.live ∙ h.holds;
-        reached = reached k v h.row d at h.some_row h.reached;
-      };
-    };
+    settling = inv.settling;
+    walkers = walkers_links _ _ _ _ _ _ link event (λ k a d i. let v = on_stand k a d i in ap (λ (l : Link). l.generation) (links_else a (covered_else k v.0 a v.1))) (λ k g a e d i _. from_new k g a e d i) inv.walkers;
   }
     where
       wrote_in : (y : Wrote) → In y new_words → In y.row (c.hand j) × (y.place < 6)
@@ -344,11 +328,20 @@ module _ (c : Core) (j r : ℕ) (x : Content) (b : j < c.start.layout.workers) (
           (word_here (content_number x) ∙ word_new x (c.words.link r) (c.words.twin r) (c.words.event r)))
           (λ t. let h = in_unwritten r (content_number x) (c.written j) y t in word_old j y b h.0 h.1) i
 
-      -- what links lead to from the row at which a walk stands they still lead to
-      reached : (k : ℕ) (v : Walk) (s : ℕ) → k < c.start.layout.workers → c.walk k ≡ Some v → 0 < v.at → Reaches c.words.link c.words.twin v.at s → Reaches link twin v.at s
-      reached k v s d at some t = ⊎_elim (λ (e : v.at ≡ 0). absurd (omega arith))
-          (λ i. let u = on_stand k v.at d i in reaches_same c.words.link link c.words.twin twin r links_else twins_else c.start.layout.workers c.guard (footings c.rows c.old c.copying) k u.0 v.at s (λ y. covered_else k u.0 y) d u.1.on (row_footing c.rows c.old c.copying k v.at i) t)
-          (inv.walkers.at_stand k v d at)
+      -- what stands from a row on which a caller stands does so still
+      from_new : (k g a : ℕ) (e : Event) → k < c.start.layout.workers → In a (rows_of (c.rows k)) → StandsFrom c.words.link c.words.event g a e → StandsFrom link event g a e
+      from_new k g a e d i old = let v = on_stand k a d i in let to = (follow_rises c inv k v.0 a old.row old.follows.through v.1 old.follows.path).1 in let ne = covered_else k v.0 old.row to in record {
+        row = old.row;
+        some_row = old.some_row;
+        kept = subst (λ (l : Link). (l.mark ≡ Val) ⊎ (l.mark ≡ Mov)) (sym (links_else old.row ne)) old.kept;
+        of = ap (λ (l : Link). l.generation) (links_else old.row ne) ∙ old.of;
+        holds = events_else old.row ne ∙ old.holds;
+        follows = record {
+          through = old.follows.through;
+          path = path_stays c.words.link link (λ _. 0) (λ _. 0) r links_else (λ _ _. refl) a old.row old.follows.through
+              (λ s t. covered_else k v.0 s (follow_rises c inv k v.0 a s t.through v.1 t.path).1) old.follows.path;
+        };
+      }
 
 -- Write
 pub write_keeps : (c : Core) (j r : ℕ) (x : Content) → j < c.start.layout.workers → In r (c.hand j) → IsContent x → Inv c → Inv (written_at c j r x)

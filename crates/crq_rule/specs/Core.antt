@@ -16,6 +16,7 @@ use Rattle.crq_rule.specs.declared.view.Deal.{Deal}
 use Rattle.crq_rule.specs.declared.view.Stand.{Stand}
 use Rattle.crq_rule.specs.declared.view.Found.{Found}
 use Rattle.crq_rule.specs.declared.view.Wrote.{Wrote}
+use Rattle.crq_rule.specs.declared.view.Sight.{Sight}
 use Rattle.crq_rule.specs.declared.view.Walk.{Walk}
 use Rattle.crq_rule.specs.declared.view.Help.{Help}
 use Rattle.crq_rule.specs.declared.view.Sweep.{Sweep}
@@ -52,7 +53,7 @@ pub record Core : Type 0 where
   pub chain : ℕ → List ℕ
   -- by row
   pub holding : ℕ → Holding
-  -- by caller: the lengths of the history at its last Begin, and when it last read current or began a search
+  -- by caller: the lengths of the history at its last Begin, and when its take last read a table
   pub begun : ℕ → ℕ
   pub read : ℕ → ℕ
   -- by caller, what its view has
@@ -75,6 +76,7 @@ pub record Core : Type 0 where
   pub old : ℕ → Option Stand
   pub found : ℕ → Found
   pub written : ℕ → List Wrote
+  pub sight : ℕ → Option Sight
   pub walk : ℕ → Option Walk
   pub help : ℕ → Option Help
   pub sweep : ℕ → Option Sweep
@@ -110,6 +112,7 @@ caller_of c j = record {
   position = record { rows = c.rows j; old = c.old j };
   found = c.found j;
   written = c.written j;
+  sight = c.sight j;
   walk = c.walk j;
   help = c.help j;
   sweep = c.sweep j;

@@ -1,5 +1,5 @@
 -- The parts of the invariant on the history: who made which entry, which row carries which pending event, and how far a take that walks has come.
-use Rattle.std.specs.Prelude.{◌≡◌, ◌⊎◌, ℕ, ◌<◌, ◌≤◌, List, [], ◌∷◌, ◌++◌, length, Option, Some, Contains}
+use Rattle.std.specs.Prelude.{◌≡◌, ◌⊎◌, ℕ, ◌<◌, ◌≤◌, List, [], ◌∷◌, ◌++◌, length, take, Option, Some, Contains}
 use Rattle.crq_base.specs.declared.event.Event.{Event}
 use Rattle.crq_base.specs.declared.entry.Entry.{Entry}
 use Rattle.crq_base.specs.declared.entry.Entry.TheVariants.{Begin, Put}
@@ -14,10 +14,12 @@ use Rattle.crq_base.specs.Sources.{owner_of}
 use Rattle.crq_rule.specs.declared.layout.Layout.{Layout}
 use Rattle.crq_rule.specs.declared.view.Deal.{Deal}
 use Rattle.crq_rule.specs.declared.view.Stand.{Stand}
+use Rattle.crq_rule.specs.declared.debts.SettleDebt.{SettleDebt}
+use Rattle.crq_rule.specs.declared.view.Sight.{Sight}
 use Rattle.crq_rule.specs.declared.view.Walk.{Walk}
 use Rattle.crq_rule.specs.Places.{IsRow, IsHead}
 use Rattle.crq_rule.specs.Core.{Holding, listed}
-use Rattle.crq_rule.specs.Parts.{Reaches, rows_of}
+use Rattle.crq_rule.specs.Parts.{Follows, rows_of}
 use Rattle.crq_rule.specs.Ranks.{head_of, IsOpen}
 
 -- 15. Carriers: each pending event stands in one row that carries it, and each such row holds a pending event
@@ -52,22 +54,54 @@ pub record Told (n : ℕ) (history : List Entry) (deal : Deal) (own : ℕ → Li
   pub each : (j : ℕ) → j < n → own_of j since ≡ own j
   pub inside : (e : Entry) → In e since → whose e < n
   pub sourced : (j : ℕ) (e : Event) → In (Put j e) since → owner_of n deal.span e.src ≡ j
-  -- an event is settled with its put
-  pub settled : (e : Event) → Contains (puts history) e → Contains (settleds history) e
   pub begun_low : (j : ℕ) → j < n → begun j ≤ length history
   pub began : (j : ℕ) → j < n → EndsInBegin (own j) → (front : List Entry) × (length front ≡ begun j) × Began j history front
 
--- 17. Walkers: each event of the list that was put before the caller's last Begin and is pending stands in a row at which the caller is, or that links lead to from there
+-- 17. Settling: an event that was put and isn't settled is owed by the one caller that put it
+pub record Settling (n : ℕ) (history : List Entry) (settling : ℕ → Option SettleDebt) : Type 0 where
+  pub owed : (k : ℕ) (d : SettleDebt) → k < n → settling k ≡ Some d → In (Put k d.event) history × (Contains (settleds history) d.event → ⊥)
+  pub unsettled : (e : Event) → Contains (puts history) e → (Contains (settleds history) e → ⊥) → (k : ℕ) × (k < n) × ((d : SettleDebt) × (settling k ≡ Some d) × (d.event ≡ e))
+  pub lone : (i k : ℕ) (d f : SettleDebt) → i < n → k < n → settling i ≡ Some d → settling k ≡ Some f → d.event ≡ f.event → i ≡ k
 
-pub record StandsFrom (l : Layout) (link : ℕ → Link) (twin : ℕ → ℕ) (event : ℕ → Event) (holding : ℕ → Holding) (at : ℕ) (e : Event) : Type 0 where
+-- 18. Walkers: each event of the list that was put before the take read the table, and is pending, stands in a row at which the take is, or to which links lead from there
+
+-- what is known of takes, by caller: the lengths of the history at the last Begin, and when the table was read; the table; how far the take walked, and the rows on which its caller stands
+pub record Takes : Type 0 where
+  pub begun : ℕ → ℕ
+  pub read : ℕ → ℕ
+  pub sight : ℕ → Option Sight
+  pub walk : ℕ → Option Walk
+  pub rows : ℕ → List Stand
+
+-- the event e stands in a present or frozen row of the generation g, to which links lead from the row `at`. They do so whatever becomes of other rows, and of the table
+pub record StandsFrom (link : ℕ → Link) (event : ℕ → Event) (g at : ℕ) (e : Event) : Type 0 where
   pub row : ℕ
   pub some_row : 0 < at
-  pub live : IsLive l link twin holding row
+  pub kept : ((link row).mark ≡ Val) ⊎ ((link row).mark ≡ Mov)
+  pub of : (link row).generation ≡ g
   pub holds : event row ≡ e
-  pub reached : Reaches link twin at row
+  pub follows : Follows link at row
 
-pub record Walkers (l : Layout) (control : Control) (history : List Entry) (begun : ℕ → ℕ) (link : ℕ → Link) (twin : ℕ → ℕ) (event : ℕ → Event) (holding : ℕ → Holding) (rows : ℕ → List Stand) (walk : ℕ → Option Walk) : Type 0 where
-  pub opened : (k : ℕ) (w : Walk) → k < l.workers → walk k ≡ Some w → IsHead w.head × IsOpen control w.head
-  pub at_stand : (k : ℕ) (w : Walk) → k < l.workers → walk k ≡ Some w → (w.at ≡ 0) ⊎ In w.at (rows_of (rows k))
-  pub left : (k : ℕ) (w : Walk) (front back : List Entry) (e : Event) → k < l.workers → walk k ≡ Some w → history ≡ front ++ back → length front ≡ begun k
-      → head_of control e ≡ w.head → Contains (puts front) e → (Contains (outs history) e → ⊥) → StandsFrom l link twin event holding w.at e
+-- of a take that read a table when the history had `read` entries: an event that is owed to an older table was put before that
+pub record Sees (n : ℕ) (history : List Entry) (settling : ℕ → Option SettleDebt) (begun read : ℕ) (s : Sight) : Type 0 where
+  pub after : (begun < read) × (read ≤ length history)
+  pub owed : (i : ℕ) (d : SettleDebt) → i < n → settling i ≡ Some d → d.generation < s.table.generation → Contains (puts (take read history)) d.event
+
+-- one take that walks, and its table
+pub record Walking : Type 0 where
+  pub table : Control
+  pub read : ℕ
+  pub walk : Walk
+  pub rows : List Stand
+
+pub record Walks (history : List Entry) (link : ℕ → Link) (event : ℕ → Event) (t : Walking) : Type 0 where
+  pub sees : IsHead t.walk.head × IsOpen t.table t.walk.head
+  pub at_stand : (t.walk.at ≡ 0) ⊎ (In t.walk.at (rows_of t.rows) × ((link t.walk.at).generation ≡ t.table.generation))
+  pub left : (e : Event) → Contains (puts (take t.read history)) e → (Contains (outs history) e → ⊥) → head_of t.table e ≡ t.walk.head → StandsFrom link event t.table.generation t.walk.at e
+
+abbrev pub walking : Takes → ℕ → Sight → Walk → Walking
+walking takes k s w = record { table = s.table; read = takes.read k; walk = w; rows = takes.rows k }
+
+pub record Walkers (n : ℕ) (history : List Entry) (settling : ℕ → Option SettleDebt) (takes : Takes) (link : ℕ → Link) (event : ℕ → Event) : Type 0 where
+  pub seen : (k : ℕ) (s : Sight) → k < n → takes.sight k ≡ Some s → Sees n history settling (takes.begun k) (takes.read k) s
+  pub walked : (k : ℕ) (w : Walk) → k < n → takes.walk k ≡ Some w → (s : Sight) × (takes.sight k ≡ Some s) × Walks history link event (walking takes k s w)

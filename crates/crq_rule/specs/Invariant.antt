@@ -3,13 +3,16 @@ use Rattle.crq_rule.specs.Core.{Core}
 use Rattle.crq_rule.specs.Parts.{ground_of, Spelled, Reading, Finds, Guards, Holders, Cutting, Stamps, Chains, Cover}
 use Rattle.crq_rule.specs.ListParts.{Sizes, Dues, Heads, Sorted, Marks, Standing, Copying, Lanes, Writing, Naming}
 use Rattle.crq_rule.specs.Steady.{Steady}
-use Rattle.crq_rule.specs.HistoryParts.{Carriers, Told, Walkers}
+use Rattle.crq_rule.specs.HistoryParts.{Carriers, Told, Settling, Takes, Walkers}
 use Rattle.crq_rule.specs.ScarceParts.{Scarce, Refusals, Swept}
+
+abbrev pub takes_of : Core → Takes
+takes_of c = record { begun = c.begun; read = c.read; sight = c.sight; walk = c.walk; rows = c.rows }
 
 pub record Inv (c : Core) : Type 0 where
   pub spelled : Spelled c.start.layout c.words.control c.words.current c.words.pin c.words.head c.words.link c.words.twin c.words.event
   pub reading : Reading c.start.layout.workers c.words.epoch c.epochs c.tick c.cut
-  pub finds : Finds c.start c.words.control c.shape c.words.current c.found
+  pub finds : Finds c.start c.words.control c.shape c.words.current c.found c.sight
   pub guards : Guards c.start.layout.workers c.words.epoch c.words.announced c.guard c.tick
   pub holders : Holders c.start.layout c.hand c.cut c.chain c.holding
   pub cutting : Cutting c.start.layout.workers c.guard c.cut
@@ -18,7 +21,7 @@ pub record Inv (c : Core) : Type 0 where
   pub cover : Cover (ground_of c) c.cut c.holding
   pub sizes : Sizes c.start c.words.control c.shape c.words.head c.words.link c.holding
   pub dues : Dues c.start.layout.workers c.words.control c.shape c.settling c.copying c.named
-  pub steady : Steady c.start c.words.control c.words.link c.holding c.named
+  pub steady : Steady c.start c.words.control c.words.link c.holding c.named c.settling
   pub heads : Heads c.words.control c.shape c.words.head
   pub sorted : Sorted c.shape c.words.head c.words.link c.words.event c.chain
   pub marks : Marks c.start.layout c.words.control c.words.head c.words.link c.words.twin c.holding
@@ -29,7 +32,8 @@ pub record Inv (c : Core) : Type 0 where
   pub naming : Naming c.start.layout c.words.head c.words.link c.words.event c.named c.holding
   pub carriers : Carriers c.start.layout c.history c.words.link c.words.twin c.words.event c.holding
   pub told : Told c.start.layout.workers c.history c.deal c.own c.begun
-  pub walkers : Walkers c.start.layout c.words.control c.history c.begun c.words.link c.words.twin c.words.event c.holding c.rows c.walk
+  pub settling : Settling c.start.layout.workers c.history c.settling
+  pub walkers : Walkers c.start.layout.workers c.history c.settling (takes_of c) c.words.link c.words.event
   pub scarce : Scarce c.start.layout c.words.epoch c.history c.base c.guard c.holding
   pub refusals : Refusals c.start.layout.workers c.history c.refused
   pub swept : Swept c.start.layout c.history c.words.event c.chain c.sweep c.clean

@@ -13,6 +13,7 @@ use Rattle.crq_base.specs.Sources.{IsFresh}
 use Rattle.crq_rule.specs.declared.debts.CutDebt.{CutDebt}
 use Rattle.crq_rule.specs.declared.view.Stand.{Stand}
 use Rattle.crq_rule.specs.declared.view.Wrote.{Wrote}
+use Rattle.crq_rule.specs.declared.view.Sight.{Sight}
 use Rattle.crq_rule.specs.declared.view.Walk.{Walk}
 use Rattle.crq_rule.specs.declared.view.Sweep.{Sweep}
 use Rattle.crq_rule.specs.declared.view.Caller.{Caller}
@@ -22,7 +23,7 @@ use Rattle.crq_rule.specs.Core.{Core, listed, cut_by}
 use Rattle.crq_rule.specs.Parts.{IsEvent, IsOn}
 use Rattle.crq_rule.specs.ListParts.{row_word}
 use Rattle.crq_rule.specs.HistoryParts.{EndsInBegin}
-use Rattle.crq_rule.specs.Ranks.{rank, Shape, list_in, head_of, Cell, at_head, at_row, link_at, heads_set, links_set, after_cell, without_row}
+use Rattle.crq_rule.specs.Ranks.{rank, first_head_of, Shape, list_in, head_of, Cell, at_head, at_row, link_at, heads_set, links_set, after_cell, without_row}
 
 -- the word of an event at a place of its row
 abbrev pub event_word : Event → ℕ → ℕ
@@ -189,9 +190,27 @@ abbrev pub walked : Link → Option Walk → Option Walk
 walked l None = None
 walked l (Some w) = Some (cond (is_passed l.mark) (record w { at = l.row }) w)
 
-abbrev pub walk_after : Cell → Bool → Link → Option Walk → Option Walk
-walk_after (at_head q) seeks l w = cond (seeks && is_val l.mark) (Some (record { head = q; at = l.row })) None
-walk_after (at_row r) seeks l w = cond seeks (walked l w) None
+-- a take begins to walk at a head that is present and of the table of the control word that it found
+abbrev pub begins_walk : Option Control → Link → Bool
+begins_walk None l = false
+begins_walk (Some x) l = is_val l.mark && (l.generation == x.generation)
+
+abbrev pub walk_after : Cell → Bool → Option Control → Link → Option Walk → Option Walk
+walk_after (at_head q) seeks x l w = cond (seeks && begins_walk x l) (Some (record { head = q; at = l.row })) None
+walk_after (at_row r) seeks x l w = cond seeks (walked l w) None
+
+-- and then it has read that table, when the history had m entries
+abbrev pub table_seen : Option Control → Option Sight
+table_seen None = None
+table_seen (Some x) = Some (record { table = x })
+
+abbrev pub sight_after : Cell → Bool → Option Control → Link → Option Sight → Option Sight
+sight_after (at_head q) seeks x l s = cond (seeks && begins_walk x l) (table_seen x) s
+sight_after (at_row r) seeks x l s = s
+
+abbrev pub read_after : Cell → Bool → Option Control → Link → ℕ → ℕ → ℕ
+read_after (at_head q) seeks x l m read = cond (seeks && begins_walk x l) m read
+read_after (at_row r) seeks x l m read = read
 
 -- the dead row d is of the cell's list, and stands after the cell, or at it
 abbrev pub is_beyond : Option Control → Cell → List Stand → CutDebt → Bool
@@ -242,7 +261,8 @@ clean_on (Some q) l qs = cond (is_val l.mark && (l.row == 0)) (q ∷ qs) qs
 abbrev pub walks : Cell → Bool → Link → Event → Caller → Caller
 walks cell seeks l e p = record p {
   position = record { rows = stands_after cell seeks l e p.position.rows; old = p.position.old };
-  walk = walk_after cell seeks l p.walk;
+  sight = sight_after cell seeks p.found.control l p.sight;
+  walk = walk_after cell seeks p.found.control l p.walk;
   sweep = sweep_on (taken_on seeks p.found.control cell p.position.rows p.sweep) l e p.sweep;
   clean = clean_on (taken_on seeks p.found.control cell p.position.rows p.sweep) l p.clean;
   debts = record p.debts { cut = relieved p.found.control cell p.position.rows l e p.debts.cut };
@@ -251,7 +271,9 @@ walks cell seeks l e p = record p {
 abbrev pub walked_from : Core → ℕ → Cell → Bool → Core
 walked_from c j cell seeks = let l = link_at c.words.head c.words.link cell in let e = c.words.event l.row in record c {
   rows = put c.rows j (stands_after cell seeks l e (c.rows j));
-  walk = put c.walk j (walk_after cell seeks l (c.walk j));
+  read = put c.read j (read_after cell seeks (c.found j).control l (length c.history) (c.read j));
+  sight = put c.sight j (sight_after cell seeks (c.found j).control l (c.sight j));
+  walk = put c.walk j (walk_after cell seeks (c.found j).control l (c.walk j));
   sweep = put c.sweep j (sweep_on (taken_on seeks (c.found j).control cell (c.rows j) (c.sweep j)) l e (c.sweep j));
   clean = put c.clean j (clean_on (taken_on seeks (c.found j).control cell (c.rows j) (c.sweep j)) l (c.clean j));
   named = put c.named j (record (c.named j) { first = relieved (c.found j).control cell (c.rows j) l e (c.named j).first });
@@ -288,7 +310,7 @@ linked c j cell l r e = let q = list_in c.shape l.generation e in let new : Link
 -- Begin: the control word x was found
 
 abbrev pub begins : Control → Caller → Caller
-begins x p = record p { own = p.own ++ Begin p.number ∷ []; base = None; refused = []; walk = None; sweep = None; clean = []; found = record p.found { control = Some x } }
+begins x p = record p { own = p.own ++ Begin p.number ∷ []; base = None; refused = []; sight = None; walk = None; sweep = None; clean = []; found = record p.found { control = Some x } }
 
 abbrev pub begun_by : Core → ℕ → Core
 begun_by c j = record c {
@@ -299,6 +321,7 @@ begun_by c j = record c {
   refused = put c.refused j [];
   sweep = put c.sweep j None;
   clean = put c.clean j [];
+  sight = put c.sight j None;
   walk = put c.walk j None;
   found = put c.found j (record (c.found j) { control = Some c.words.control });
 }
@@ -386,11 +409,11 @@ abbrev pub MayWalk : List Stand → Cell → Type 0
 MayWalk ss (at_head q) = IsHead q
 MayWalk ss (at_row r) = (e : Event) × StandsOn ss r e
 
--- a walk of a take begins at the head of a list after the caller's Begin, or goes on from its row
-abbrev pub MaySeek : List Entry → Option Walk → Cell → Bool → Type 0
-MaySeek own w cell false = Unit {0}
-MaySeek own w (at_head q) true = EndsInBegin own
-MaySeek own w (at_row r) true = (x : Walk) × (w ≡ Some x) × (x.at ≡ r)
+-- a walk of a take begins after the caller's Begin, at the first head of the steady table whose control word was found, or goes on from its row
+abbrev pub MaySeek : List Entry → Option Control → Option Walk → Cell → Bool → Type 0
+MaySeek own found w cell false = Unit {0}
+MaySeek own found w (at_head q) true = EndsInBegin own × ((x : Control) × (found ≡ Some x) × (x.moving ≡ false) × (q ≡ first_head_of x.generation))
+MaySeek own found w (at_row r) true = (x : Walk) × (w ≡ Some x) × (x.at ≡ r)
 
 -- the words of the row are those of the event, and it is to be followed by the row next
 pub record IsWritten (written : List Wrote) (r : ℕ) (e : Event) (l : Link) : Type 0 where
@@ -424,7 +447,7 @@ pub record MayLink (n : ℕ) (x : Control) (cell : Cell) (l : Link) (r : ℕ) (e
 -- a take that began may mark the row at which its walk stands. Over one list, each event is of that list
 pub record MayMark (x : Control) (r : ℕ) (e : Event) (p : Caller) : Type 0 where
   pub began : EndsInBegin p.own
-  pub control : p.found.control ≡ Some x
+  pub sight : p.sight ≡ Some (record { table = x })
   pub one_list : x.log ≡ 0
   pub on : StandsOn p.position.rows r e
   pub walks : (w : Walk) × (p.walk ≡ Some w) × (w.at ≡ r)
@@ -440,6 +463,6 @@ pub record MayCut (cell : Cell) (x : ℕ) (l : Link) (p : Caller) : Type 0 where
 -- the walk of a take came to its list's end, or to a row that isn't below the limit
 pub record MayMiss (x : Control) (limit : ℕ) (p : Caller) : Type 0 where
   pub began : EndsInBegin p.own
-  pub control : p.found.control ≡ Some x
+  pub sight : p.sight ≡ Some (record { table = x })
   pub one_list : x.log ≡ 0
   pub walks : (w : Walk) × (p.walk ≡ Some w) × ((w.at ≡ 0) ⊎ ((e : Event) × StandsOn p.position.rows w.at e × (limit ≤ e.time)))

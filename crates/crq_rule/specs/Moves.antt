@@ -8,6 +8,7 @@ use Rattle.crq_base.specs.declared.words.Control.{Control}
 use Rattle.crq_base.specs.declared.words.Mark.TheVariants.{Val, Del}
 use Rattle.crq_base.specs.Words.{IsLink, IsControl, link_word, control_word}
 use Rattle.crq_base.specs.Lists.{In}
+use Rattle.crq_rule.specs.declared.view.Sight.{Sight}
 use Rattle.crq_rule.specs.declared.view.Stand.{Stand}
 use Rattle.crq_rule.specs.declared.debts.CutDebt.{CutDebt}
 use Rattle.crq_rule.specs.declared.view.CutRow.{CutRow}
@@ -43,6 +44,7 @@ pub record Lawful (p : Caller) : Type 0 where
   pub owed_fits : (d : CutDebt) → p.debts.cut ≡ Some d → IsRow p.start.layout d.row × IsEvent d.event
   -- a recovery that found no row began where there were enough events
   pub scarce : (b : Base) → FoundNoRow p b → p.start.layout.rows ≤ 2 * length b.events
+  pub sighted : (s : Sight) → p.sight ≡ Some s → IsControl s.table × (s.table.moving ≡ false)
   pub controlled : (x : Control) → p.found.control ≡ Some x → IsControl x × (x.moving ≡ false) × (x.log ≡ 0)
 
 -- A step of the caller whose part is p, on the word w, which goes to g of what it was. From each state that meets the invariant it is a step of the named kind that may come there, and R holds of the word found,

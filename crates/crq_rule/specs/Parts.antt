@@ -1,5 +1,5 @@
 -- The parts of the invariant. Each is a record over the components that it reads, and no others: a step that leaves these leaves the part as it stands.
-use Rattle.std.specs.Prelude.{◌≡◌, ◌⊎◌, true, ℕ, ◌+◌, ◌^◌, ◌<◌, ◌≤◌, List, [], ◌∷◌, ◌++◌, Option, Some, None}
+use Rattle.std.specs.Prelude.{◌≡◌, ◌⊎◌, true, false, ℕ, ◌+◌, ◌^◌, ◌<◌, ◌≤◌, List, [], ◌∷◌, ◌++◌, Option, Some, None}
 use Rattle.crq_base.specs.declared.event.Event.{Event}
 use Rattle.crq_base.specs.declared.words.Link.{Link}
 use Rattle.crq_base.specs.declared.words.Control.{Control}
@@ -15,6 +15,7 @@ use Rattle.crq_rule.specs.declared.view.Guard.TheVariants.{Off, Entering, On}
 use Rattle.crq_rule.specs.declared.view.Tick.{Tick}
 use Rattle.crq_rule.specs.declared.view.CutRow.{CutRow}
 use Rattle.crq_rule.specs.declared.view.Found.{Found}
+use Rattle.crq_rule.specs.declared.view.Sight.{Sight}
 use Rattle.crq_rule.specs.declared.view.Stand.{Stand}
 use Rattle.crq_rule.specs.Places.{IsRow, IsHomeRow, IsHead}
 use Rattle.crq_rule.specs.Ranks.{Shape, shape_of, next_of}
@@ -64,9 +65,10 @@ pub record Fits (start : Start) (control : Control) (shape : ℕ → Shape) (x :
   pub next : x.moving ≡ true → shape (x.generation + 1) ≡ next_of x
   pub same : x.moving ≡ true → x.generation ≡ control.generation → x ≡ control
 
-pub record Finds (start : Start) (control : Control) (shape : ℕ → Shape) (current : Current) (found : ℕ → Found) : Type 0 where
+pub record Finds (start : Start) (control : Control) (shape : ℕ → Shape) (current : Current) (found : ℕ → Found) (sight : ℕ → Option Sight) : Type 0 where
   pub controls : (j : ℕ) (x : Control) → j < start.layout.workers → (found j).control ≡ Some x → Fits start control shape x
   pub currents : (j : ℕ) (x : Current) → j < start.layout.workers → (found j).current ≡ Some x → NotAfter x current
+  pub sights : (j : ℕ) (s : Sight) → j < start.layout.workers → sight j ≡ Some s → Fits start control shape s.table × (s.table.moving ≡ false)
 
 -- 3. Guards
 
@@ -159,6 +161,10 @@ rows_of_old (Some s) = s.row ∷ []
 abbrev pub rows_of : List Stand → List ℕ
 rows_of [] = []
 rows_of (s ∷ ss) = s.row ∷ rows_of ss
+
+-- links lead from the row a to b, or b is a itself: twins play no part
+abbrev pub Follows : (ℕ → Link) → ℕ → ℕ → Type 0
+Follows link a b = Reaches link (λ _. 0) a b
 
 -- the rows that a caller stands on: of a list, the frozen row whose copy isn't linked yet, and both rows of a copy that it owes
 abbrev pub footings : (ℕ → List Stand) → (ℕ → Option Stand) → (ℕ → Option CopyDebt) → ℕ → List ℕ

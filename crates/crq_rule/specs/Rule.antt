@@ -55,6 +55,7 @@ fresh key j = record {
   position = nowhere;
   found = record { control = None; current = None };
   written = [];
+  sight = None;
   walk = None;
   help = None;
   sweep = None;

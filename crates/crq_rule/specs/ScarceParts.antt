@@ -33,7 +33,7 @@ without_taken taken (e ∷ es) = cond (has_event taken e) (without_taken taken e
 unfoldable pub pending : List Entry → List Event
 pending history = without_taken (outs history) (puts history)
 
--- 18. Scarcity
+-- 19. Scarcity
 
 -- A row that is held so is late for the epoch g: it is listed, or it was cut under a guard that found more than g, or retired with a tag above g + 1. Such a row isn't ripe before the epoch g + 4
 abbrev pub IsLate : (ℕ → Guard) → ℕ → Holding → Type 0
@@ -68,12 +68,12 @@ pub record IsBase (l : Layout) (epoch : ℕ) (history : List Entry) (guard : ℕ
 pub record Scarce (l : Layout) (epoch : ℕ) (history : List Entry) (base : ℕ → Option Base) (guard : ℕ → Guard) (holding : ℕ → Holding) : Type 0 where
   pub each : (k : ℕ) (b : Base) → k < l.workers → base k ≡ Some b → IsBase l epoch history guard holding k b
 
--- 19. The events that a refusal for want of rows keeps
+-- 20. The events that a refusal for want of rows keeps
 
 pub record Refusals (n : ℕ) (history : List Entry) (refused : ℕ → List Event) : Type 0 where
   pub each : (k : ℕ) → k < n → AreCounted history k (refused k)
 
--- 20. Sweeps: what a caller has swept holds none of its home rows whose event was out at its last Begin
+-- 21. Sweeps: what a caller has swept holds none of its home rows whose event was out at its last Begin
 
 -- the event was out at some Begin of the caller k: so it was at the last one
 abbrev pub WasOut : List Entry → ℕ → Event → Type 0

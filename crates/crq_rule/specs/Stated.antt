@@ -21,6 +21,7 @@ use Rattle.crq_rule.specs.declared.layout.Layout.{Layout}
 use Rattle.crq_rule.specs.declared.view.Guard.TheVariants.{Off, Entering, On}
 use Rattle.crq_rule.specs.declared.view.CutRow.{CutRow}
 use Rattle.crq_rule.specs.declared.view.Base.{Base}
+use Rattle.crq_rule.specs.declared.view.Sight.{Sight}
 use Rattle.crq_rule.specs.declared.view.Walk.{Walk}
 use Rattle.crq_rule.specs.Places.{Place, spare, epoch, announced, control, current, pin, head, link, stamp, twin, time, source, sequence, load, IsPlace, IsRow, IsHomeRow, IsHead, word_of}
 use Rattle.crq_rule.specs.Core.{Core, DeadNames, Holding, in_hand, listed, cut_by, retired}
@@ -188,20 +189,22 @@ pub record HistoryHolds (c : Core) : Type 0 where
 
 -- 8. Walkers
 
--- the caller k is in a search that it began after `front`, and walks
-pub record IsWalking (c : Core) (k : ℕ) (w : Walk) (front : List Entry) : Type 0 where
+-- the caller k is in a search that it began after `front`, and walks in a table
+pub record IsWalking (c : Core) (k : ℕ) (w : Walk) (x : Control) (front : List Entry) : Type 0 where
   pub inside : k < c.start.layout.workers
   pub last : EndsInBegin (c.own k)
   pub walks : c.walk k ≡ Some w
+  pub sees : c.sight k ≡ Some (record { table = x })
   pub began : Began k c.history front
 
--- A walk is of an open head, and at its list's end or at a row that its caller's guard covers. Each event of that list that was put before the caller's last Begin and is pending stands in the row at
--- which the walk is, or in one that is reached from it. So where the walk came to the end all those events are out
+-- A walk is of a head of the table that its take read, and at its list's end or at a row that its caller's guard covers. Each event of that list that was put before the caller's last Begin and is pending
+-- stands in the row at which the walk is, or in one that is reached from it. So where the walk came to the end all those events are out
 pub record WalkersHold (c : Core) : Type 0 where
-  pub at : (k : ℕ) (w : Walk) → k < c.start.layout.workers → c.walk k ≡ Some w → IsHead w.head × IsOpen c.words.control w.head × ((w.at ≡ 0) ⊎ ((g : ℕ) × IsCovered c k g w.at))
-  pub left : (k : ℕ) (w : Walk) (front : List Entry) (e : Event) → IsWalking c k w front → head_of c.words.control e ≡ w.head → Contains (puts front) e → IsPending c.history e
+  pub at : (k : ℕ) (w : Walk) → k < c.start.layout.workers → c.walk k ≡ Some w
+      → (s : Sight) × (c.sight k ≡ Some s) × IsHead w.head × IsOpen s.table w.head × ((w.at ≡ 0) ⊎ ((g : ℕ) × IsCovered c k g w.at))
+  pub left : (k : ℕ) (w : Walk) (x : Control) (front : List Entry) (e : Event) → IsWalking c k w x front → head_of x e ≡ w.head → Contains (puts front) e → IsPending c.history e
       → (r : ℕ) × (0 < w.at) × StandsIn c e r × Reaches c.words.link c.words.twin w.at r
-  pub ended : (k : ℕ) (w : Walk) (front : List Entry) (e : Event) → IsWalking c k w front → w.at ≡ 0 → head_of c.words.control e ≡ w.head → Contains (puts front) e → Contains (outs c.history) e
+  pub ended : (k : ℕ) (w : Walk) (x : Control) (front : List Entry) (e : Event) → IsWalking c k w x front → w.at ≡ 0 → head_of x e ≡ w.head → Contains (puts front) e → Contains (outs c.history) e
 
 -- 9. Scarcity
 

@@ -25,6 +25,6 @@ pub use opening::{Opened, open_table};
 pub use pass::{Owes, Pass, Rest, Seating, Table};
 pub use rule::{FirstPart, JoinedParts, TableLaw};
 pub use view::{
-    Base, Caller, CutRow, Deal, Found, Guard, Help, Made, Position, Stand, Sweep, Tick, Told, View,
-    Walk, Wrote,
+    Base, Caller, CutRow, Deal, Found, Guard, Help, Made, Position, Sight, Stand, Sweep, Tick,
+    Told, View, Walk, Wrote,
 };

@@ -81,6 +81,12 @@ pub struct Base {
     pub looked: u64,
 }
 
+/// What a take knows of the table in which it walks.
+pub struct Sight {
+    /// The control word that it had found when it read the first head; the table didn't move.
+    pub table: Control,
+}
+
 /// How far a take walked the list of a head: to the row `at`, or to the end where that is 0. What it passed was dead.
 pub struct Walk {
     pub head: u64,
@@ -151,6 +157,8 @@ pub struct Caller {
     pub found: Found,
     /// The words that the caller wrote into rows that are still in hand.
     pub written: LinkedList<Wrote>,
+    /// The table that the caller's take has read since its last Begin.
+    pub sight: Option<Sight>,
     pub walk: Option<Walk>,
     pub help: Option<Help>,
     pub sweep: Option<Sweep>,
