@@ -22,6 +22,7 @@ use Rattle.crq_rule.specs.Ranks.{Shape}
 use Rattle.crq_rule.specs.Invariant.{Inv}
 use Rattle.crq_rule.specs.ListKinds.{StandsOn, MayMiss, begun_by, control_loaded, missed}
 use Rattle.crq_rule.proofs.Puts.{put_all}
+use Rattle.crq_rule.proofs.Frames.{frame_found, frame_entry}
 use Rattle.crq_rule.proofs.HistoryLaws.{told_other, told_begin, settling_more, pending_same}
 use Rattle.crq_rule.proofs.WalkerLaws.{walkers_grown, walkers_rest, walkers_begin}
 use Rattle.crq_rule.proofs.Pendings.{counted_grown, none_counted}
@@ -66,35 +67,7 @@ carriers_same l history x link twin event holding none kept old = record {
 
 -- the control word was loaded
 pub control_keeps : (c : Core) (j : ℕ) → j < c.start.layout.workers → Inv c → Inv (control_loaded c j)
-control_keeps c j b inv = record {
-  spelled = inv.spelled;
-  reading = inv.reading;
-  finds = finds_control _ _ _ _ _ _ j inv.sizes.now inv.finds;
-  guards = inv.guards;
-  holders = inv.holders;
-  cutting = inv.cutting;
-  stamps = inv.stamps;
-  chains = inv.chains;
-  cover = inv.cover;
-  sizes = inv.sizes;
-  dues = inv.dues;
-  steady = inv.steady;
-  heads = inv.heads;
-  sorted = inv.sorted;
-  marks = inv.marks;
-  standing = inv.standing;
-  copying = inv.copying;
-  lanes = inv.lanes;
-  writing = inv.writing;
-  naming = inv.naming;
-  carriers = inv.carriers;
-  told = inv.told;
-  settling = inv.settling;
-  walkers = inv.walkers;
-  scarce = inv.scarce;
-  refusals = inv.refusals;
-  swept = inv.swept;
-}
+control_keeps c j b inv = frame_found c (control_loaded c j) inv (finds_control _ _ _ _ _ _ j inv.sizes.now inv.finds) inv.walkers
 
 -- a caller that begins anew has read no table
 finds_begun : (start : Start) (control : Control) (shape : ℕ → Shape) (current : Current) (found : ℕ → Found) (sight : ℕ → Option Sight) (j : ℕ)
@@ -109,35 +82,17 @@ nothing : {e : Event} → Contains [] e → ⊥
 nothing h = let k = h.1 in absurd (omega arith)
 
 pub begin_keeps : (c : Core) (j : ℕ) → j < c.start.layout.workers → Inv c → Inv (begun_by c j)
-begin_keeps c j b inv = record {
-  spelled = inv.spelled;
-  reading = inv.reading;
-  finds = finds_begun _ _ _ _ _ _ j (finds_control _ _ _ _ _ _ j inv.sizes.now inv.finds);
-  guards = inv.guards;
-  holders = inv.holders;
-  cutting = inv.cutting;
-  stamps = inv.stamps;
-  chains = inv.chains;
-  cover = inv.cover;
-  sizes = inv.sizes;
-  dues = inv.dues;
-  steady = inv.steady;
-  heads = inv.heads;
-  sorted = inv.sorted;
-  marks = inv.marks;
-  standing = inv.standing;
-  copying = inv.copying;
-  lanes = inv.lanes;
-  writing = inv.writing;
-  naming = inv.naming;
-  carriers = carriers_same _ _ (Begin j) _ _ _ _ refl refl inv.carriers;
-  told = told_begin _ _ _ _ _ j b inv.told;
-  settling = settling_more _ _ _ (Begin j ∷ []) (λ _ n. absurd (nothing n)) (λ _ _ _ _ n. nothing n) inv.settling;
-  walkers = walkers_begin _ _ _ _ _ _ j (length c.history) (walkers_grown _ _ _ _ _ _ (Begin j ∷ []) inv.walkers);
-  scarce = scarce_drop _ _ _ _ _ _ _ _ j (λ k x _ ne. base_grown _ _ _ _ _ _ k x (other_begin j k ne)) inv.scarce;
-  refusals = refusals_put _ _ _ _ j [] (λ _. none_counted (c.history ++ Begin j ∷ []) j) (λ k ne. counted_grown _ _ k (c.refused k) (other_begin j k ne)) inv.refusals;
-  swept = swept_begun _ _ _ _ _ _ j (λ k ne. other_begin j k ne) inv.swept;
-}
+begin_keeps c j b inv = frame_entry c (begun_by c j) inv
+    (finds_begun _ _ _ _ _ _ j (finds_control _ _ _ _ _ _ j inv.sizes.now inv.finds))
+    inv.dues
+    inv.steady
+    (carriers_same _ _ (Begin j) _ _ _ _ refl refl inv.carriers)
+    (told_begin _ _ _ _ _ j b inv.told)
+    (settling_more _ _ _ (Begin j ∷ []) (λ _ n. absurd (nothing n)) (λ _ _ _ _ n. nothing n) inv.settling)
+    (walkers_begin _ _ _ _ _ _ j (length c.history) (walkers_grown _ _ _ _ _ _ (Begin j ∷ []) inv.walkers))
+    (scarce_drop _ _ _ _ _ _ _ _ j (λ k x _ ne. base_grown _ _ _ _ _ _ k x (other_begin j k ne)) inv.scarce)
+    (refusals_put _ _ _ _ j [] (λ _. none_counted (c.history ++ Begin j ∷ []) j) (λ k ne. counted_grown _ _ k (c.refused k) (other_begin j k ne)) inv.refusals)
+    (swept_begun _ _ _ _ _ _ j (λ k ne. other_begin j k ne) inv.swept)
 
 -- what a search that comes to its end or to the limit left is taken
 miss_legal : (c : Core) (j limit : ℕ) → j < c.start.layout.workers → ((x : Control) × MayMiss x limit (caller_of c j)) → Inv c → MayFollow c.history (Miss j limit)
@@ -153,32 +108,14 @@ miss_legal c j limit b may inv = let from = inv.told.began j b may.1.began in le
 )
 
 pub miss_keeps : (c : Core) (j limit : ℕ) → j < c.start.layout.workers → ((x : Control) × MayMiss x limit (caller_of c j)) → Inv c → Inv (missed c j limit)
-miss_keeps c j limit b may inv = record {
-  spelled = inv.spelled;
-  reading = inv.reading;
-  finds = finds_control _ _ _ _ _ _ j inv.sizes.now inv.finds;
-  guards = inv.guards;
-  holders = inv.holders;
-  cutting = inv.cutting;
-  stamps = inv.stamps;
-  chains = inv.chains;
-  cover = inv.cover;
-  sizes = inv.sizes;
-  dues = inv.dues;
-  steady = inv.steady;
-  heads = inv.heads;
-  sorted = inv.sorted;
-  marks = inv.marks;
-  standing = inv.standing;
-  copying = inv.copying;
-  lanes = inv.lanes;
-  writing = inv.writing;
-  naming = inv.naming;
-  carriers = carriers_same _ _ (Miss j limit) _ _ _ _ refl refl inv.carriers;
-  told = told_other _ _ _ _ _ j (Miss j limit) b (miss_legal c j limit b may inv) refl refl (miss_begin j limit) inv.told;
-  settling = settling_more _ _ _ (Miss j limit ∷ []) (λ _ n. absurd (nothing n)) (λ _ _ _ _ n. nothing n) inv.settling;
-  walkers = walkers_rest _ _ _ _ _ _ j (walkers_grown _ _ _ _ _ _ (Miss j limit ∷ []) inv.walkers);
-  scarce = scarce_grown _ _ _ _ _ _ _ (λ k. no_begin j limit k) inv.scarce;
-  refusals = refusals_grown _ _ _ _ (λ k. no_begin j limit k) inv.refusals;
-  swept = swept_grown _ _ _ _ _ _ _ (λ k. no_begin j limit k) inv.swept;
-}
+miss_keeps c j limit b may inv = frame_entry c (missed c j limit) inv
+    (finds_control _ _ _ _ _ _ j inv.sizes.now inv.finds)
+    inv.dues
+    inv.steady
+    (carriers_same _ _ (Miss j limit) _ _ _ _ refl refl inv.carriers)
+    (told_other _ _ _ _ _ j (Miss j limit) b (miss_legal c j limit b may inv) refl refl (miss_begin j limit) inv.told)
+    (settling_more _ _ _ (Miss j limit ∷ []) (λ _ n. absurd (nothing n)) (λ _ _ _ _ n. nothing n) inv.settling)
+    (walkers_rest _ _ _ _ _ _ j (walkers_grown _ _ _ _ _ _ (Miss j limit ∷ []) inv.walkers))
+    (scarce_grown _ _ _ _ _ _ _ (λ k. no_begin j limit k) inv.scarce)
+    (refusals_grown _ _ _ _ (λ k. no_begin j limit k) inv.refusals)
+    (swept_grown _ _ _ _ _ _ _ (λ k. no_begin j limit k) inv.swept)

@@ -9,11 +9,11 @@ use Rattle.crq_rule.specs.declared.view.Stand.{Stand}
 use Rattle.crq_rule.specs.declared.view.Made.{Made}
 use Rattle.crq_rule.specs.declared.view.Walk.{Walk}
 use Rattle.crq_rule.specs.Core.{Core, Holding}
-use Rattle.crq_rule.specs.Parts.{ground_of, footings, Reading, Guards, Holders, Cutting, Stamps, Cover}
-use Rattle.crq_rule.specs.ListParts.{Sizes, Marks, Standing, Copying, Lanes, Writing, Naming}
+use Rattle.crq_rule.specs.Parts.{ground_of, footings, Reading, Finds, Guards, Holders, Cutting, Stamps, Cover}
+use Rattle.crq_rule.specs.ListParts.{Sizes, Dues, Marks, Standing, Copying, Lanes, Writing, Naming}
 use Rattle.crq_rule.specs.Steady.{Steady}
-use Rattle.crq_rule.specs.HistoryParts.{Carriers, Walkers}
-use Rattle.crq_rule.specs.ScarceParts.{Scarce, Refusals}
+use Rattle.crq_rule.specs.HistoryParts.{Carriers, Told, Settling, Walkers}
+use Rattle.crq_rule.specs.ScarceParts.{Scarce, Refusals, Swept}
 use Rattle.crq_rule.specs.Invariant.{takes_of, Inv}
 use Rattle.crq_rule.specs.Kinds.{after_made}
 
@@ -106,6 +106,81 @@ frame_rows c stamp hand ripening cut base refused holding inv reading holders cu
   refusals = refusals;
   swept = inv.swept;
 }
+
+-- the state c, with the history, what each caller owes to settle, and what it found and knows of it, as in d
+abbrev with_entries : Core → Core → Core
+with_entries c d = record c {
+  history = d.history;
+  deal = d.deal;
+  begun = d.begun;
+  read = d.read;
+  own = d.own;
+  base = d.base;
+  settling = d.settling;
+  permit = d.permit;
+  found = d.found;
+  sight = d.sight;
+  walk = d.walk;
+  help = d.help;
+  sweep = d.sweep;
+  clean = d.clean;
+  refused = d.refused;
+  told = d.told;
+}
+
+-- the history and what is known of it
+pub frame_entry : (c d : Core) → Inv c
+    → Finds c.start c.words.control c.shape c.words.current d.found d.sight
+    → Dues c.start.layout.workers c.words.control c.shape d.settling c.copying c.named
+    → Steady c.start c.words.control c.words.link c.holding c.named d.settling
+    → Carriers c.start.layout d.history c.words.link c.words.twin c.words.event c.holding
+    → Told c.start.layout.workers d.history d.deal d.own d.begun
+    → Settling c.start.layout.workers d.history d.settling
+    → Walkers c.start.layout.workers d.history d.settling (takes_of (with_entries c d)) c.words.link c.words.event
+    → Scarce c.start.layout c.words.epoch d.history d.base c.guard c.holding
+    → Refusals c.start.layout.workers d.history d.refused
+    → Swept c.start.layout d.history c.words.event c.chain d.sweep d.clean
+    → Inv (with_entries c d)
+frame_entry c d inv finds dues steady carriers told settling walkers scarce refusals swept = record {
+  spelled = inv.spelled;
+  reading = inv.reading;
+  finds = finds;
+  guards = inv.guards;
+  holders = inv.holders;
+  cutting = inv.cutting;
+  stamps = inv.stamps;
+  chains = inv.chains;
+  cover = inv.cover;
+  sizes = inv.sizes;
+  dues = dues;
+  steady = steady;
+  heads = inv.heads;
+  sorted = inv.sorted;
+  marks = inv.marks;
+  standing = inv.standing;
+  copying = inv.copying;
+  lanes = inv.lanes;
+  writing = inv.writing;
+  naming = inv.naming;
+  carriers = carriers;
+  told = told;
+  settling = settling;
+  walkers = walkers;
+  scarce = scarce;
+  refusals = refusals;
+  swept = swept;
+}
+
+-- the state c, with what each caller found, and the takes that walk, as in d
+abbrev with_found : Core → Core → Core
+with_found c d = record c { read = d.read; permit = d.permit; found = d.found; sight = d.sight; walk = d.walk; help = d.help; told = d.told }
+
+-- what a caller found of the control word and of current
+pub frame_found : (c d : Core) → Inv c
+    → Finds c.start c.words.control c.shape c.words.current d.found d.sight
+    → Walkers c.start.layout.workers c.history c.settling (takes_of (with_found c d)) c.words.link c.words.event
+    → Inv (with_found c d)
+frame_found c d inv finds walkers = frame_entry c (with_found c d) inv finds inv.dues inv.steady inv.carriers inv.told inv.settling walkers inv.scarce inv.refusals inv.swept
 
 -- the list of steps made, which no part reads
 pub frame_made : (c : Core) (j : ℕ) (m : Made) → Inv c → Inv (after_made c j m)

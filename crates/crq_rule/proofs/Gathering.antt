@@ -19,6 +19,7 @@ use Rattle.crq_rule.specs.Core.{Core, caller_of}
 use Rattle.crq_rule.specs.HistoryParts.{Told}
 use Rattle.crq_rule.specs.Invariant.{Inv}
 use Rattle.crq_rule.specs.Rule.{IsWords, Carries, Stands}
+use Rattle.crq_rule.proofs.Frames.{frame_entry}
 use Rattle.crq_rule.proofs.SteadyLaws.{all_settled}
 use Rattle.crq_rule.specs.Deals.{HasAll, settled_part, dealt_again, Gathered, spanned_part, spans, IsSilent}
 
@@ -28,35 +29,7 @@ abbrev redealt : Core → Deal → (ℕ → List Entry) → Core
 redealt c deal own = record c { deal = deal; own = own }
 
 redealt_keeps : (c : Core) (deal : Deal) (own : ℕ → List Entry) → Told c.start.layout.workers c.history deal own c.begun → Inv c → Inv (redealt c deal own)
-redealt_keeps c deal own told inv = record {
-  spelled = inv.spelled;
-  reading = inv.reading;
-  finds = inv.finds;
-  guards = inv.guards;
-  holders = inv.holders;
-  cutting = inv.cutting;
-  stamps = inv.stamps;
-  chains = inv.chains;
-  cover = inv.cover;
-  sizes = inv.sizes;
-  dues = inv.dues;
-  steady = inv.steady;
-  heads = inv.heads;
-  sorted = inv.sorted;
-  marks = inv.marks;
-  standing = inv.standing;
-  copying = inv.copying;
-  lanes = inv.lanes;
-  writing = inv.writing;
-  naming = inv.naming;
-  carriers = inv.carriers;
-  told = told;
-  settling = inv.settling;
-  walkers = inv.walkers;
-  scarce = inv.scarce;
-  refusals = inv.refusals;
-  swept = inv.swept;
-}
+redealt_keeps c deal own told inv = frame_entry c (redealt c deal own) inv inv.finds inv.dues inv.steady inv.carriers told inv.settling inv.walkers inv.scarce inv.refusals inv.swept
 
 -- entries don't end in a Begin where there are none
 no_begin : (front : List Entry) (j : ℕ) → [] ≡ front ++ Begin j ∷ [] → ⊥

@@ -11,6 +11,7 @@ use Rattle.crq_base.specs.declared.words.Mark.TheVariants.{Val}
 use Rattle.crq_base.specs.Lists.{In}
 use Rattle.crq_base.specs.Refusals.{AreCounted}
 use Rattle.crq_rule.specs.declared.debts.CutDebt.{CutDebt}
+use Rattle.crq_rule.specs.declared.debts.CopyDebt.{CopyDebt}
 use Rattle.crq_rule.specs.declared.layout.Layout.{Layout}
 use Rattle.crq_rule.specs.declared.view.Guard.{Guard}
 use Rattle.crq_rule.specs.declared.view.Guard.TheVariants.{Off, Entering, On}
@@ -139,26 +140,36 @@ row_owed : Option CutDebt → ℕ
 row_owed None = 0
 row_owed (Some d) = d.row
 
--- the rows that callers below n owe to cut
-owed_rows : (ℕ → DeadNames) → ℕ → List ℕ
-owed_rows names zero = []
-owed_rows names (suc n) = row_owed (names n).first ∷ row_owed (names n).second ∷ owed_rows names n
+-- the second slot of a caller: its second dead row, or else the copy that it has to bind
+second_owed : Option CutDebt → Option CopyDebt → ℕ
+second_owed (Some d) copy = d.row
+second_owed None (Some d) = d.copy
+second_owed None None = 0
 
-owed_length : (names : ℕ → DeadNames) (n : ℕ) → length (owed_rows names n) ≡ 2 * n
+-- the rows in the slots of the callers below n
+owed_rows : (ℕ → DeadNames) → (ℕ → Option CopyDebt) → ℕ → List ℕ
+owed_rows names copying zero = []
+owed_rows names copying (suc n) = row_owed (names n).first ∷ second_owed (names n).second (copying n) ∷ owed_rows names copying n
+
+owed_length : (names : ℕ → DeadNames) (copying : ℕ → Option CopyDebt) (n : ℕ) → length (owed_rows names copying n) ≡ 2 * n
 unfolding owed_rows
-owed_length names zero = refl
-owed_length names (suc n) = let r = owed_length names n in omega arith
+owed_length names copying zero = refl
+owed_length names copying (suc n) = let r = owed_length names copying n in omega arith
 
-in_owed : (names : ℕ → DeadNames) (n k r : ℕ) → k < n → (row_owed (names k).first ≡ r) ⊎ (row_owed (names k).second ≡ r) → In r (owed_rows names n)
+in_owed : (names : ℕ → DeadNames) (copying : ℕ → Option CopyDebt) (n k r : ℕ) → k < n → (row_owed (names k).first ≡ r) ⊎ (second_owed (names k).second (copying k) ≡ r) → In r (owed_rows names copying n)
 unfolding owed_rows
-in_owed names zero k r b is = absurd (omega arith)
-in_owed names (suc n) k r b is = dite (ℕ_discrete k n)
-    (λ (e : k ≡ n). ⊎_elim (λ q. inl (sym q ∙ ap (λ k. row_owed (names k).first) e)) (λ q. inr (inl (sym q ∙ ap (λ k. row_owed (names k).second) e))) is)
-    (λ ne. inr (inr (in_owed names n k r (omega arith) is)))
+in_owed names copying zero k r b is = absurd (omega arith)
+in_owed names copying (suc n) k r b is = dite (ℕ_discrete k n)
+    (λ (e : k ≡ n). ⊎_elim (λ q. inl (sym q ∙ ap (λ k. row_owed (names k).first) e)) (λ q. inr (inl (sym q ∙ ap (λ k. second_owed (names k).second (copying k)) e))) is)
+    (λ ne. inr (inr (in_owed names copying n k r (omega arith) is)))
 
-named_row : (o : Option CutDebt) (d : CutDebt) → o ≡ Some d → row_owed o ≡ d.row
+first_row : (o : Option CutDebt) (d : CutDebt) → o ≡ Some d → row_owed o ≡ d.row
 unfolding row_owed
-named_row o d is = ap row_owed is
+first_row o d is = ap row_owed is
+
+second_row : (o : Option CutDebt) (copy : Option CopyDebt) (d : CutDebt) → o ≡ Some d → second_owed o copy ≡ d.row
+unfolding second_owed
+second_row o copy d is = ap (λ o. second_owed o copy) is
 
 -- the rows that carry these events, and their twins
 carrying : (ℕ → ℕ) → (es : List Event) → ((e : Event) → In e es → ℕ) → List ℕ
@@ -182,8 +193,8 @@ carrier c inv e i = (inv.carriers.carried e (in_pending c.history e i)).0
 -- In any state no more home rows are late for the present epoch than there are slots
 pub slots_hold : (c : Core) (k : ℕ) → k < c.start.layout.workers → Inv c → IsScarce c.start.layout c.guard c.holding k c.words.epoch (slots c.start.layout (pending c.history))
 slots_hold c k b inv = record {
-  rows = carrying c.words.twin (pending c.history) (carrier c inv) ++ owed_rows c.named c.start.layout.workers;
-  few = let one = length-append (carrying c.words.twin (pending c.history) (carrier c inv)) (owed_rows c.named c.start.layout.workers) in let two = carrying_length c.words.twin (pending c.history) (carrier c inv) in let three = owed_length c.named c.start.layout.workers in omega arith;
+  rows = carrying c.words.twin (pending c.history) (carrier c inv) ++ owed_rows c.named c.copying c.start.layout.workers;
+  few = let one = length-append (carrying c.words.twin (pending c.history) (carrier c inv)) (owed_rows c.named c.copying c.start.layout.workers) in let two = carrying_length c.words.twin (pending c.history) (carrier c inv) in let three = owed_length c.named c.copying c.start.layout.workers in omega arith;
   all = λ r home late. let row = home_is_row c.start.layout k r b home in has_slot r row (c.holding r) refl late;
 }
   where
@@ -200,12 +211,12 @@ slots_hold c k b inv = record {
         in_carrying c.words.twin (pending c.history) (carrier c inv) r (c.words.event r) (pending_in c.history (c.words.event r) (inv.carriers.pending r live))
         (λ x i same. let t = inv.carriers.carried x (in_pending c.history x i) in inv.carriers.one t.0 r t.1 live (t.2 ∙ sym same))
 
-    has_slot : (r : ℕ) → IsRow c.start.layout r → (h : Holding) → c.holding r ≡ h → IsLate c.guard c.words.epoch h → In r (carrying c.words.twin (pending c.history) (carrier c inv) ++ owed_rows c.named c.start.layout.workers)
+    has_slot : (r : ℕ) → IsRow c.start.layout r → (h : Holding) → c.holding r ≡ h → IsLate c.guard c.words.epoch h → In r (carrying c.words.twin (pending c.history) (carrier c inv) ++ owed_rows c.named c.copying c.start.layout.workers)
     has_slot r row (in_hand i) is late = absurd late
     has_slot r row (listed q) is late = ⊎_elim
         (λ val. in_front _ _ r (has_carrier r q row is val))
-        (λ del. let n = inv.naming.named r q row is del in in_back (carrying c.words.twin (pending c.history) (carrier c inv)) _ r (in_owed c.named c.start.layout.workers n.0 r n.1
-        (⊎_elim (λ x. inl (named_row (c.named n.0).first n.2.0 x ∙ n.2.2.row)) (λ x. inr (named_row (c.named n.0).second n.2.0 x ∙ n.2.2.row)) n.2.1)))
+        (λ del. let n = inv.naming.named r q row is del in in_back (carrying c.words.twin (pending c.history) (carrier c inv)) _ r (in_owed c.named c.copying c.start.layout.workers n.0 r n.1
+        (⊎_elim (λ x. inl (first_row (c.named n.0).first n.2.0 x ∙ n.2.2.row)) (λ x. inr (second_row (c.named n.0).second (c.copying n.0) n.2.0 x ∙ n.2.2.row)) n.2.1)))
         (listed_mark c inv r q row is)
     has_slot r row (cut_by i) is late = let o = inv.holders.of_cut i r row is in absurd (not_later (c.guard i) (inv.cutting.on i o.1.0 o.0 o.1.1) (inv.guards.each i o.0) late)
       where
