@@ -19,15 +19,15 @@ const PENDING: u64 = 256;
 const ROWS: u64 = 1026;
 
 /// The word of the epoch.
-const EPOCH: usize = 1;
+const EPOCH: usize = 16;
 /// The word of the caller's announcement.
-const ANNOUNCED: usize = 2;
+const ANNOUNCED: usize = 32;
 /// The control word.
-const CONTROL: usize = 3;
+const CONTROL: usize = 48;
 /// The head of the open list.
-const HEAD: usize = 6 + 32768;
+const HEAD: usize = 96 + 32768;
 /// The words of row 0, which there isn't. A row has seven: link, stamp, twin, and four of its event.
-const FIRST: usize = 65535;
+const FIRST: usize = 65625;
 
 /// A present link of generation 1 that names no row.
 const END: u64 = 1 << 26;

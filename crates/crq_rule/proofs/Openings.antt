@@ -24,7 +24,7 @@ use Rattle.crq_rule.specs.declared.pass.Seating.TheVariants.{Resting}
 use Rattle.crq_rule.specs.declared.view.Caller.{Caller}
 use Rattle.crq_rule.specs.declared.view.View.{View}
 use Rattle.crq_rule.specs.Widths.{width}
-use Rattle.crq_rule.specs.Places.{Words, Place, spare, epoch, control, current, head, index, IsPlace, IsRow, IsHomeRow, word_of, Shows}
+use Rattle.crq_rule.specs.Places.{Words, Place, spare, between, epoch, control, current, head, index, IsPlace, IsRow, IsHomeRow, word_of, Shows}
 use Rattle.crq_rule.specs.Core.{in_hand}
 use Rattle.crq_rule.specs.Parts.{Holders}
 use Rattle.crq_rule.specs.Invariant.{Inv}
@@ -75,6 +75,7 @@ unset s = record (opening_words s) { epoch = 0; control = zero_control; current 
 all_zero : (s : Start) (p : Place) → word_of (unset s) p ≡ 0
 unfolding control_word current_word pin_word link_word
 all_zero s spare = refl
+all_zero s (between k i) = refl
 all_zero s p = refl
 
 no_heads : (s : Start) (p : Place) → word_of (record (opening_words s) { head = λ _. zero_link }) p ≡ word_of (headed s 0) p

@@ -7,12 +7,13 @@ use Rattle.crq_base.specs.declared.words.Current.{Current}
 use Rattle.crq_base.specs.Words.{control_word, current_word}
 use Rattle.crq_rule.specs.declared.layout.Layout.{Layout}
 use Rattle.crq_rule.specs.Lists.{put}
-use Rattle.crq_rule.specs.Places.{Words, Place, spare, epoch, announced, control, current, pin, head, link, stamp, twin, time, source, sequence, load, index, IsPlace, IsRow, word_of, Shows}
+use Rattle.crq_rule.specs.Places.{Words, Place, spare, between, epoch, announced, control, current, pin, head, link, stamp, twin, time, source, sequence, load, index, IsPlace, IsRow, word_of, Shows}
 use Rattle.crq_rule.specs.Widths.{width}
 use Rattle.crq_rule.proofs.Puts.{put_here, put_else}
 
 pub one_place : (l : Layout) (p q : Place) → IsPlace l p → IsPlace l q → index l p ≡ index l q → p ≡ q
 one_place l spare spare v w e = refl
+one_place l (between k i) (between m n) v w e = let same : k ≡ m = omega arith in let at : i ≡ n = omega arith in λ z. between (same z) (at z)
 one_place l epoch epoch v w e = refl
 one_place l (announced j) (announced k) v w e = ap announced (omega arith)
 one_place l control control v w e = refl

@@ -5,7 +5,7 @@ use native.Mathlib.Decide.{ℕ_discrete}
 use Rattle.crq_base.specs.Lists.{In}
 use Rattle.crq_rule.specs.declared.view.Guard.{Guard}
 use Rattle.crq_rule.specs.declared.view.Guard.TheVariants.{Off, Entering, On}
-use Rattle.crq_rule.specs.Places.{Place, spare, epoch, announced, control, current, pin, head, link, stamp, twin, time, source, sequence, load, IsPlace, IsRow, IsHead, word_of}
+use Rattle.crq_rule.specs.Places.{Place, spare, between, epoch, announced, control, current, pin, head, link, stamp, twin, time, source, sequence, load, IsPlace, IsRow, IsHead, word_of}
 use Rattle.crq_rule.specs.Core.{Core, Holding, in_hand, listed, cut_by, retired}
 use Rattle.crq_rule.specs.Parts.{GuardIs, OnSince, Leads, Names, IsPath, stamp_of}
 use Rattle.crq_rule.specs.Invariant.{Inv}
@@ -24,6 +24,7 @@ module _ (c : Core) (inv : Inv c) where
 
   spells : (p : Place) → IsPlace c.start.layout p → IsSpelling c.start.layout p (word_of c.words p)
   spells spare b = refl
+  spells (between k i) b = refl
   spells epoch b = inv.reading.limit
   spells (announced j) b = let top = inv.reading.limit in let low = announced_low c.words.epoch (c.words.announced j) (c.guard j) (inv.guards.each j b) in omega arith
   spells control b = (c.words.control, inv.spelled.is_control, refl)

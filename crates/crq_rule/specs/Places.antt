@@ -24,6 +24,7 @@ pub record Words : Type 0 where
 
 pub data Place : Type 0 where
   spare : Place
+  between : ℕ → ℕ → Place
   epoch : Place
   announced : ℕ → Place
   control : Place
@@ -38,21 +39,23 @@ pub data Place : Type 0 where
   sequence : ℕ → Place
   load : ℕ → Place
 
+-- the words that callers write often stand 16 apart, with unused words between
 abbrev pub index : Layout → Place → ℕ
 index l spare = 0
-index l epoch = 1
-index l (announced j) = 2 + j
-index l control = 2 + l.workers
-index l current = 3 + l.workers
-index l pin = 4 + l.workers
-index l (head q) = 5 + l.workers + q
-index l (link r) = 65534 + l.workers + 7 * r
-index l (stamp r) = 65535 + l.workers + 7 * r
-index l (twin r) = 65536 + l.workers + 7 * r
-index l (time r) = 65537 + l.workers + 7 * r
-index l (source r) = 65538 + l.workers + 7 * r
-index l (sequence r) = 65539 + l.workers + 7 * r
-index l (load r) = 65540 + l.workers + 7 * r
+index l (between k i) = 16 * k + i
+index l epoch = 16
+index l (announced j) = 16 * (2 + j)
+index l control = 16 * (2 + l.workers)
+index l current = 16 * (3 + l.workers)
+index l pin = 16 * (4 + l.workers)
+index l (head q) = 16 * (5 + l.workers) + q
+index l (link r) = 65609 + 16 * l.workers + 7 * r
+index l (stamp r) = 65610 + 16 * l.workers + 7 * r
+index l (twin r) = 65611 + 16 * l.workers + 7 * r
+index l (time r) = 65612 + 16 * l.workers + 7 * r
+index l (source r) = 65613 + 16 * l.workers + 7 * r
+index l (sequence r) = 65614 + 16 * l.workers + 7 * r
+index l (load r) = 65615 + 16 * l.workers + 7 * r
 
 abbrev pub IsRow : Layout → ℕ → Type 0
 IsRow l r = (0 < r) × (r ≤ l.all)
@@ -66,6 +69,7 @@ IsHead q = q < 65536
 
 abbrev pub IsPlace : Layout → Place → Type 0
 IsPlace l spare = Unit {0}
+IsPlace l (between k i) = (k < 5 + l.workers) × (0 < i) × (i < 16)
 IsPlace l epoch = Unit {0}
 IsPlace l (announced j) = j < l.workers
 IsPlace l control = Unit {0}
@@ -83,6 +87,7 @@ IsPlace l (load r) = IsRow l r
 -- the word at each place
 abbrev pub word_of : Words → Place → ℕ
 word_of w spare = 0
+word_of w (between k i) = 0
 word_of w epoch = w.epoch
 word_of w (announced j) = w.announced j
 word_of w control = control_word w.control

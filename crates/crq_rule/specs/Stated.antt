@@ -23,7 +23,7 @@ use Rattle.crq_rule.specs.declared.view.CutRow.{CutRow}
 use Rattle.crq_rule.specs.declared.view.Base.{Base}
 use Rattle.crq_rule.specs.declared.view.Sight.{Sight}
 use Rattle.crq_rule.specs.declared.view.Walk.{Walk}
-use Rattle.crq_rule.specs.Places.{Place, spare, epoch, announced, control, current, pin, head, link, stamp, twin, time, source, sequence, load, IsPlace, IsRow, IsHomeRow, IsHead, word_of}
+use Rattle.crq_rule.specs.Places.{Place, spare, between, epoch, announced, control, current, pin, head, link, stamp, twin, time, source, sequence, load, IsPlace, IsRow, IsHomeRow, IsHead, word_of}
 use Rattle.crq_rule.specs.Core.{Core, DeadNames, Holding, in_hand, listed, cut_by, retired}
 use Rattle.crq_rule.specs.Parts.{ground_of, NotAfter, IsOn, LetsRise, Leads, Names, Reaches, Covers, HasTag}
 use Rattle.crq_rule.specs.Ranks.{shape_of, list_in, head_of, IsOpen}
@@ -35,6 +35,7 @@ use Rattle.crq_rule.specs.ScarceParts.{IsLate, pending}
 -- the number w is a spelling of the word at this place
 abbrev pub IsSpelling : Layout → Place → ℕ → Type 0
 IsSpelling l spare w = w ≡ 0
+IsSpelling l (between k i) w = w ≡ 0
 IsSpelling l epoch w = w ≤ 2 ^ 62
 IsSpelling l (announced j) w = IsStampWord w
 IsSpelling l control w = (x : Control) × IsControl x × (control_word x ≡ w)

@@ -8,11 +8,14 @@ ghost use Rattle.crq_rule.specs.Widths.{width};
 
 use crate::layout::Layout;
 
+/// How far apart the words stand that callers write often: 128 bytes, so that no two of them are in one cache line.
+const APART: usize = 16;
+
 /// The number of the first word of row 0, which there isn't, in a table of no callers.
-const ROWS: usize = 65534;
+const ROWS: usize = 65609;
 
 /// The number of words of a table of no callers and no rows.
-const LEAST: usize = 65541;
+const LEAST: usize = 65616;
 
 impl Layout {
     /// The layout for this many callers, and so many rows for each.
@@ -34,7 +37,7 @@ impl Layout {
     pub fn epoch(&self) -> usize
         ensures { result ≡ index self.now epoch }
     {
-        1
+        APART
     }
 
     /// The announcement of a caller.
@@ -42,28 +45,28 @@ impl Layout {
         requires { number < self.now.workers }
         ensures { result ≡ index self.now (announced number) }
     {
-        number as usize + 2
+        APART * (number as usize + 2)
     }
 
     /// How many words there are.
     pub fn width(&self) -> usize
         ensures { result ≡ width self.now }
     {
-        LEAST + self.workers as usize + 7 * self.all as usize
+        LEAST + APART * self.workers as usize + 7 * self.all as usize
     }
 
     /// The control word.
     pub fn control(&self) -> usize
         ensures { result ≡ index self.now control }
     {
-        self.workers as usize + 2
+        APART * (self.workers as usize + 2)
     }
 
     /// The current word.
     pub fn current(&self) -> usize
         ensures { result ≡ index self.now current }
     {
-        self.workers as usize + 3
+        APART * (self.workers as usize + 3)
     }
 
     /// A head, numbered over both banks.
@@ -71,7 +74,7 @@ impl Layout {
         requires { number < 65536 }
         ensures { result ≡ index self.now (head number) }
     {
-        self.workers as usize + 5 + number
+        APART * (self.workers as usize + 5) + number
     }
 
     /// The stamp of a row.
@@ -79,7 +82,7 @@ impl Layout {
         requires { IsRow self.now row }
         ensures { result ≡ index self.now (stamp row) }
     {
-        ROWS + self.workers as usize + 7 * row as usize + 1
+        ROWS + APART * self.workers as usize + 7 * row as usize + 1
     }
 
     /// A word of a row by its place: 0 is the link, 1 the twin, 2 to 5 are the words of the event.
@@ -88,7 +91,7 @@ impl Layout {
         requires place { place < 6 }
         ensures { result ≡ index self.now (row_place row place) }
     {
-        let first = ROWS + self.workers as usize + 7 * row as usize;
+        let first = ROWS + APART * self.workers as usize + 7 * row as usize;
         // The stamp stands between the link and the other words.
         if place == 0 {
             first
