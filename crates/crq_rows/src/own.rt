@@ -1,12 +1,13 @@
 //! A free row for a pass.
 ghost use Rattle.std.specs.Prelude.{◌≡◌, ◌↔◌, ◌⊎◌, ◌+◌, ◌<◌, ◌≤◌, ℕ, IsTrue, MatchBool, [], ◌∷◌};
+ghost use Rattle.crq_base.specs.Lists.{In};
 ghost use Rattle.crq_base.specs.Words.{stamp_word};
 ghost use Rattle.crq_base.specs.declared.kinds.StepKind.TheVariants.{Look};
 ghost use Rattle.crq_rule.specs.Places.{index, stamp, IsHomeRow};
 ghost use Rattle.crq_rule.specs.Kinds.{looks};
 ghost use Rattle.crq_rows.specs.Passes.{caller, load_made, IsPassOf, Stepped};
 ghost use Rattle.crq_rows.specs.declared.own.OwnOp.TheVariants.{Load, Looking, Claiming};
-ghost use Rattle.crq_rows.specs.Owning.{IsOwning, IsRipeWord, OwnStepped};
+ghost use Rattle.crq_rows.specs.Owning.{IsOwning, IsRipeWord, LookedRound, IsAfterLook, OwnStepped};
 
 use crate::steps::{claim_step, epoch_step, look_step};
 use crq_base::Stamp;
@@ -14,8 +15,9 @@ use crq_rule::{Pass, Table};
 
 /// Looks for a row that the pass may use, one atomic step at a time.
 ///
-/// Where the pass has a free row, that is the one. Else it loads the epoch and looks at its home rows in order, and claims
-/// the first that it finds ripe. After it has ended it begins anew.
+/// Where the pass has a free row, that is the one. Else it loads the epoch and looks at each home row in order, and claims
+/// each that it finds ripe, right after the look. The first of them is the one, and the others are free for later searches.
+/// After it has ended it begins anew.
 #[derive(Clone, Copy, Debug, PartialEq, Eq)]
 pub enum OwnOp {
     /// Nothing was done yet.
@@ -31,7 +33,8 @@ pub enum OwnOp {
 pub enum Own {
     /// There is more to do.
     More,
-    /// This is the pass's first free row.
+    /// This is the pass's first free row. Where it had none before, all home rows were looked at, and each that was found
+    /// ripe is claimed.
     Row(u32),
     /// The pass has no free row, and none of its home rows was found ripe.
     Empty,
@@ -69,6 +72,23 @@ fn begin(table: &Table, pass: &mut Pass) -> (OwnOp, Own)
     (OwnOp::Looking(epoch, first), Own::More)
 }
 
+/// What follows on this home row, which was looked at, and claimed where it was ripe.
+fn after_row(table: &Table, pass: &Pass, epoch: u64, row: u32) -> (OwnOp, Own)
+    requires of { IsPassOf table.now pass.now }
+    requires read { In epoch (caller table.now pass.now).epochs }
+    requires home { IsHomeRow table.now.start.layout pass.now.number row }
+    requires looked { LookedRound table.now.start.layout epoch (row + 1) (caller table.now pass.now) }
+    ensures { IsAfterLook table.now.start.layout epoch row (caller table.now pass.now) result.0 result.1 }
+{
+    if row < table.start.layout.last_home(pass.number) {
+        return (OwnOp::Looking(epoch, row + 1), Own::More);
+    }
+    let Some(first) = pass.free.front() else {
+        return (OwnOp::Load, Own::Empty);
+    };
+    (OwnOp::Load, Own::Row(*first))
+}
+
 /// Looks at the next home row.
 fn look_next(table: &Table, pass: &mut Pass, epoch: u64, row: u32) -> (OwnOp, Own)
     requires of { IsPassOf table.now pass.old }
@@ -78,10 +98,7 @@ fn look_next(table: &Table, pass: &mut Pass, epoch: u64, row: u32) -> (OwnOp, Ow
     if look(table, pass, row, epoch) {
         return (OwnOp::Claiming(epoch, row), Own::More);
     }
-    if row == table.start.layout.last_home(pass.number) {
-        return (OwnOp::Load, Own::Empty);
-    }
-    (OwnOp::Looking(epoch, row + 1), Own::More)
+    after_row(table, pass, epoch, row)
 }
 
 /// Claims a row that was found ripe.
@@ -91,7 +108,7 @@ fn claim(table: &Table, pass: &mut Pass, epoch: u64, row: u32) -> (OwnOp, Own)
     ensures { OwnStepped table.now (Claiming epoch row) result.0 pass.old pass.new result.1 }
 {
     claim_step(table, pass, row, epoch);
-    (OwnOp::Load, Own::Row(row))
+    after_row(table, pass, epoch, row)
 }
 
 impl OwnOp {
