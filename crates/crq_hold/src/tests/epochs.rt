@@ -3,9 +3,13 @@ ghost use Rattle.std.specs.Prelude.{◌≡◌, ◌<◌, ◌≤◌, ◌^◌, IfOk
 ghost use Rattle.crq_rule.specs.declared.view.Guard.TheVariants.{Off};
 ghost use Rattle.crq_rows.specs.Passes.{caller, IsNew, IsPassOf};
 ghost use Rattle.crq_rows.specs.Ticking.{IsTicking};
+ghost use Rattle.crq_rows.specs.Owning.{IsOwning};
 ghost use Rattle.crq_rows.specs.Recovering.{IsRecovering};
 
+use crate::tests::alone;
+use crate::tests::scarcity::{BUDGET, put_and_take};
 use crq_base::First;
+use crq_queue::Memory;
 use crq_rows::{
     Holder, Owes, Own, OwnOp, Pass, Recover, RecoverOp, Stamp, Table, Tick, TickOp, confirm_step,
     enter_step, epoch_step, leave_step, look_step, passes, scan_step,
@@ -96,5 +100,56 @@ fn finds_free_rows(rt: HostRuntime) -> Result<(), Fail> {
     assert_eq!(rt; look_step(&table, &mut one, 9), Stamp::Kept);
     assert_eq!(rt; recover(&table, &mut one), Recover::Ready);
     assert_eq!(rt; epoch_step(&table, &mut one), 8);
+    Ok(())
+}
+
+/// Makes a whole search for a free row.
+fn search(table: &Table, pass: &mut Pass) -> Own
+    requires { IsPassOf table.now pass.old }
+{
+    let mut op = OwnOp::new();
+    for i in 0..64 {
+        match op.step(table, pass) {
+            Own::More => {}
+            end => return end,
+        }
+    }
+    Own::More
+}
+
+/// One caller uses all its six rows: so many for events that stay pending, and the others for events that it takes. Two
+/// ticks then make these ripe. Whether all that was done, what a search answers, and how many rows are free after it.
+fn searched(alloc: Global, pending: u32) -> Result<(bool, Own, usize), Memory> {
+    let (queue, _places, mut worker) = alone(alloc, 4, 0)?;
+    let mut done = true;
+    for row in 0..6u32 {
+        let used = if row < pending {
+            worker.put(&queue, 1, 0, BUDGET).is_ok()
+        } else {
+            put_and_take(&queue, &mut worker)
+        };
+        done = done && used;
+    }
+    let first = tick(&queue.table, &mut worker.pass);
+    let second = tick(&queue.table, &mut worker.pass);
+    let moved = first == Tick::Moved(1) && second == Tick::Moved(2);
+    let answer = search(&queue.table, &mut worker.pass);
+    Ok((done && moved, answer, worker.pass.free.len()))
+}
+
+/// A search claims all ripe rows on its one look round, and answers the first: how many events stay pending, what it
+/// answers, and how many rows are free then.
+#[test]
+fn claims_all_ripe_rows(rt: HostRuntime) -> Result<(), Fail> {
+    let table = [
+        (0, Own::Row(1), 6),
+        (2, Own::Row(3), 4),
+        (5, Own::Row(6), 1),
+        (6, Own::Empty, 0),
+    ];
+    for (pending, answer, free) in table {
+        let found = searched(rt.alloc(), pending)?;
+        assert_eq!(rt; found, (true, answer, free), "{pending} pending");
+    }
     Ok(())
 }
