@@ -8,6 +8,7 @@ use Rattle.crq_base.specs.declared.words.Link.{Link}
 use Rattle.crq_base.specs.declared.words.Mark.TheVariants.{Val, Del}
 use Rattle.crq_base.specs.declared.words.Control.{Control}
 use Rattle.crq_base.specs.Words.{IsLink, link_word}
+use Rattle.crq_rule.proofs.NameLaws.{moved_first}
 use Rattle.crq_rule.specs.declared.debts.CutDebt.{CutDebt}
 use Rattle.crq_rule.specs.declared.pass.Pass.{Pass}
 use Rattle.crq_rule.specs.declared.pass.Table.{Table}
@@ -17,7 +18,7 @@ use Rattle.crq_rule.specs.Places.{index, IsHead, epoch, stamp}
 use Rattle.crq_rule.specs.Parts.{IsEvent, IsOn}
 use Rattle.crq_rule.specs.Kinds.{makes, loads_epoch, tagged, retires}
 use Rattle.crq_rule.specs.Ranks.{rank, head_of, IsOpen, Cell, at_head, at_row, cell_place}
-use Rattle.crq_rule.specs.ListKinds.{StandsOn, MayWalk, MayCut, is_beyond, walks, cuts, event_word, row_place}
+use Rattle.crq_rule.specs.ListKinds.{StandsOn, MayWalk, MayCut, is_beyond, walks, cuts, event_word, row_place, relieved, unnamed}
 use Rattle.crq_rule.specs.Moves.{Lawful, WalksOn, IsWalkable}
 use Rattle.crq_rows.specs.Passes.{caller, IsPassOf, Stepped, load_made, store_made, step_made}
 use Rattle.crq_rows.specs.Reading.{stays}
@@ -133,6 +134,10 @@ module _ (n : ℕ) (table : Table) (x : Control) (sought : Sought) (p : Caller) 
   walk_works : (spot : Spot) (l : Link) (e : Event) → Works n false p (seen spot l e)
   walk_works spot l e = record { stays = walk_stays spot l e; step = walk_made spot l; made = refl; kind = refl; expects = λ no. absurd (cc); timed = λ no. absurd (cc) }
 
+  -- of the one dead row that is owed
+  walk_first : (spot : Spot) (l : Link) (e : Event) → Lawful p → (seen spot l e).debts.cut ≡ relieved p.found.control (cell spot) p.position.rows l e p.debts.cut
+  walk_first spot l e law = let gone = relieved p.found.control (cell spot) p.position.rows l e in moved_first (gone p.debts.cut) (gone p.debts.second_cut) (ap gone law.one_name)
+
   reached_walk : (spot : Spot) (l : Link) (e : Event) → IsReached x sought.list.head sought.target spot p → IsReached x sought.list.head sought.target spot (seen spot l e)
   reached_walk (Head h) l e reached = reached
   reached_walk (Row r) l e reached = (reached.0, walk_here r false l e p.position.rows reached.0 reached.1, reached.2, reached.3)
@@ -154,8 +159,8 @@ module _ (n : ℕ) (table : Table) (x : Control) (sought : Sought) (p : Caller) 
     swept = sweep_passes n p.made (seen spot l e).made (walk_made spot l) refl begun table.start.layout (at_head sought.list.head) (cell spot) l (record { load = refl; bits = bits; present = present }) swept;
     next = λ some. record { event = e; on = walk_next (cell spot) false l e p.position.rows some; belongs = belongs spot reached next some; beyond = beyond spot law' reached next some };
     owed = record {
-      ahead = λ d same at owed. let now = law.owed_now d x (was_owed p.found.control (cell spot) p.position.rows l e p.debts.cut d owed) is.control in
-          let ahead = still_ahead p.found.control (cell spot) p.position.rows l e p.debts.cut d present (spot_now spot l is reached walkable ∙ sym now) (past spot reached d same now at) owed in
+      ahead = λ d same at owed. let first = sym (walk_first spot l e law) ∙ owed in let now = law.owed_now d x (was_owed p.found.control (cell spot) p.position.rows l e p.debts.cut d first) is.control in
+          let ahead = still_ahead p.found.control (cell spot) p.position.rows l e p.debts.cut d present (spot_now spot l is reached walkable ∙ sym now) (past spot reached d same now at) first in
           (ahead.0, λ f on. subst (λ z. rank z l.row ≤ rank d.event d.row) (one_event (seen spot l e) law' l.row e f (walk_next (cell spot) false l e p.position.rows ahead.0) on) ahead.1);
     };
   }
@@ -177,8 +182,8 @@ module _ (n : ℕ) (table : Table) (x : Control) (sought : Sought) (p : Caller) 
   pub head_val : (h : ℕ) (l : Link) → IsListOf x sought.list p → IsReached x sought.list.head sought.target (Head h) p → IsWalkable (at_head h) l p → l.mark ≡ Val
   head_val h l is reached may = (may x is.control (subst (IsOpen x) (sym reached) is.opened)).0
 
-  owed_walk : (spot : Spot) (l : Link) (e : Event) → ((seen spot l e).debts.cut ≡ None) ⊎ ((seen spot l e).debts.cut ≡ p.debts.cut)
-  owed_walk spot l e = ⊎_elim inr inl (relieved_is p.found.control (cell spot) p.position.rows l e p.debts.cut)
+  owed_walk : (spot : Spot) (l : Link) (e : Event) → Lawful p → ((seen spot l e).debts.cut ≡ None) ⊎ ((seen spot l e).debts.cut ≡ p.debts.cut)
+  owed_walk spot l e law = ⊎_elim (λ same. inr (walk_first spot l e law ∙ same)) (λ none. inl (walk_first spot l e law ∙ none)) (relieved_is p.found.control (cell spot) p.position.rows l e p.debts.cut)
 
   load_low : (spot : Spot) (q : Caller) → left_of spot q * 16 + 12 < seek_left (Load spot) p
   load_low (Head h) q = omega arith
@@ -190,18 +195,18 @@ module _ (n : ℕ) (table : Table) (x : Control) (sought : Sought) (p : Caller) 
     works = walk_works spot l e;
     own = refl;
     written = refl;
-    owed = owed_walk spot l e;
+    owed = owed_walk spot l e law;
     answers = next_answers sought.target refl (Load spot) b (seen spot l e) (walk_made spot l) refl (walk_stays spot l e) at at.at.0
         (passed_walk spot l e at.counted at.list_is law law' at.at.1 bits present walkable at.swept next) (swept_on (Load spot) (seen spot l e) (walk_made spot l) refl at) (load_low spot (seen spot l e));
   }
 
   -- a dead row was found: back to the head
-  pub load_del : (r : ℕ) (l : Link) (e : Event) → IsSeeking n table x sought (Load (Row r)) p → Told n table x sought (Load (Row r)) (Load (Head sought.list.head)) p (seen (Row r) l e) More
-  load_del r l e at = record {
+  pub load_del : (r : ℕ) (l : Link) (e : Event) → Lawful p → IsSeeking n table x sought (Load (Row r)) p → Told n table x sought (Load (Row r)) (Load (Head sought.list.head)) p (seen (Row r) l e) More
+  load_del r l e law at = record {
     works = walk_works (Row r) l e;
     own = refl;
     written = refl;
-    owed = owed_walk (Row r) l e;
+    owed = owed_walk (Row r) l e law;
     answers = (go_on (Load (Row r)) (Load (Head sought.list.head)) (seen (Row r) l e) (walk_made (Row r) l) refl (walk_stays (Row r) l e) at (swept_anew (seen (Row r) l e)) (at.at.0, refl), inr (omega arith));
   }
 
@@ -275,7 +280,7 @@ module _ (n : ℕ) (table : Table) (x : Control) (sought : Sought) (p : Caller) 
         works = walk_works spot l e;
         own = refl;
         written = refl;
-        owed = owed_walk spot l e;
+        owed = owed_walk spot l e law;
         answers = next_answers sought.target refl (Passing b) a q (walk_made spot l) refl (walk_stays spot l e) at at.at.0 (passed_walk spot l e at.counted at.list_is law law' reached bits present walkable at.at.1.passed.swept on)
             (sweep_stays n p.made q.made (walk_made spot l) refl at.counted table.start.layout (at_head sought.list.head) (at_row b.link.row) at.at.1.passed.swept) (omega arith);
       }
@@ -298,10 +303,10 @@ module _ (n : ℕ) (table : Table) (x : Control) (sought : Sought) (p : Caller) 
         works = walk_works spot l e;
         own = refl;
         written = refl;
-        owed = owed_walk spot l e;
+        owed = owed_walk spot l e law;
         answers = (
           go_on (Passing b) (Cutting b l) q (walk_made spot l) refl (walk_stays spot l e) at (swept_on (Passing b) q (walk_made spot l) refl at)
-              (at.at.0, passing_stays q law' keeps b known (sweep_stays n p.made q.made (walk_made spot l) refl at.counted table.start.layout (at_head sought.list.head) (at_row b.link.row)) (λ d. was_owed p.found.control (at_row b.link.row) p.position.rows l e p.debts.cut d) passing, bits, dead, link_onward b.link.row l e next.event law' passing.some_row dead next.on on, dead_last b.link.row l e p.position.rows next.event dead next.on),
+              (at.at.0, passing_stays q law' keeps b known (sweep_stays n p.made q.made (walk_made spot l) refl at.counted table.start.layout (at_head sought.list.head) (at_row b.link.row)) (λ d owed. was_owed p.found.control (at_row b.link.row) p.position.rows l e p.debts.cut d (sym (walk_first (Row b.link.row) l e law) ∙ owed)) passing, bits, dead, link_onward b.link.row l e next.event law' passing.some_row dead next.on on, dead_last b.link.row l e p.position.rows next.event dead next.on),
           inr (omega arith),
         );
       }
@@ -389,12 +394,12 @@ module _ (n : ℕ) (table : Table) (x : Control) (sought : Sought) (p : Caller) 
   reached_cut (Head h) e r m on beyond reached = reached
   reached_cut (Row s) e r m on beyond reached = (reached.0, without_stands r p.position.rows s reached.0 (spot_apart (Row s) e r on beyond s refl) reached.1, reached.2, reached.3)
 
-  pub cut_won : (b : Before) (last : Link) (found : ℕ) → IsSeeking n table x sought (Cutting b last) p → Told n table x sought (Cutting b last) (Tagging b.spot b.link.row) p (makes (cut_made b last found) (cuts b.link.row p)) More
-  cut_won b last found at = let passed = at.at.1.passed in let next = passed.next at.at.1.some_row in let stays : Stays p (makes (cut_made b last found) (cuts b.link.row p)) = record { number = refl; start = refl; deal = refl; found = refl; guard = refl } in record {
+  pub cut_won : (b : Before) (last : Link) (found : ℕ) → Lawful p → IsSeeking n table x sought (Cutting b last) p → Told n table x sought (Cutting b last) (Tagging b.spot b.link.row) p (makes (cut_made b last found) (cuts b.link.row p)) More
+  cut_won b last found law at = let passed = at.at.1.passed in let next = passed.next at.at.1.some_row in let stays : Stays p (makes (cut_made b last found) (cuts b.link.row p)) = record { number = refl; start = refl; deal = refl; found = refl; guard = refl } in record {
     works = record { stays = stays; step = cut_made b last found; made = refl; kind = refl; expects = λ _. (passed.known, rows_apart b.link last.row at.at.4); timed = λ no. absurd (cc) };
     own = refl;
     written = refl;
-    owed = ⊎_elim inr inl (unnamed_is b.link.row p.debts.cut);
+    owed = let first = moved_first (unnamed b.link.row p.debts.cut) (unnamed b.link.row p.debts.second_cut) (ap (unnamed b.link.row) law.one_name) in ⊎_elim (λ same. inr (first ∙ same)) (λ none. inl (first ∙ none)) (unnamed_is b.link.row p.debts.cut);
     answers = (
       go_on (Cutting b last) (Tagging b.spot b.link.row) (makes (cut_made b last found) (cuts b.link.row p)) (cut_made b last found) refl stays at (swept_on (Cutting b last) (makes (cut_made b last found) (cuts b.link.row p)) (cut_made b last found) refl at)
           (reached_cut b.spot next.event b.link.row (cut_made b last found) next.on next.beyond passed.reached, (record { row = b.link.row; tags = [] }, refl, refl)),
@@ -484,10 +489,10 @@ module _ (n : ℕ) (table : Table) (x : Control) (sought : Sought) (old new : Pa
       (stepped (Load spot) (next_seek b sought.target).0 (seen n table x sought p spot l saw.event) (next_seek b sought.target).1 saw.is saw.same saw.part refl
       (load_val n table x sought p spot l saw.event at of.lawful (subst Lawful saw.part saw.is.lawful) saw.is_link present saw.marked saw.next))
 
-  pub load_dead : (spot : Spot) (l : Link) → Saw table old new (cell spot) false l → l.mark ≡ Del → IsSeeking n table x sought (Load spot) (caller table old)
+  pub load_dead : (spot : Spot) (l : Link) → IsPassOf table old → Saw table old new (cell spot) false l → l.mark ≡ Del → IsSeeking n table x sought (Load spot) (caller table old)
       → SeekStepped n table x sought (Load spot) (Load (Head sought.list.head)) old new More
-  load_dead (Row r) l saw dead at = stepped (Load (Row r)) (Load (Head sought.list.head)) (seen n table x sought (caller table old) (Row r) l saw.event) More saw.is saw.same saw.part refl (load_del n table x sought (caller table old) r l saw.event at)
-  load_dead (Head h) l saw dead at = absurd (val_del l (head_val n table x sought (caller table old) h l at.list_is at.at.1 saw.marked) dead)
+  load_dead (Row r) l of saw dead at = stepped (Load (Row r)) (Load (Head sought.list.head)) (seen n table x sought (caller table old) (Row r) l saw.event) More saw.is saw.same saw.part refl (load_del n table x sought (caller table old) r l saw.event of.lawful at)
+  load_dead (Head h) l of saw dead at = absurd (val_del l (head_val n table x sought (caller table old) h l at.list_is at.at.1 saw.marked) dead)
 
   pub pass_present : (b : Before) (l : Link) (to : SeekState × Progress SeekEnd) → IsPassOf table old → Saw table old new (at_row b.link.row) false l → l.mark ≡ Val → to ≡ next_seek (record { spot = Row b.link.row; link = l }) sought.target
       → IsSeeking n table x sought (Passing b) (caller table old) → SeekStepped n table x sought (Passing b) to.0 old new to.1
@@ -501,10 +506,10 @@ module _ (n : ℕ) (table : Table) (x : Control) (sought : Sought) (old new : Pa
   pass_dead b l of saw dead at = stepped (Passing b) (Cutting b l) (seen n table x sought (caller table old) (Row b.link.row) l saw.event) More saw.is saw.same saw.part refl
       (pass_del n table x sought (caller table old) b l saw.event at of.lawful (subst Lawful saw.part saw.is.lawful) saw.is_link dead saw.next)
 
-  pub cut_done : (b : Before) (last : Link) (won : Bool) → won ≡ true → CutSwapped table old new (cell b.spot) b.link last won
+  pub cut_done : (b : Before) (last : Link) (won : Bool) → IsPassOf table old → won ≡ true → CutSwapped table old new (cell b.spot) b.link last won
       → IsSeeking n table x sought (Cutting b last) (caller table old) → SeekStepped n table x sought (Cutting b last) (Tagging b.spot b.link.row) old new More
-  cut_done b last won is cut at = let p = caller table old in let m = cut_made n table x sought p b last cut.swapped.found in
-      exchanged b last won (Tagging b.spot b.link.row) (makes m (cuts b.link.row p)) More cut (cut.swapped.part ∙ ap (λ w. makes m (where_won w (cuts b.link.row) p)) is) (cut_won n table x sought p b last cut.swapped.found at)
+  cut_done b last won of is cut at = let p = caller table old in let m = cut_made n table x sought p b last cut.swapped.found in
+      exchanged b last won (Tagging b.spot b.link.row) (makes m (cuts b.link.row p)) More cut (cut.swapped.part ∙ ap (λ w. makes m (where_won w (cuts b.link.row) p)) is) (cut_won n table x sought p b last cut.swapped.found of.lawful at)
 
   pub cut_missed : (b : Before) (last : Link) (won : Bool) → won ≡ false → CutSwapped table old new (cell b.spot) b.link last won
       → IsSeeking n table x sought (Cutting b last) (caller table old) → SeekStepped n table x sought (Cutting b last) (Load (Head sought.list.head)) old new More

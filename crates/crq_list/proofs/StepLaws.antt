@@ -11,6 +11,8 @@ use Rattle.crq_base.specs.declared.words.Mark.TheVariants.{Val, Del}
 use Rattle.crq_base.specs.declared.words.Control.{Control}
 use Rattle.crq_base.specs.Words.{IsLink, IsControl, mark_number, link_word, control_word}
 use Rattle.crq_base.proofs.WordLaws.{link_one, control_one}
+use Rattle.crq_rule.proofs.NameLaws.{moved_first, moved_second}
+use Rattle.crq_rule.specs.Core.{renamed, moved_up}
 use Rattle.crq_rule.specs.declared.debts.CutDebt.{CutDebt}
 use Rattle.crq_rule.specs.declared.debts.Debts.{Debts}
 use Rattle.crq_rule.specs.declared.layout.Start.{Start}
@@ -64,19 +66,25 @@ pub unnamed_is : (r : ℕ) (d : Option CutDebt) → (unnamed r d ≡ d) ⊎ (unn
 unnamed_is r None = inl refl
 unnamed_is r (Some d) = dropped (d.row == r) d
 
+-- of one name that a caller has, what is dropped leaves none
+pub one_moved : (d : Debts) (first : Option CutDebt) (drop : Option CutDebt → Option CutDebt) → drop None ≡ None → d.second_cut ≡ None → (first ≡ d.cut) ⊎ (first ≡ None)
+    → (renamed d (moved_up first (drop d.second_cut)) ≡ d) ⊎ (renamed d (moved_up first (drop d.second_cut)) ≡ record d { cut = None })
+one_moved d first drop keeps one is = let none : drop d.second_cut ≡ None = ap drop one ∙ keeps in let second = moved_second first (drop d.second_cut) none ∙ sym one in
+    ⊎_elim (λ same. inl (λ i. record d { cut = (moved_first first (drop d.second_cut) none ∙ same) i; second_cut = second i })) (λ dropped. inr (λ i. record d { cut = (moved_first first (drop d.second_cut) none ∙ dropped) i; second_cut = second i })) is
+
 -- what the pass has at run time still agrees after a walk
-pub walked_aside : (cell : Cell) (seeks : Bool) (found : ℕ) (p q : Caller) → Walked cell seeks found p q → StaysAside p q
-walked_aside cell seeks found p q h = subst (StaysAside p) h.after record {
+pub walked_aside : (cell : Cell) (seeks : Bool) (found : ℕ) (p q : Caller) → Lawful p → Walked cell seeks found p q → StaysAside p q
+walked_aside cell seeks found p q law h = subst (StaysAside p) h.after record {
   hand = refl;
-  debts = ⊎_elim (λ same. inl (ap (λ z. record p.debts { cut = z }) same)) (λ none. inr (ap (λ z. record p.debts { cut = z }) none)) (relieved_is p.found.control cell p.position.rows h.link h.event p.debts.cut);
+  debts = one_moved p.debts (relieved p.found.control cell p.position.rows h.link h.event p.debts.cut) (relieved p.found.control cell p.position.rows h.link h.event) refl law.one_name (relieved_is p.found.control cell p.position.rows h.link h.event p.debts.cut);
 }
 
 -- and after a cut, won or not
-pub cut_aside : (expected r found : ℕ) (p : Caller) → StaysAside p (wins expected (cuts r) found p)
-cut_aside expected r found p = go (found == expected)
+pub cut_aside : (expected r found : ℕ) (p : Caller) → Lawful p → StaysAside p (wins expected (cuts r) found p)
+cut_aside expected r found p law = go (found == expected)
   where
     go : (b : Bool) → StaysAside p (cond b (cuts r p) p)
-    go true = record { hand = refl; debts = ⊎_elim (λ same. inl (ap (λ z. record p.debts { cut = z }) same)) (λ none. inr (ap (λ z. record p.debts { cut = z }) none)) (unnamed_is r p.debts.cut) }
+    go true = record { hand = refl; debts = one_moved p.debts (unnamed r p.debts.cut) (unnamed r) refl law.one_name (unnamed_is r p.debts.cut) }
     go false = record { hand = refl; debts = inl refl }
 
 -- the link that was found is the one that the word spells

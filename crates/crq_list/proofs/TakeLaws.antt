@@ -12,6 +12,8 @@ use Rattle.crq_base.specs.declared.words.Mark.TheVariants.{Val, Del}
 use Rattle.crq_base.specs.declared.words.Control.{Control}
 use Rattle.crq_base.specs.Words.{IsLink, link_word}
 use Rattle.crq_base.specs.Lists.{In}
+use Rattle.crq_rule.specs.Moves.{Lawful}
+use Rattle.crq_rule.specs.Core.{DeadNames, names_of, renamed}
 use Rattle.crq_rule.specs.declared.debts.CutDebt.{CutDebt}
 use Rattle.crq_rule.specs.declared.layout.Layout.{Layout}
 use Rattle.crq_rule.specs.declared.pass.Pass.{Pass}
@@ -26,7 +28,7 @@ use Rattle.crq_rule.specs.Places.{index, link as link_place}
 use Rattle.crq_rule.specs.Parts.{IsEvent, rows_of}
 use Rattle.crq_rule.specs.Kinds.{makes}
 use Rattle.crq_rule.specs.Ranks.{rank, Cell, at_head, at_row, cell_place}
-use Rattle.crq_rule.specs.ListKinds.{StandsOn, MayMiss, is_passed, is_final, is_val, is_twin, new_stand, next_stand, only_row, noted_stand, noted, stands_after, begins_walk, walk_after, table_seen, sight_after, relieved, row_place, event_word, marks, cut_debt}
+use Rattle.crq_rule.specs.ListKinds.{StandsOn, MayMiss, is_passed, is_final, is_val, is_twin, new_stand, next_stand, only_row, noted_stand, noted, stands_after, begins_walk, walk_after, table_seen, sight_after, relieved, row_place, event_word, marks, cut_debt, relieved_names}
 use Rattle.crq_rule.proofs.Standings.{rows_in, in_rows, row_stays, row_next}
 use Rattle.crq_rows.specs.Passes.{caller, load_made, step_made, IsPassOf, Stepped}
 use Rattle.crq_rows.specs.Reading.{stays}
@@ -104,16 +106,23 @@ as_far l e ss r on up = let rest = noted r l (only_row r ss) in let same = noted
 
 -- Steps that load
 
--- the caller with another position, walk, table that it read, and dead row that it owes
-abbrev pub moved : Position → Option Walk → Option Sight → Option CutDebt → Caller → Caller
-moved a w v d p = record p { position = a; walk = w; sight = v; debts = record p.debts { cut = d } }
+-- the caller with another position, walk, table that it read, and names of dead rows
+abbrev pub moved : Position → Option Walk → Option Sight → DeadNames → Caller → Caller
+moved a w v names p = record p { position = a; walk = w; sight = v; debts = renamed p.debts names }
+
+abbrev pub no_names : DeadNames
+no_names = record { first = None; second = None }
+
+-- a caller that owes no dead row has no name
+unnamed_all : (p : Caller) → Lawful p → p.debts.cut ≡ None → names_of p.debts ≡ no_names
+unnamed_all p law free = λ i. record { first = free i; second = law.one_name i }
 
 -- one load was made with the pass, which moved its caller so
 pub record Loads (table : Table) (old new : Pass) (m : Made) (a : Position) (w : Option Walk) (v : Option Sight) : Type 0 where
   pub is : IsPassOf table new
   pub same : new ≡ record old { seat = new.seat }
   pub load : is_exchange m.kind ≡ false
-  pub part : caller table new ≡ makes m (moved a w v None (caller table old))
+  pub part : caller table new ≡ makes m (moved a w v no_names (caller table old))
 
 module _ (n : ℕ) (table : Table) (x : Control) (op : TakeOp) (s : TakeState) (old new : Pass) (m : Made) (a : Position) (w : Option Walk) (v : Option Sight) (h : Loads table old new m a w v) (no : taking_exchanges s ≡ false) (sees : v ≡ Some (record { table = x }))
     (t : IsTaking n table x (record op { state = s }) (caller table old)) where
@@ -121,7 +130,7 @@ module _ (n : ℕ) (table : Table) (x : Control) (op : TakeOp) (s : TakeState) (
   before = caller table old
 
   abbrev now : Caller
-  now = makes m (moved a w v None before)
+  now = makes m (moved a w v no_names before)
 
   abbrev is_op : TakeOp
   is_op = record op { state = s }
@@ -212,16 +221,16 @@ marking_one : (r r' : ℕ) (l l' : Link) (e e' : Event) → Marking r l e ≡ Ma
 marking_one r r' l l' e e' q = cc
 
 -- a walk of a caller that owes no dead row moves it
-saw_loads : (table : Table) (old new : Pass) (cell : Cell) (l : Link) (saw : Saw table old new cell true l) (w : Option Walk) (v : Option Sight) → (caller table old).debts.cut ≡ None
+saw_loads : (table : Table) (old new : Pass) (cell : Cell) (l : Link) (saw : Saw table old new cell true l) (w : Option Walk) (v : Option Sight) → Lawful (caller table old) → (caller table old).debts.cut ≡ None
     → walk_after cell true (caller table old).found.control l (caller table old).walk ≡ w → sight_after cell true (caller table old).found.control l (caller table old).sight ≡ v
     → Loads table old new (load_made WalkKind (index table.start.layout (cell_place cell)) (link_word l))
     (record { rows = stands_after cell true l saw.event (caller table old).position.rows; old = (caller table old).position.old }) w v
-saw_loads table old new cell l saw w v free walks sees = let p = caller table old in let rows = stands_after cell true l saw.event p.position.rows in record {
+saw_loads table old new cell l saw w v law free walks sees = let p = caller table old in let rows = stands_after cell true l saw.event p.position.rows in record {
   is = saw.is;
   same = saw.same;
   load = refl;
   part = saw.part ∙ (λ i. makes (load_made WalkKind (index table.start.layout (cell_place cell)) (link_word l))
-      (moved (record { rows = rows; old = p.position.old }) (walks i) (sees i) (ap (relieved p.found.control cell p.position.rows l saw.event) free i) p));
+      (moved (record { rows = rows; old = p.position.old }) (walks i) (sees i) (ap (relieved_names p.found.control cell p.position.rows l saw.event) (unnamed_all p law free) i) p));
 }
 
 -- what is answered after a head or row that was passed
@@ -229,13 +238,13 @@ abbrev Onward : Link → TakeState × Progress MarkEnd → Type 0
 Onward l r = ((l.row ≡ 0) × (r ≡ (Load, Done Nothing))) ⊎ ((0 < l.row) × (r ≡ (Walking l.row, More)))
 
 -- Load: the head is present
-pub head_stepped : (n : ℕ) (table : Table) (x : Control) (op : TakeOp) (old new : Pass) (l : Link) (r : TakeState × Progress MarkEnd) → Saw table old new (at_head op.head) true l → l.mark ≡ Val → Onward l r
+pub head_stepped : (n : ℕ) (table : Table) (x : Control) (op : TakeOp) (old new : Pass) (l : Link) (r : TakeState × Progress MarkEnd) → Lawful (caller table old) → Saw table old new (at_head op.head) true l → l.mark ≡ Val → Onward l r
     → IsTaking n table x (record op { state = Load }) (caller table old) → TakeStepped n table x (record op { state = Load }) (record op { state = r.0 }) old new r.1
-head_stepped n table x op old new l r saw val onward t = let y : Walk = record { head = op.head; at = l.row } in
+head_stepped n table x op old new l r law saw val onward t = let y : Walk = record { head = op.head; at = l.row } in
     let p = caller table old in let at = (saw.marked x t.control t.opened).1 in
     let begins : begins_walk p.found.control l ≡ true = ap (λ c. begins_walk c l) t.control ∙ (λ i. is_val (val i) && eq-eqb l.generation x.generation at i) in
     let seen : sight_after (at_head op.head) true p.found.control l p.sight ≡ Some (record { table = x }) = ap (λ b. cond b (table_seen p.found.control) p.sight) begins ∙ ap table_seen t.control in
-    let h = saw_loads table old new (at_head op.head) l saw (Some y) (Some (record { table = x })) t.free (ap (λ b. cond b (Some y) None) begins) seen in ⊎_elim
+    let h = saw_loads table old new (at_head op.head) l saw (Some y) (Some (record { table = x })) law t.free (ap (λ b. cond b (Some y) None) begins) seen in ⊎_elim
     (λ end. subst (λ z. TakeStepped n table x (record op { state = Load }) (record op { state = z.0 }) old new z.1) (sym end.1) (nothing n table x op Load old new _ _ _ _ h refl refl t y refl end.0))
     (λ some. subst (λ z. TakeStepped n table x (record op { state = Load }) (record op { state = z.0 }) old new z.1) (sym some.1)
     (more n table x op Load old new _ _ _ _ h refl refl t (Walking l.row) (λ r l' e q. absurd (walking_no l.row r l' e q))
@@ -252,10 +261,10 @@ stands : (ss : List Stand) (r : ℕ) → In r (rows_of ss) → (e : Event) × St
 stands ss r i = let s = in_rows ss r i in (s.0.event, (s.0, s.1, s.2, refl))
 
 -- Walking: the row is dead
-pub dead_stepped : (n : ℕ) (table : Table) (x : Control) (op : TakeOp) (r : ℕ) (old new : Pass) (l : Link) (to : TakeState × Progress MarkEnd) → Saw table old new (at_row r) true l → is_passed l.mark ≡ true → Onward l to
+pub dead_stepped : (n : ℕ) (table : Table) (x : Control) (op : TakeOp) (r : ℕ) (old new : Pass) (l : Link) (to : TakeState × Progress MarkEnd) → Lawful (caller table old) → Saw table old new (at_row r) true l → is_passed l.mark ≡ true → Onward l to
     → IsTaking n table x (record op { state = Walking r }) (caller table old) → TakeStepped n table x (record op { state = Walking r }) (record op { state = to.0 }) old new to.1
-dead_stepped n table x op r old new l to saw dead onward t = let p = caller table old in let ss = p.position.rows in let e = saw.event in let y : Walk = record t.at.0 { at = l.row } in let i = stood ss r t.at.4 in
-    let h = saw_loads table old new (at_row r) l saw (Some y) (Some (record { table = x })) t.free (ap (walk_after (at_row r) true p.found.control l) t.at.1 ∙ ap (λ b. Some (cond b y t.at.0)) dead) t.sees in ⊎_elim
+dead_stepped n table x op r old new l to law saw dead onward t = let p = caller table old in let ss = p.position.rows in let e = saw.event in let y : Walk = record t.at.0 { at = l.row } in let i = stood ss r t.at.4 in
+    let h = saw_loads table old new (at_row r) l saw (Some y) (Some (record { table = x })) law t.free (ap (walk_after (at_row r) true p.found.control l) t.at.1 ∙ ap (λ b. Some (cond b y t.at.0)) dead) t.sees in ⊎_elim
     (λ end. subst (λ z. TakeStepped n table x (record op { state = Walking r }) (record op { state = z.0 }) old new z.1) (sym end.1) (nothing n table x op (Walking r) old new _ _ _ _ h refl refl t y refl end.0))
     (λ some. let on = ⊎_elim (λ (z : l.row ≡ 0). absurd (omega arith)) (λ k. k) (row_next r true l e ss) in let up : (f : Event) → StandsOn ss r f → rank f r < rank e l.row = λ f k. (saw.next f k some.0).0 in
     subst (λ z. TakeStepped n table x (record op { state = Walking r }) (record op { state = z.0 }) old new z.1) (sym some.1)
@@ -263,10 +272,10 @@ dead_stepped n table x op r old new l to saw dead onward t = let p = caller tabl
     (y, refl, refl, some.0, stands (stands_after (at_row r) true l e ss) l.row on) (nearer (at_row r) l e ss _ r saw.is_link (saw.row some.0).1 some.0 i up))) onward
 
 -- or present
-pub present_stepped : (n : ℕ) (table : Table) (x : Control) (op : TakeOp) (r : ℕ) (old new : Pass) (l : Link) (unread : Event) → Saw table old new (at_row r) true l → l.mark ≡ Val
+pub present_stepped : (n : ℕ) (table : Table) (x : Control) (op : TakeOp) (r : ℕ) (old new : Pass) (l : Link) (unread : Event) → Lawful (caller table old) → Saw table old new (at_row r) true l → l.mark ≡ Val
     → IsTaking n table x (record op { state = Walking r }) (caller table old) → TakeStepped n table x (record op { state = Walking r }) (record op { state = Reading r l 2 unread }) old new More
-present_stepped n table x op r old new l unread saw val t = let p = caller table old in let ss = p.position.rows in let e = saw.event in let y = t.at.0 in let i = stood ss r t.at.4 in
-    let h = saw_loads table old new (at_row r) l saw (Some y) (Some (record { table = x })) t.free (ap (walk_after (at_row r) true p.found.control l) t.at.1 ∙ ap (λ k. Some (cond (is_passed k) (record y { at = l.row }) y)) val) t.sees in
+present_stepped n table x op r old new l unread law saw val t = let p = caller table old in let ss = p.position.rows in let e = saw.event in let y = t.at.0 in let i = stood ss r t.at.4 in
+    let h = saw_loads table old new (at_row r) l saw (Some y) (Some (record { table = x })) law t.free (ap (walk_after (at_row r) true p.found.control l) t.at.1 ∙ ap (λ k. Some (cond (is_passed k) (record y { at = l.row }) y)) val) t.sees in
     let far = as_far l e ss r i (λ some f k. (saw.next f k some).0) in
     more n table x op (Walking r) old new _ _ _ _ h refl refl t (Reading r l 2 unread) (λ r' l' e' q. absurd (reading_no r r' 2 l l' unread e' q)) (
       record {
@@ -283,17 +292,17 @@ present_stepped n table x op r old new l unread saw val t = let p = caller table
 
 -- Reading: one word more
 
-read_loads : (table : Table) (old new : Pass) (w found : ℕ) → (caller table old).debts.cut ≡ None → Stepped table old new (load_made Read w found) stays → Loads table old new (load_made Read w found) (caller table old).position (caller table old).walk (caller table old).sight
-read_loads table old new w found free h = let p = caller table old in record {
+read_loads : (table : Table) (old new : Pass) (w found : ℕ) → Lawful (caller table old) → (caller table old).debts.cut ≡ None → Stepped table old new (load_made Read w found) stays → Loads table old new (load_made Read w found) (caller table old).position (caller table old).walk (caller table old).sight
+read_loads table old new w found law free h = let p = caller table old in record {
   is = h.is;
   same = h.same;
   load = refl;
-  part = h.part ∙ ap (λ d. makes (load_made Read w found) (moved p.position p.walk p.sight d p)) free;
+  part = h.part ∙ ap (λ names. makes (load_made Read w found) (moved p.position p.walk p.sight names p)) (unnamed_all p law free);
 }
 
 -- what was known of the present row stays known
 still : (n : ℕ) (table : Table) (r place : ℕ) (l : Link) (found : ℕ) (p : Caller) → n ≤ length p.made → 2 ≤ place → place < 6 → IsPresent n table r l p
-    → IsPresent n table r l (makes (load_made Read (index table.start.layout (row_place r place)) found) (moved p.position p.walk p.sight None p))
+    → IsPresent n table r l (makes (load_made Read (index table.start.layout (row_place r place)) found) (moved p.position p.walk p.sight no_names p))
 still n table r place l found p low two six h = record {
   at = h.at;
   bits = h.bits;
@@ -322,7 +331,7 @@ module _ (n : ℕ) (table : Table) (x : Control) (op : TakeOp) (r : ℕ) (l : Li
 
   -- there are more words to read
   pub read_stepped : place < 5 → TakeStepped n table x (record op { state = Reading r l place read }) (record op { state = Reading r l (place + 1) got }) old new More
-  read_stepped five = let two = t.at.1 in more n table x op (Reading r l place read) old new _ _ _ _ (read_loads table old new _ found t.free h) refl t.sees t (Reading r l (place + 1) got) (λ r' l' e' q. absurd (reading_no r r' (place + 1) l l' got e' q))
+  read_stepped five = let two = t.at.1 in more n table x op (Reading r l place read) old new _ _ _ _ (read_loads table old new _ found of.lawful t.free h) refl t.sees t (Reading r l (place + 1) got) (λ r' l' e' q. absurd (reading_no r r' (place + 1) l l' got e' q))
       (still n table r place l found (caller table old) t.counted t.at.1 t.at.2 t.at.0, omega arith, omega arith, λ e on. (now_read e on).0) (omega arith)
 
   -- the event is read, and it is the row's
@@ -330,11 +339,11 @@ module _ (n : ℕ) (table : Table) (x : Control) (op : TakeOp) (r : ℕ) (l : Li
   whole five = let on = t.at.0.at.4 in let last : place ≡ 5 = (let high = t.at.2 in omega arith) in subst (StandsOn (caller table old).position.rows r) (sym ((now_read on.0 on.1).1 last)) on.1
 
   pub beyond_stepped : 5 ≤ place → op.limit ≤ got.time → TakeStepped n table x (record op { state = Reading r l place read }) (record op { state = Load }) old new (Done (Beyond got))
-  beyond_stepped five high = let y = t.at.0.at in past n table x op (Reading r l place read) old new _ _ _ _ (read_loads table old new _ found t.free h) refl t.sees t y.0 got y.1
+  beyond_stepped five high = let y = t.at.0.at in past n table x op (Reading r l place read) old new _ _ _ _ (read_loads table old new _ found of.lawful t.free h) refl t.sees t y.0 got y.1
       (subst (λ z. StandsOn (caller table old).position.rows z got) (sym y.2) (whole five)) high (r, l, still n table r place l found (caller table old) t.counted t.at.1 t.at.2 t.at.0, whole five)
 
   pub whole_stepped : 5 ≤ place → got.time < op.limit → TakeStepped n table x (record op { state = Reading r l place read }) (record op { state = Marking r l got }) old new More
-  whole_stepped five low = more n table x op (Reading r l place read) old new _ _ _ _ (read_loads table old new _ found t.free h) refl t.sees t (Marking r l got) (λ r' l' e' q. subst (λ (z : Event). z.time < op.limit) (marking_one r r' l l' got e' q) low)
+  whole_stepped five low = more n table x op (Reading r l place read) old new _ _ _ _ (read_loads table old new _ found of.lawful t.free h) refl t.sees t (Marking r l got) (λ r' l' e' q. subst (λ (z : Event). z.time < op.limit) (marking_one r r' l l' got e' q) low)
       (still n table r place l found (caller table old) t.counted t.at.1 t.at.2 t.at.0, whole five) (let high = t.at.2 in omega arith)
 
 -- Marking

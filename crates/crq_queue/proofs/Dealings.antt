@@ -44,6 +44,7 @@ lawful_spanned n p l = record {
   owed_now = l.owed_now;
   owed_fits = l.owed_fits;
   scarce = l.scarce;
+  one_name = l.one_name;
   sighted = l.sighted;
   controlled = l.controlled;
 }

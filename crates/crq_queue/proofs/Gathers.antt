@@ -110,6 +110,7 @@ lawful_settled h p l = record {
   owed_now = l.owed_now;
   owed_fits = l.owed_fits;
   scarce = l.scarce;
+  one_name = l.one_name;
   sighted = l.sighted;
   controlled = l.controlled;
 }

@@ -42,6 +42,7 @@ fresh_lawful start n b = record {
   owed_at = λ d x is. absurd (no_debt d is);
   owed_now = λ d x is. absurd (no_debt d is);
   owed_fits = λ d is. absurd (no_debt d is);
+  one_name = refl;
   scarce = λ b vain. absurd (none_base b vain.0);
   sighted = λ s is. absurd (no_sight s is);
   controlled = λ x is. absurd (none_control x is);

@@ -25,7 +25,7 @@ record Sat (table : Table) (old : Pass) (seat : Seat (Unit {0}) View) (m : Made)
   part : caller table (record old { seat = seat }) ≡ makes m after
 
 lawful_made : (m : Made) (q : Caller) → Lawful q → Lawful (makes m q)
-lawful_made m q l = record { inside = l.inside; epochs = l.epochs; hand = l.hand; cut = l.cut; tags = l.tags; ripening = l.ripening; stands = l.stands; last = l.last; apart = l.apart; on = l.on; agree = l.agree; owed_at = l.owed_at; owed_now = l.owed_now; owed_fits = l.owed_fits; scarce = l.scarce; sighted = l.sighted; controlled = l.controlled }
+lawful_made m q l = record { inside = l.inside; epochs = l.epochs; hand = l.hand; cut = l.cut; tags = l.tags; ripening = l.ripening; stands = l.stands; last = l.last; apart = l.apart; on = l.on; agree = l.agree; owed_at = l.owed_at; owed_now = l.owed_now; owed_fits = l.owed_fits; one_name = l.one_name; scarce = l.scarce; sighted = l.sighted; controlled = l.controlled }
 
 module _ (table : Table) (old : Pass) (seat : Seat (Unit {0}) View) (m : Made) (R : Caller → Caller → Type 0) where
   sat : IsSeated table old → seat.table_id ≡ old.seat.table_id → FirstTurns R m old.seat.me.0.parts seat.me.0 → seat.me.1 ≡ old.seat.me.1 → Sat table old seat m R
@@ -48,9 +48,9 @@ module _ (table : Table) (old : Pass) (seat : Seat (Unit {0}) View) (m : Made) (
   still_owed : (d e : Debts) (run : Debts) → IsOwed run d → (e ≡ d) ⊎ (e ≡ record d { cut = None }) → IsOwed run e
   still_owed d e run owed how = ⊎_elim (λ q. subst (IsOwed run) (sym q) owed) (λ q. subst (IsOwed run) (sym q) record { settle = owed.settle; copy = owed.copy; cut = inl refl; second_cut = owed.second_cut }) how
 
-  pub turned : IsPassOf table old → ((p q : Caller) → R p q → StaysAside p q) → seat.table_id ≡ old.seat.table_id → seat.id ≡ old.seat.id → FirstTurns R m old.seat.me.0.parts seat.me.0 → seat.me.1 ≡ old.seat.me.1
+  pub turned : IsPassOf table old → ((p q : Caller) → Lawful p → R p q → StaysAside p q) → seat.table_id ≡ old.seat.table_id → seat.id ≡ old.seat.id → FirstTurns R m old.seat.me.0.parts seat.me.0 → seat.me.1 ≡ old.seat.me.1
       → Turned table old (record old { seat = seat }) m R
-  turned of aside table_id id turns bare = let s = sat of.sits table_id turns bare in let stays = aside (caller table old) s.after s.turns in record {
+  turned of aside table_id id turns bare = let s = sat of.sits table_id turns bare in let stays = aside (caller table old) s.after of.lawful s.turns in record {
     is = record {
       sits = s.sits;
       lawful = subst Lawful (sym s.part) s.lawful;
@@ -79,9 +79,9 @@ module _ (table : Table) (old : Pass) (seat : Seat (Unit {0}) View) (m : Made) (
     s.turns.1,
   )
 
-  pub stepped : IsPassOf table old → ((p : Caller) → StaysAside p (f p)) → seat.table_id ≡ old.seat.table_id → seat.id ≡ old.seat.id → FirstTurns Goes m old.seat.me.0.parts seat.me.0 → seat.me.1 ≡ old.seat.me.1
+  pub stepped : IsPassOf table old → ((p : Caller) → Lawful p → StaysAside p (f p)) → seat.table_id ≡ old.seat.table_id → seat.id ≡ old.seat.id → FirstTurns Goes m old.seat.me.0.parts seat.me.0 → seat.me.1 ≡ old.seat.me.1
       → Stepped table old (record old { seat = seat }) m f × tells (caller table old)
-  stepped of aside table_id id turns bare = let t = turned table old seat m Goes of (λ p q h. subst (StaysAside p) h.0 (aside p)) table_id id turns bare in (
+  stepped of aside table_id id turns bare = let t = turned table old seat m Goes of (λ p q law h. subst (StaysAside p) h.0 (aside p law)) table_id id turns bare in (
     record { is = t.is; same = refl; id = id; part = t.after.2 ∙ ap (makes m) (sym t.after.1.0) },
     t.after.1.1,
   )

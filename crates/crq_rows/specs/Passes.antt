@@ -106,7 +106,7 @@ pub record StaysAside (p q : Caller) : Type 0 where
   pub debts : (q.debts ≡ p.debts) ⊎ (q.debts ≡ record p.debts { cut = None })
 
 abbrev pub IsAside : (ℕ → Caller → Caller) → Type 0
-IsAside f = (r : ℕ) (p : Caller) → StaysAside p (f r p)
+IsAside f = (r : ℕ) (p : Caller) → Lawful p → StaysAside p (f r p)
 
 -- the word of an announcement
 abbrev pub announcement_word : Option ℕ → ℕ

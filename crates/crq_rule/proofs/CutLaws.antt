@@ -23,7 +23,7 @@ use Rattle.crq_rule.specs.HistoryParts.{Carriers, IsLive, Walkers, StandsFrom, I
 use Rattle.crq_rule.specs.ScarceParts.{IsLate}
 use Rattle.crq_rule.specs.Invariant.{takes_of, Inv}
 use Rattle.crq_rule.specs.Ranks.{list_in, Rises, Cell, at_head, at_row, link_at, heads_set, links_set, without_row}
-use Rattle.crq_rule.specs.ListKinds.{cut_from, without_stand, unnamed, StandsOn, MayWalk, MayCut}
+use Rattle.crq_rule.specs.ListKinds.{cut_from, without_stand, unnamed, StandsOn, MayWalk, MayCut, unnamed_row}
 use Rattle.crq_rule.proofs.Puts.{put_here, put_else, put_all}
 use Rattle.crq_rule.proofs.PartLaws.{sort, of_whom, read_cut, cutting_cut}
 use Rattle.crq_rule.proofs.HolderLaws.{none_some, some_some}
@@ -31,6 +31,7 @@ use Rattle.crq_rule.specs.ListKinds.{is_cell}
 use Rattle.crq_rule.proofs.HeadLaws.{dead_kept, cell_final, cell_frozen, cell_listed, dead_carries, heads_rows}
 use Rattle.crq_rule.proofs.WalkerLaws.{walkers_stop, walkers_links}
 use Rattle.crq_rule.proofs.SizeLaws.{sizes_rows, dues_named}
+use Rattle.crq_rule.proofs.NameLaws.{moved_second, has_moved, was_left}
 use Rattle.crq_rule.proofs.SteadyLaws.{steady_rows, steady_names, guarded_out, outside_twin}
 use Rattle.crq_rule.proofs.CoverLaws.{guarded_by, stand_row, row_footing, footing_covered}
 use Rattle.crq_rule.proofs.ScarceLaws.{since_low, scarce_lasts, lasts_held}
@@ -174,7 +175,7 @@ module _ (c : Core) (j : ℕ) (cell : Cell) (x : ℕ) (l : Link) (b : j < c.star
   now_rows = without_stand x (c.rows j)
 
   abbrev now_names : DeadNames
-  now_names = record (c.named j) { first = unnamed x (c.named j).first }
+  now_names = unnamed_row x (c.named j)
 
   abbrev ground' : Ground
   ground' = record (ground_of c) { link = links; footing = footings (put c.rows j now_rows) c.old c.copying }
@@ -373,7 +374,7 @@ module _ (c : Core) (j : ℕ) (cell : Cell) (x : ℕ) (l : Link) (b : j < c.star
   }
 
   names_before : (k : ℕ) (d : CutDebt) → HasName (put c.named j now_names k) d → HasName (c.named k) d
-  names_before k d = put_all c.named j now_names (λ i t. HasName t d → HasName (c.named i) d) (⊎_elim (λ is. inl (debt_left x (c.named j).first d is)) inr) (λ _ _ h. h) k
+  names_before k d = put_all c.named j now_names (λ i t. HasName t d → HasName (c.named i) d) (λ has. ⊎_elim (λ is. inl (debt_left x (c.named j).first d is)) (λ is. inr (debt_left x (c.named j).second d is)) (was_left _ _ d has)) (λ _ _ h. h) k
 
   name_stays : (d : CutDebt) (r : ℕ) → IsNamed c.words.head d r (c.words.event r) (c.words.link r) → IsNamed heads d r (c.words.event r) (links r)
   name_stays d r n = record { row = n.row; event = n.event; generation = n.generation ∙ sym (link_generation c.words.head c.words.link l.row cell r); front = λ is. front_stays d.head r (n.front is) }
@@ -385,7 +386,7 @@ module _ (c : Core) (j : ℕ) (cell : Cell) (x : ℕ) (l : Link) (b : j < c.star
       old.1,
       (
         d,
-        put_all c.named j now_names (λ i t. HasName (c.named i) d → HasName t d) (⊎_elim (λ h. inl (name_left x (c.named j).first d h (λ z. o.1 (sym old.2.2.row ∙ z)))) inr) (λ _ _ h. h) old.0 old.2.1,
+        put_all c.named j now_names (λ i t. HasName (c.named i) d → HasName t d) (λ has. has_moved _ _ d (⊎_elim (λ h. inl (name_left x (c.named j).first d h (λ z. o.1 (sym old.2.2.row ∙ z)))) (λ h. inr (name_left x (c.named j).second d h (λ z. o.1 (sym old.2.2.row ∙ z)))) has)) (λ _ _ h. h) old.0 old.2.1,
         name_stays d r old.2.2,
       ),
     );
@@ -453,7 +454,8 @@ module _ (c : Core) (j : ℕ) (cell : Cell) (x : ℕ) (l : Link) (b : j < c.star
     cover = cover_part;
     sizes = sizes_rows _ _ _ _ _ _ _ _ _ (λ h _. head_generation c.words.head c.words.link l.row cell h) (λ r _ out. inl (was_outside r out, link_generation c.words.head c.words.link l.row cell r)) inv.sizes;
     dues = dues_named _ _ _ _ _ _ _ (λ k d _ has. inl (names_before k d has)) inv.dues;
-    steady = steady_names _ _ _ _ _ _ _ (λ k d _ has. inl (names_before k d has)) (steady_rows _ _ _ _ _ _ _ _ (λ r _ out. inl (was_outside r out, link_generation c.words.head c.words.link l.row cell r, inl (same_mark r))) inv.steady);
+    steady = steady_names _ _ _ _ _ _ _ (λ k d _ has. inl (names_before k d has))
+        (λ k _. put_all c.named j now_names (λ k t. (c.named k).second ≡ None → t.second ≡ None) (λ none. moved_second _ _ (ap (unnamed x) none)) (λ _ _ h. h) k) (steady_rows _ _ _ _ _ _ _ _ (λ r _ out. inl (was_outside r out, link_generation c.words.head c.words.link l.row cell r, inl (same_mark r))) inv.steady);
     heads = heads_part;
     sorted = sorted_part;
     marks = marks_part;

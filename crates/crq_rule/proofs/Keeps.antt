@@ -18,7 +18,7 @@ use Rattle.crq_rule.specs.Invariant.{Inv}
 use Rattle.crq_rule.specs.ScarceParts.{pending}
 use Rattle.crq_rule.specs.Kinds.{tagged, new_base, new_tick, seen_stamp, base_looked, refused_after}
 use Rattle.crq_rule.specs.Ranks.{Cell, at_head, at_row, cell_place, link_at, heads_set, links_set}
-use Rattle.crq_rule.specs.ListKinds.{Content, new_link, no_twin, new_time, new_source, new_sequence, new_load, content_number, content_word, row_place, wrote, link_after, twin_after, event_after, put_entries, name_in, unhanded, forgotten, without_stand, unnamed, stands_after, walk_after, sight_after, taken_on, sweep_on, clean_on, relieved}
+use Rattle.crq_rule.specs.ListKinds.{Content, new_link, no_twin, new_time, new_source, new_sequence, new_load, content_number, content_word, row_place, wrote, link_after, twin_after, event_after, put_entries, name_in, unhanded, forgotten, without_stand, stands_after, walk_after, sight_after, taken_on, sweep_on, clean_on, relieved_names, unnamed_row}
 use Rattle.crq_rule.specs.Steps.{Kind, split, join, epoch_load, recovery_load, enter, confirm, leave, scan, tick, tick_fails, retire, look, claim, write, read, walk, link, link_fails, control_load, begin, mark, mark_fails, cut, cut_fails, miss, May, After, place_of, entries_of}
 use Rattle.crq_rule.proofs.Puts.{put_else, put_through}
 use Rattle.crq_rule.proofs.GuardLaws.{load_keeps, recovery_keeps, enter_keeps, confirm_keeps, leave_keeps, scan_keeps, tick_keeps, tick_fails_keeps}
@@ -74,7 +74,7 @@ abbrev new_clean : Core → ℕ → Cell → Bool → List ℕ
 new_clean c j cell seeks = clean_on (taken_on seeks (c.found j).control cell (c.rows j) (c.sweep j)) (link_at c.words.head c.words.link cell) (c.clean j)
 
 abbrev new_names : Core → ℕ → Cell → DeadNames
-new_names c j cell = let l = link_at c.words.head c.words.link cell in record (c.named j) { first = relieved (c.found j).control cell (c.rows j) l (c.words.event l.row) (c.named j).first }
+new_names c j cell = let l = link_at c.words.head c.words.link cell in relieved_names (c.found j).control cell (c.rows j) l (c.words.event l.row) (c.named j)
 
 -- what the other callers know stays
 pub others_stay : (k : Kind) (c : Core) (j i : ℕ) → i ≢ j → caller_of (After k c j) i ≡ caller_of c i
@@ -142,7 +142,7 @@ others_stay (cut cell y l) c j i ne = λ x. record (caller_of c i) {
   cut = put_else c.cut j (Some (record { row = y; tags = [] })) i ne x;
   walk = put_else c.walk j None i ne x;
   position = record { rows = put_else c.rows j (without_stand y (c.rows j)) i ne x; old = c.old i };
-  debts = owed_by (c.settling i) (c.copying i) (put_else c.named j (record (c.named j) { first = unnamed y (c.named j).first }) i ne x);
+  debts = owed_by (c.settling i) (c.copying i) (put_else c.named j (unnamed_row y (c.named j)) i ne x);
 }
 others_stay (cut_fails cell) c j i ne = refl
 others_stay (miss limit) c j i ne = λ x. record (caller_of c i) {

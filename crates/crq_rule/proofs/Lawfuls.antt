@@ -13,7 +13,7 @@ use Rattle.crq_rule.specs.Parts.{ground_of, Covers, IsEvent, IsOn}
 use Rattle.crq_rule.specs.Invariant.{Inv}
 use Rattle.crq_rule.specs.Moves.{Lawful}
 use Rattle.crq_rule.proofs.CoverLaws.{guarded_by, stand_row, row_footing, footing_covered}
-use Rattle.crq_rule.proofs.SteadyLaws.{steady_still, steady_one, found_now, named_now}
+use Rattle.crq_rule.proofs.SteadyLaws.{steady_still, steady_one, found_now, named_now, one_named}
 use Rattle.crq_rule.proofs.ScarceLaws.{rows_counted}
 
 -- a caller whose guard isn't off or entering found an epoch
@@ -46,6 +46,7 @@ lawful c j b inv = record {
   owed_at = λ d x owed is. subst (λ z. d.head ≡ head_of z d.event) (sym (found_now c inv j x b is)) (named_now c inv j d b (inl owed)).1;
   owed_now = λ d x owed is. subst (λ (z : Control). d.generation ≡ z.generation) (sym (found_now c inv j x b is)) (named_now c inv j d b (inl owed)).0;
   owed_fits = λ d owed. let n = inv.naming.place j d b (inl owed) in (n.row, n.event);
+  one_name = one_named c inv j b;
   scarce = λ x vain. rows_counted c j x b vain inv;
   sighted = λ s is. let f = inv.finds.sights j s b is in (f.0.spelled, f.1);
   controlled = λ x is. subst (λ z. IsControl z × (z.moving ≡ false) × (z.log ≡ 0)) (sym (found_now c inv j x b is)) (inv.spelled.is_control, steady_still c inv, steady_one c inv);

@@ -5,6 +5,7 @@ pub mod HolderLaws
 pub mod CoverLaws
 pub mod StandLaws
 pub mod HeadLaws
+pub mod NameLaws
 pub mod Prefixes
 pub mod WalkerLaws
 pub mod SizeLaws

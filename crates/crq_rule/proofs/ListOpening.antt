@@ -120,7 +120,7 @@ module _ (s : Start) (first : IsFirst s.first) where
   opening_dues = record { settles = λ k d _ is. absurd (no_settle d is); copies = λ k d _ is. absurd (no_copy d is); named = λ k d _ has. absurd (no_name d has) }
 
   pub opening_steady : Steady s (opening_core s).words.control (opening_core s).words.link (opening_core s).holding (opening_core s).named (opening_core s).settling
-  opening_steady = record { still = refl; first = refl; one = refl; rows = λ r _ out. absurd (out (home_of s.layout r) refl); marks = λ r _ out. absurd (out (home_of s.layout r) refl); named = λ k d _ has. absurd (no_name d has); settled = λ _ _. refl }
+  opening_steady = record { still = refl; first = refl; one = refl; rows = λ r _ out. absurd (out (home_of s.layout r) refl); marks = λ r _ out. absurd (out (home_of s.layout r) refl); named = λ k d _ has. absurd (no_name d has); single = λ _ _. refl; settled = λ _ _. refl }
 
   none_live : (r : ℕ) → IsLive s.layout (opening_core s).words.link (opening_core s).words.twin (opening_core s).holding r → ⊥
   none_live r live = hand_listed _ live.1.0 live.1.1

@@ -22,7 +22,7 @@ use Rattle.crq_rule.specs.Parts.{ground_of, IsOn, Leads, IsGuarded}
 use Rattle.crq_rule.specs.ListParts.{row_word}
 use Rattle.crq_rule.specs.Invariant.{Inv}
 use Rattle.crq_rule.specs.Ranks.{rank, list_in, head_of, IsOpen, Cell, at_head, at_row, cell_place, link_at, heads_set, links_set}
-use Rattle.crq_rule.specs.ListKinds.{is_cell, stands_after, walk_after, sight_after, taken_on, sweep_on, clean_on, relieved, Content, new_link, no_twin, new_time, new_source, new_sequence, new_load, IsContent, content_number, content_word, row_place, wrote, writes, links, event_word, loads_control, begins, marks, cuts, misses, MayWalk, MaySeek, MayLink, MayMark, MayCut, MayMiss, ComesAfter, put_entries, unhanded, forgotten, cut_debt, name_in, without_stand, unnamed}
+use Rattle.crq_rule.specs.ListKinds.{is_cell, stands_after, walk_after, sight_after, taken_on, sweep_on, clean_on, Content, new_link, no_twin, new_time, new_source, new_sequence, new_load, IsContent, content_number, content_word, row_place, wrote, writes, links, event_word, loads_control, begins, marks, cuts, misses, MayWalk, MaySeek, MayLink, MayMark, MayCut, MayMiss, ComesAfter, put_entries, unhanded, forgotten, cut_debt, name_in, without_stand, relieved_names, unnamed_row}
 use Rattle.crq_rule.specs.Steps.{Kind, write, walk, link as link_kind, link_fails, control_load, begin, mark, mark_fails, cut, cut_fails, miss, May, After, kind_of, place_of}
 use Rattle.crq_rule.specs.Rule.{IsWords}
 use Rattle.crq_rule.specs.Moves.{MovesBy, By, Walked, WalksOn, IsWalkable, FoundControl, wins, quiet}
@@ -159,7 +159,7 @@ module _ (key : Start) (p : Caller) where
             walk = sym (put_here c.walk j (walk_after cell seeks (c.found j).control l (c.walk j))) i;
             sweep = sym (put_here c.sweep j (sweep_on (taken_on seeks (c.found j).control cell (c.rows j) (c.sweep j)) l e (c.sweep j))) i;
             clean = sym (put_here c.clean j (clean_on (taken_on seeks (c.found j).control cell (c.rows j) (c.sweep j)) l (c.clean j))) i;
-            debts = owed_by (c.settling j) (c.copying j) (sym (put_here c.named j (record (c.named j) { first = relieved (c.found j).control cell (c.rows j) l e (c.named j).first })) i);
+            debts = owed_by (c.settling j) (c.copying j) (sym (put_here c.named j (relieved_names (c.found j).control cell (c.rows j) l e (c.named j))) i);
           };
           row = λ some. let n = named cell c b inv may' some in (n.0, inv.spelled.events l.row n.0);
           next = next_of cell c b inv may';
@@ -233,7 +233,7 @@ module _ (key : Start) (p : Caller) where
         cut = sym (put_here c.cut j (Some (record { row = y; tags = [] }))) i;
         walk = sym (put_here c.walk j None) i;
         position = record { rows = sym (put_here c.rows j (without_stand y (c.rows j))) i; old = c.old j };
-        debts = owed_by (c.settling j) (c.copying j) (sym (put_here c.named j (record (c.named j) { first = unnamed y (c.named j).first })) i);
+        debts = owed_by (c.settling j) (c.copying j) (sym (put_here c.named j (unnamed_row y (c.named j))) i);
       }))
       (λ apart. lost CutKind (cut_fails cell) w (link_word l) (link_word new) (cuts y) refl (λ _. tt) (λ _. refl) c ws words is apart)
 

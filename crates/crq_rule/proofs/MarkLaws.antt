@@ -210,6 +210,9 @@ module _ (l : Layout) (shape : ℕ → Shape) (link : ℕ → Link) (twin : ℕ 
     names_before : (k : ℕ) (d : CutDebt) → HasName (put names j named k) d → HasName (names k) d ⊎ (name ≡ d)
     names_before k d = put_all names j named (λ k x. HasName x d → HasName (names k) d ⊎ (name ≡ d)) (⊎_elim (λ q. inr (some_debt name d q)) (λ h. inl (inr h))) (λ _ _ h. inl h) k
 
+    single_stays : (k : ℕ) → (names k).second ≡ None → (put names j named k).second ≡ None
+    single_stays k = put_all names j named (λ k x. (names k).second ≡ None → x.second ≡ None) (λ n. n) (λ _ _ n. n) k
+
     names_stay : (names j).first ≡ None → (k : ℕ) (d : CutDebt) → HasName (names k) d → HasName (put names j named k) d
     names_stay free k d = put_all names j named (λ k x. HasName (names k) d → HasName x d) (⊎_elim (λ q. absurd (no_debt d (sym free ∙ q))) inr) (λ _ _ h. h) k
 
@@ -311,7 +314,7 @@ mark_keeps c j r e b may val inv = let l = c.start.layout in let x = c.shape in 
   cover = cover_dead l x k t v h r _ _ _ inv.cover;
   sizes = sizes_rows _ _ _ _ _ _ _ _ _ (λ _ _. refl) (λ s _ out. inl (out, dead_generation k r s)) inv.sizes;
   dues = dues_named _ _ _ _ _ _ _ (λ i d _ has. ⊎_elim inl (λ same. inr (subst (λ (d : CutDebt). (d.generation ≤ newest c.words.control) × (d.head ≡ list_in c.shape d.generation d.event)) same (inv.sizes.rows r row outside, refl))) (names_before l x k t v h r j e c.named i d has)) inv.dues;
-  steady = steady_names _ _ _ _ _ _ _ (λ i d _ has. ⊎_elim inl (λ same. inr (r, row, outside, ap (λ (z : CutDebt). z.generation) (sym same) ∙ sym (dead_generation k r r))) (names_before l x k t v h r j e c.named i d has))
+  steady = steady_names _ _ _ _ _ _ _ (λ i d _ has. ⊎_elim inl (λ same. inr (r, row, outside, ap (λ (z : CutDebt). z.generation) (sym same) ∙ sym (dead_generation k r r))) (names_before l x k t v h r j e c.named i d has)) (λ i _. single_stays l x k t v h r j e c.named i)
       (steady_rows _ _ _ _ _ _ _ _ (λ s _ out. inl (out, dead_generation k r s, dead_mark k r s)) inv.steady);
   heads = inv.heads;
   sorted = sorted_dead l x k t v h r _ _ inv.sorted;

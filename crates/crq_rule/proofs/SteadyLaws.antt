@@ -47,19 +47,21 @@ module _ (start : Start) (control : Control) (link : ℕ → Link) (holding : �
     rows = λ r b out. ⊎_elim (λ h. h.1 ∙ old.rows r b h.0) (λ now. now.0) (was r b out);
     marks = λ r b out. ⊎_elim (λ h. ⊎_elim (λ same. ⊎_elim (λ v. inl (same ∙ v)) (λ d. inr (same ∙ d)) (old.marks r b h.0)) inr h.2) (λ now. inl now.1) (was r b out);
     named = old.named;
+    single = old.single;
     settled = old.settled;
   }
 
   -- each name was there, or is of a row of the open table
   pub steady_names : (names' : ℕ → DeadNames) → ((k : ℕ) (d : CutDebt) → k < start.layout.workers → HasName (names' k) d → HasName (names k) d ⊎ ((r : ℕ) × IsRow start.layout r × IsOutside holding r × (d.generation ≡ (link r).generation)))
-      → Steady start control link holding names settling → Steady start control link holding names' settling
-  steady_names names' was old = record {
+      → ((k : ℕ) → k < start.layout.workers → (names k).second ≡ None → (names' k).second ≡ None) → Steady start control link holding names settling → Steady start control link holding names' settling
+  steady_names names' was alone old = record {
     still = old.still;
     first = old.first;
     one = old.one;
     rows = old.rows;
     marks = old.marks;
     named = λ k d b has. ⊎_elim (old.named k d b) (λ of. of.3 ∙ old.rows of.0 of.1 of.2) (was k d b has);
+    single = λ k b. alone k b (old.single k b);
     settled = old.settled;
   }
 
@@ -149,6 +151,10 @@ module _ (c : Core) (inv : Inv c) where
       ∙ (outside_now y.0 y.1.0 (λ j held. listed_hand y.1.1.0 j (sym y.1.1.1 ∙ held)) ∙ ap (λ (z : Control). z.generation) (sym (fitting_now x fits))) in
       let here : y.1.1.0 ≡ q = sym (inv.sorted.belongs y.1.1.0 y.0 in_list.0 in_list.1) ∙ ((λ k. list_in c.shape (now k) (y.2 k)) ∙ (fitting_list c.start c.words.control c.shape x fits e ∙ at)) in
       (y.0, subst (λ z. In y.0 (c.chain z)) here in_list.1, y.2, carries_kept (c.words.link y.0).mark (c.words.twin y.0) (c.words.link (c.words.twin y.0)).mark y.1.2)
+
+  -- a caller owes one dead row at most
+  pub one_named : (k : ℕ) → k < c.start.layout.workers → (c.named k).second ≡ None
+  one_named k b = inv.steady.single k b
 
   -- each event that was put is settled
   pub all_settled : (e : Event) → Contains (puts c.history) e → Contains (settleds c.history) e

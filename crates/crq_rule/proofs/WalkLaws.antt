@@ -29,13 +29,14 @@ use Rattle.crq_rule.specs.ListParts.{ranks, StandFits, IsFinal, IsNamed}
 use Rattle.crq_rule.specs.HistoryParts.{Walks, Sees}
 use Rattle.crq_rule.specs.Invariant.{Inv, takes_of}
 use Rattle.crq_rule.specs.Ranks.{rank, list_in, head_of, Cell, at_head, at_row, link_at, first_head_of}
-use Rattle.crq_rule.specs.ListKinds.{is_final, is_passed, is_val, stands_after, walk_after, walked, is_cell, is_beyond, is_past, is_other_front, relieved, front_of, new_stand, next_stand, noted_stand, is_mov, is_inv, walked_from, MayWalk, MaySeek, sight_after, read_after, begins_walk, table_seen}
+use Rattle.crq_rule.specs.ListKinds.{is_final, is_passed, is_val, stands_after, walk_after, walked, is_cell, is_beyond, is_past, is_other_front, relieved, front_of, new_stand, next_stand, noted_stand, is_mov, is_inv, walked_from, MayWalk, MaySeek, sight_after, read_after, begins_walk, table_seen, relieved_names}
 use Rattle.crq_rule.proofs.SweepLaws.{val_is, swept_walked}
 use Rattle.crq_rule.proofs.Puts.{put_here, put_else, put_all}
 use Rattle.crq_rule.proofs.PartLaws.{sort}
 use Rattle.crq_rule.proofs.CoverLaws.{row_footing}
 use Rattle.crq_rule.proofs.SizeLaws.{fitting_list, dues_named}
 use Rattle.crq_rule.proofs.HeadLaws.{cell_dead, cell_listed, passed_kept, passed_kept}
+use Rattle.crq_rule.proofs.NameLaws.{moved_second, has_moved, was_left}
 use Rattle.crq_rule.proofs.SteadyLaws.{outside_twin, guarded_out, steady_names, list_carries, none_owed}
 use Rattle.crq_rule.proofs.Standings.{in_rows, in_next, least, first_in, next_above, adjacent, longer, reached, path_in, in_join, join_in, rows_in, next_in, stood, row_stood, row_stays, row_next, in_rows}
 
@@ -54,7 +55,7 @@ abbrev new_rows : Core → ℕ → Cell → Bool → List Stand
 new_rows c j cell seeks = stands_after cell seeks (cell_link c cell) (cell_event c cell) (c.rows j)
 
 abbrev new_names : Core → ℕ → Cell → DeadNames
-new_names c j cell = record (c.named j) { first = relieved (c.found j).control cell (c.rows j) (cell_link c cell) (cell_event c cell) (c.named j).first }
+new_names c j cell = relieved_names (c.found j).control cell (c.rows j) (cell_link c cell) (cell_event c cell) (c.named j)
 
 abbrev new_walk : Core → ℕ → Cell → Bool → Option Walk
 new_walk c j cell seeks = walk_after cell seeks (c.found j).control (cell_link c cell) (c.walk j)
@@ -396,7 +397,8 @@ walk_keeps c j cell seeks b is_on may seek inv = record {
   };
   sizes = inv.sizes;
   dues = dues_named _ _ _ _ _ _ _ (λ k d _ has. inl (names_before k d has)) inv.dues;
-  steady = steady_names _ _ _ _ _ _ _ (λ k d _ has. inl (names_before k d has)) inv.steady;
+  steady = steady_names _ _ _ _ _ _ _ (λ k d _ has. inl (names_before k d has))
+      (λ k _. put_all c.named j (new_names c j cell) (λ k t. (c.named k).second ≡ None → t.second ≡ None) (λ none. moved_second _ _ (ap (relieved (c.found j).control cell (c.rows j) (cell_link c cell) (cell_event c cell)) none)) (λ _ _ h. h) k) inv.steady;
   heads = inv.heads;
   sorted = inv.sorted;
   marks = inv.marks;
@@ -422,8 +424,10 @@ walk_keeps c j cell seeks b is_on may seek inv = record {
       (
         x,
         put_all c.named j (new_names c j cell) (λ k t. HasName (c.named k) x → HasName t x)
-            (⊎_elim (λ is. inl (relieved_stays (c.found j).control cell (c.rows j) (cell_link c cell) (cell_event c cell) (c.named j).first x is
-            (still_owed c j on.0 b on.1 inv x q r place in_list.0 in_list.1 del o.2.2 cell may) (still_front c j on.0 b on.1 inv x q r place in_list.0 in_list.1 del o.2.2 cell))) inr)
+            (λ has. has_moved _ _ x (let stays : (d : Option CutDebt) → d ≡ Some x → relieved (c.found j).control cell (c.rows j) (cell_link c cell) (cell_event c cell) d ≡ Some x = λ d is.
+            relieved_stays (c.found j).control cell (c.rows j) (cell_link c cell) (cell_event c cell) d x is
+            (still_owed c j on.0 b on.1 inv x q r place in_list.0 in_list.1 del o.2.2 cell may) (still_front c j on.0 b on.1 inv x q r place in_list.0 in_list.1 del o.2.2 cell) in
+            ⊎_elim (λ is. inl (stays (c.named j).first is)) (λ is. inr (stays (c.named j).second is)) has))
             (λ _ _ h. h) o.0 o.2.1,
         o.2.2,
       ),
@@ -456,7 +460,8 @@ walk_keeps c j cell seeks b is_on may seek inv = record {
 
     names_before : (k : ℕ) (d : CutDebt) → HasName (put c.named j (new_names c j cell) k) d → HasName (c.named k) d
     names_before k d = put_all c.named j (new_names c j cell) (λ k x. HasName x d → HasName (c.named k) d)
-        (⊎_elim (λ is. inl (relieved_some (c.found j).control cell (c.rows j) (cell_link c cell) (cell_event c cell) (c.named j).first d is)) inr) (λ _ _ h. h) k
+        (λ has. ⊎_elim (λ is. inl (relieved_some (c.found j).control cell (c.rows j) (cell_link c cell) (cell_event c cell) (c.named j).first d is))
+        (λ is. inr (relieved_some (c.found j).control cell (c.rows j) (cell_link c cell) (cell_event c cell) (c.named j).second d is)) (was_left _ _ d has)) (λ _ _ h. h) k
 
     guarded : (r : ℕ) → IsGuarded (ground_of (walked_from c j cell seeks)) r → IsGuarded (ground_of c) r ⊎ IsListed c r
     guarded r v = ⊎_elim (λ o. inl (v.0, v.1, o)) inr (old v.0 v.1 r v.2)

@@ -352,7 +352,7 @@ core_inv = record {
     rows = λ r _ _. let g = generation r in omega arith;
   };
   dues = old.dues;
-  steady = record { still = refl; first = refl; one = refl; rows = λ r _ _. generation r; marks = λ r _ _. present_dead r; named = old.steady.named; settled = old.steady.settled };
+  steady = record { still = refl; first = refl; one = refl; rows = λ r _ _. generation r; marks = λ r _ _. present_dead r; named = old.steady.named; single = old.steady.single; settled = old.steady.settled };
   heads = next_head;
   sorted = sorted;
   marks = marks;

@@ -1,6 +1,6 @@
 -- The core state: what the words say, the one history, and what each caller knows, as plain data. It is given as separate functions by caller, by row and by head, so that a part of
 -- the invariant can be stated over those alone that it reads.
-use Rattle.std.specs.Prelude.{◌≡◌, ◌⊎◌, ℕ, List, Option, Some, Bool}
+use Rattle.std.specs.Prelude.{◌≡◌, ◌⊎◌, ℕ, List, Option, Some, None, Bool}
 use Rattle.crq_base.specs.declared.event.Event.{Event}
 use Rattle.crq_base.specs.declared.entry.Entry.{Entry}
 use Rattle.crq_rule.specs.declared.debts.Debts.{Debts}
@@ -87,6 +87,18 @@ pub record Core : Type 0 where
 -- the name is one of these
 abbrev pub HasName : DeadNames → CutDebt → Type 0
 HasName names d = (names.first ≡ Some d) ⊎ (names.second ≡ Some d)
+
+-- the names that are left of two: where the first is gone the second moves up
+abbrev pub moved_up : Option CutDebt → Option CutDebt → DeadNames
+moved_up None second = record { first = second; second = None }
+moved_up (Some d) second = record { first = Some d; second = second }
+
+abbrev pub names_of : Debts → DeadNames
+names_of d = record { first = d.cut; second = d.second_cut }
+
+-- the same debts with these names
+abbrev pub renamed : Debts → DeadNames → Debts
+renamed d names = record d { cut = names.first; second_cut = names.second }
 
 -- all that a caller owes
 abbrev pub owed_by : Option SettleDebt → Option CopyDebt → DeadNames → Debts

@@ -19,7 +19,7 @@ use Rattle.crq_rule.specs.declared.view.Sweep.{Sweep}
 use Rattle.crq_rule.specs.declared.view.Caller.{Caller}
 use Rattle.crq_rule.specs.Lists.{put}
 use Rattle.crq_rule.specs.Places.{Place, IsHead, link, twin, time, source, sequence, load}
-use Rattle.crq_rule.specs.Core.{Core, listed, cut_by}
+use Rattle.crq_rule.specs.Core.{Core, DeadNames, moved_up, names_of, renamed, listed, cut_by}
 use Rattle.crq_rule.specs.Parts.{IsEvent, IsOn}
 use Rattle.crq_rule.specs.ListParts.{row_word}
 use Rattle.crq_rule.specs.HistoryParts.{EndsInBegin}
@@ -233,6 +233,9 @@ abbrev pub relieved : Option Control → Cell → List Stand → Link → Event 
 relieved x cell ss l e None = None
 relieved x cell ss l e (Some d) = cond (is_past x cell ss l e d || is_other_front cell l d) None (Some d)
 
+abbrev pub relieved_names : Option Control → Cell → List Stand → Link → Event → DeadNames → DeadNames
+relieved_names x cell ss l e names = moved_up (relieved x cell ss l e names.first) (relieved x cell ss l e names.second)
+
 -- The sweep, which each walk but that of a take takes on: at a present head it begins anew, and at a present row up to which it has come it goes on to the row that is named, or ends. A caller has swept a list with that last step
 
 -- the row r is of the sweep's list, and doesn't come after its place
@@ -265,7 +268,7 @@ walks cell seeks l e p = record p {
   walk = walk_after cell seeks p.found.control l p.walk;
   sweep = sweep_on (taken_on seeks p.found.control cell p.position.rows p.sweep) l e p.sweep;
   clean = clean_on (taken_on seeks p.found.control cell p.position.rows p.sweep) l p.clean;
-  debts = record p.debts { cut = relieved p.found.control cell p.position.rows l e p.debts.cut };
+  debts = renamed p.debts (relieved_names p.found.control cell p.position.rows l e (names_of p.debts));
 }
 
 abbrev pub walked_from : Core → ℕ → Cell → Bool → Core
@@ -276,7 +279,7 @@ walked_from c j cell seeks = let l = link_at c.words.head c.words.link cell in l
   walk = put c.walk j (walk_after cell seeks (c.found j).control l (c.walk j));
   sweep = put c.sweep j (sweep_on (taken_on seeks (c.found j).control cell (c.rows j) (c.sweep j)) l e (c.sweep j));
   clean = put c.clean j (clean_on (taken_on seeks (c.found j).control cell (c.rows j) (c.sweep j)) l (c.clean j));
-  named = put c.named j (record (c.named j) { first = relieved (c.found j).control cell (c.rows j) l e (c.named j).first });
+  named = put c.named j (relieved_names (c.found j).control cell (c.rows j) l e (c.named j));
 }
 
 -- Link: the row r, which holds the event e, comes after the cell, whose link was l. The event is put, and settled at once
@@ -366,12 +369,15 @@ abbrev pub unnamed : ℕ → Option CutDebt → Option CutDebt
 unnamed x None = None
 unnamed x (Some d) = cond (d.row == x) None (Some d)
 
+abbrev pub unnamed_row : ℕ → DeadNames → DeadNames
+unnamed_row x names = moved_up (unnamed x names.first) (unnamed x names.second)
+
 abbrev pub cuts : ℕ → Caller → Caller
 cuts x p = record p {
   cut = Some (record { row = x; tags = [] });
   walk = None;
   position = record p.position { rows = without_stand x p.position.rows };
-  debts = record p.debts { cut = unnamed x p.debts.cut };
+  debts = renamed p.debts (unnamed_row x (names_of p.debts));
 }
 
 abbrev pub cut_from : Core → ℕ → Cell → ℕ → Link → Core
@@ -382,7 +388,7 @@ cut_from c j cell x l = let q = list_in c.shape (c.words.link x).generation (c.w
   cut = put c.cut j (Some (record { row = x; tags = [] }));
   walk = put c.walk j None;
   rows = put c.rows j (without_stand x (c.rows j));
-  named = put c.named j (record (c.named j) { first = unnamed x (c.named j).first });
+  named = put c.named j (unnamed_row x (c.named j));
 }
 
 -- Miss

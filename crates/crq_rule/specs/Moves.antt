@@ -1,5 +1,5 @@
 -- What the crates above use of the rule: what a caller may rely on of what it knows alone, when a step is one of the rule, and what a step tells its caller.
-use Rattle.std.specs.Prelude.{◌≡◌, ◌≢◌, ◌⊎◌, ◌==◌, cond, Bool, ℕ, ◌+◌, ◌*◌, ◌^◌, ◌-◌, ◌<◌, ◌≤◌, min, List, [], ◌∷◌, length, Some, false, slice_index, slice_set}
+use Rattle.std.specs.Prelude.{◌≡◌, ◌≢◌, ◌⊎◌, ◌==◌, cond, Bool, ℕ, ◌+◌, ◌*◌, ◌^◌, ◌-◌, ◌<◌, ◌≤◌, min, List, [], ◌∷◌, length, Some, false, slice_index, slice_set, None}
 use Rattle.crq_base.specs.declared.kinds.StepKind.{StepKind}
 use Rattle.crq_rule.specs.declared.layout.Start.{Start}
 use Rattle.crq_base.specs.declared.words.Link.{Link}
@@ -42,6 +42,7 @@ pub record Lawful (p : Caller) : Type 0 where
   pub owed_at : (d : CutDebt) (x : Control) → p.debts.cut ≡ Some d → p.found.control ≡ Some x → d.head ≡ head_of x d.event
   pub owed_now : (d : CutDebt) (x : Control) → p.debts.cut ≡ Some d → p.found.control ≡ Some x → d.generation ≡ x.generation
   pub owed_fits : (d : CutDebt) → p.debts.cut ≡ Some d → IsRow p.start.layout d.row × IsEvent d.event
+  pub one_name : p.debts.second_cut ≡ None
   -- a recovery that found no row began where there were enough events
   pub scarce : (b : Base) → FoundNoRow p b → p.start.layout.rows ≤ 2 * length b.events
   pub sighted : (s : Sight) → p.sight ≡ Some s → IsControl s.table × (s.table.moving ≡ false)

@@ -19,5 +19,7 @@ pub record Steady (start : Start) (control : Control) (link : ℕ → Link) (hol
   -- and not frozen, nor a copy that isn't valid
   pub marks : (r : ℕ) → IsRow start.layout r → IsOutside holding r → ((link r).mark ≡ Val) ⊎ ((link r).mark ≡ Del)
   pub named : (k : ℕ) (d : CutDebt) → k < start.layout.workers → HasName (names k) d → d.generation ≡ control.generation
+  -- a caller owes one dead row
+  pub single : (k : ℕ) → k < start.layout.workers → (names k).second ≡ None
   -- a put is settled at once
   pub settled : (k : ℕ) → k < start.layout.workers → settling k ≡ None

@@ -6,4 +6,4 @@ returns-in-Val c = λ n x at. load_present n c.args.table.now x c.args.sought.no
     c.requires.of c.walk_step-link.ensures c.in-Val.is c.next_of.ensures at
 
 pub returns-in-Del : goal.returns-in-Del
-returns-in-Del c = λ n x at. load_dead n c.args.table.now x c.args.sought.now c.args.pass.now c.walk_step-link.new.pass c.args.spot c.walk_step-link.result c.walk_step-link.ensures c.in-Del.is at
+returns-in-Del c = λ n x at. load_dead n c.args.table.now x c.args.sought.now c.args.pass.now c.walk_step-link.new.pass c.args.spot c.walk_step-link.result c.requires.of c.walk_step-link.ensures c.in-Del.is at

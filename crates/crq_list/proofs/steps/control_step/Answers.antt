@@ -10,7 +10,7 @@ use Rattle.crq_list.proofs.StepLaws.{controlled}
 use Rattle.crq_list.proofs.steps.control_step.Goals as goal
 
 pub load_turning-found-requires-clause-aside : goal.load_turning-found-requires-clause-aside
-load_turning-found-requires-clause-aside c r p q h = subst (StaysAside p) h.after record { hand = refl; debts = inl refl }
+load_turning-found-requires-clause-aside c r p q _ h = subst (StaysAside p) h.after record { hand = refl; debts = inl refl }
 
 pub load_turning-found-requires-clause-moves : goal.load_turning-found-requires-clause-moves
 load_turning-found-requires-clause-moves c = let table = c.args.table.now in let p = caller table c.args.pass.now in

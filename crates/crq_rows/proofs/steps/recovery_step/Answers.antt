@@ -6,7 +6,7 @@ use Rattle.crq_rows.specs.Passes.{caller, StaysAside}
 use Rattle.crq_rows.proofs.steps.recovery_step.Goals as goal
 
 pub load_turning-requires-clause-aside : goal.load_turning-requires-clause-aside
-load_turning-requires-clause-aside c r p q h = subst (StaysAside p) h.after record { hand = refl; debts = inl refl }
+load_turning-requires-clause-aside c r p q _ h = subst (StaysAside p) h.after record { hand = refl; debts = inl refl }
 
 pub load_turning-requires-clause-moves : goal.load_turning-requires-clause-moves
 load_turning-requires-clause-moves c = let table = c.args.table.now in let p = caller table c.args.pass.now in
