@@ -1,5 +1,5 @@
 -- A cut takes a dead row out of its list, and keeps the invariant.
-use Rattle.std.proofs.Common.{◌≡◌, ◌≢◌, ◌⊎◌, ⊎_elim, inl, inr, ℕ, ◌^◌, ◌<◌, ◌≤◌, cond, List, [], ◌∷◌, ◌++◌, Option, Some, None, sym, refl, ap, ◌∙◌, eq-eqb, ne_eqb, subst, arith, le_refl, true}
+use Rattle.std.proofs.Common.{◌≡◌, ◌≢◌, ◌⊎◌, ⊎_elim, inl, inr, ℕ, ◌^◌, ◌<◌, ◌≤◌, cond, List, [], ◌∷◌, ◌++◌, Option, Some, None, sym, refl, ap, ◌∙◌, eq-eqb, ne_eqb, subst, arith, le_refl, true, ◌+◌}
 use mathlib.Core.Logic.{dite}
 use native.Mathlib.Decide.{ℕ_discrete}
 use Rattle.crq_base.specs.declared.event.Event.{Event}
@@ -342,6 +342,8 @@ module _ (c : Core) (j : ℕ) (cell : Cell) (x : ℕ) (l : Link) (b : j < c.star
         (λ r s t lo hi. (hi.0 ∙ lo.0, subst (λ g. list_in c.shape g (c.words.event t) ≡ list_in c.shape g (c.words.event s)) lo.0 hi.1 ∙ lo.1)) (λ r v some. (inv.lanes.generation r v some, inv.lanes.stays r v some)) r v some).1;
     generation = λ r v some. link_generation c.words.head c.words.link l.row cell (links r).row
         ∙ (along (λ r s. (c.words.link s).generation ≡ (c.words.link r).generation) (λ r s t lo hi. hi ∙ lo) inv.lanes.generation r v some ∙ sym (link_generation c.words.head c.words.link l.row cell r));
+    twins = λ r v frozen some. let h = inv.lanes.twins r (guarded r v) (sym (link_mark c.words.head c.words.link l.row cell r) ∙ frozen) some in
+        (link_generation c.words.head c.words.link l.row cell (c.words.twin r) ∙ (h.0 ∙ ap (λ g. g + 1) (sym (link_generation c.words.head c.words.link l.row cell r))), h.1);
   }
 
   stand_after : (s : Stand) → StandFits c.words.head c.words.link c.words.twin c.words.event s → StandFits heads links c.words.twin c.words.event s

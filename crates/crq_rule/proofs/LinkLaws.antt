@@ -501,6 +501,10 @@ module _ (c : Core) (j : ℕ) (cell : Cell) (l : Link) (r : ℕ) (e : Event) whe
       rises = λ s v some. (lane s v some).0;
       stays = λ s v some. (lane s v some).1;
       generation = λ s v some. (lane s v some).2;
+      twins = λ s v frozen some. ⊎_elim
+          (λ (z : s ≡ r). absurd (val_mov (sym own_mark ∙ subst (λ y. (link' y).mark ≡ Mov) z frozen)))
+          (λ o. let h = inv.lanes.twins s o (sym (same_mark s) ∙ frozen) some in (same_generation (c.words.twin s) ∙ (h.0 ∙ ap (λ g. g + 1) (sym (same_generation s))), h.1))
+          (guarded_before s v);
     }
 
     writing_after : Writing c.start.layout.workers link' c.words.twin c.words.event hand' (put c.written j (forgotten r (c.written j)))

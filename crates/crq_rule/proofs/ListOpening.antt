@@ -97,6 +97,7 @@ module _ (s : Start) (first : IsFirst s.first) where
     rises = λ r v _. absurd (off_on v.1 v.2.on);
     stays = λ r v _. absurd (off_on v.1 v.2.on);
     generation = λ r v _. absurd (off_on v.1 v.2.on);
+    twins = λ r v _ _. absurd (off_on v.1 v.2.on);
   }
 
   pub opening_writing : Writing s.layout.workers (opening_core s).words.link (opening_core s).words.twin (opening_core s).words.event (opening_core s).hand (opening_core s).written

@@ -1,5 +1,5 @@
 -- A take that marks a row dead keeps the invariant.
-use Rattle.std.proofs.Common.{◌≡◌, ◌≢◌, ◌⊎◌, ⊎_elim, inl, inr, ℕ, ◌<◌, ◌≤◌, List, [], ◌∷◌, ◌++◌, Option, Some, None, sym, refl, ap, ◌∙◌, subst, append-nil, arith}
+use Rattle.std.proofs.Common.{◌≡◌, ◌≢◌, ◌⊎◌, ⊎_elim, inl, inr, ℕ, ◌<◌, ◌≤◌, List, [], ◌∷◌, ◌++◌, Option, Some, None, sym, refl, ap, ◌∙◌, subst, append-nil, arith, ◌+◌}
 use Rattle.std.proofs.lemmas.Bool.{false≢true}
 use Rattle.std.specs.List.{Contains}
 use Rattle.std.proofs.lemmas.List.Elements.{Contains-append_cases, Contains-push}
@@ -196,6 +196,8 @@ module _ (l : Layout) (shape : ℕ → Shape) (link : ℕ → Link) (twin : ℕ 
       stays = λ s v. subst (λ (z : ℕ × ℕ). 0 < z.0 → list_in shape z.1 (event z.0) ≡ list_in shape z.1 (event s)) (λ i. (sym (dead_row link r s) i, sym (dead_generation link r s) i)) (old.stays s (guarded s v));
       generation = λ s v. subst (λ z. 0 < z → (dead link r z).generation ≡ (dead link r s).generation) (sym (dead_row link r s))
           (λ some. dead_generation link r (link s).row ∙ (old.generation s (guarded s v) some ∙ sym (dead_generation link r s)));
+      twins = λ s v frozen some. let h = old.twins s (guarded s v) (put_all link r (record (link r) { mark = Del }) (λ s x. x.mark ≡ Mov → (link s).mark ≡ Mov) (λ d. absurd (del_mov d)) (λ _ _ m. m) s frozen) some in
+          (dead_generation link r (twin s) ∙ (h.0 ∙ ap (λ g. g + 1) (sym (dead_generation link r s))), h.1);
     }
 
   -- the caller j, which named no dead row first, names this one

@@ -31,6 +31,7 @@ module _ (l : Layout) (shape : ℕ → Shape) (ground : Ground) (event : ℕ →
     rises = λ r v. old.rises r (was r v);
     stays = λ r v. old.stays r (was r v);
     generation = λ r v. old.generation r (was r v);
+    twins = λ r v. old.twins r (was r v);
   }
     where
       was : (r : ℕ) → IsGuarded (record ground { guard = guard'; footing = footing' }) r → IsGuarded ground r

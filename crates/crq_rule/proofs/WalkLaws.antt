@@ -415,6 +415,7 @@ walk_keeps c j cell seeks b is_on may seek inv = record {
     stays = λ r v some. ⊎_elim (λ o. inv.lanes.stays r o some) (λ h. chain_stays c inv h.0 r h.1 h.2 some) (guarded r v);
     generation = λ r v some. ⊎_elim (λ o. inv.lanes.generation r o some)
         (λ h. inv.sorted.generation h.0 (c.words.link r).row h.1 (chain_next c inv h.0 r h.1 h.2 some).0 ∙ sym (inv.sorted.generation h.0 r h.1 h.2)) (guarded r v);
+    twins = λ r v frozen some. ⊎_elim (λ o. inv.lanes.twins r o frozen some) (λ h. let bare = listed_twin c inv h.0 r h.1 h.2 in absurd (omega arith)) (guarded r v);
   };
   writing = inv.writing;
   naming = record {

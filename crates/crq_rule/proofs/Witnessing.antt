@@ -263,6 +263,7 @@ lanes = record {
   rises = λ r v above. let none = last r in absurd (omega arith);
   stays = λ r v above. let none = last r in absurd (omega arith);
   generation = λ r v above. let none = last r in absurd (omega arith);
+  twins = λ r v _ some. absurd (omega arith);
 }
 
 naming : Naming layout core.words.head links core.words.event core.named holding

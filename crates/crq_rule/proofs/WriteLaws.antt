@@ -1,5 +1,5 @@
 -- Writing into a row in hand keeps the invariant: no guard covers the row, so all that is known of covered and listed rows stays.
-use Rattle.std.proofs.Common.{◌≡◌, ◌≢◌, ◌⊎◌, ⊎_elim, inl, inr, ℕ, zero, suc, ◌<◌, ◌≤◌, cond, ◌&&◌, eqb, Bool, true, false, List, [], ◌∷◌, Some, sym, refl, ap, ◌∙◌, subst, arith, eq-eqb}
+use Rattle.std.proofs.Common.{◌≡◌, ◌≢◌, ◌⊎◌, ⊎_elim, inl, inr, ℕ, zero, suc, ◌<◌, ◌≤◌, cond, ◌&&◌, eqb, Bool, true, false, List, [], ◌∷◌, Some, sym, refl, ap, ◌∙◌, subst, arith, eq-eqb, ◌+◌}
 use mathlib.Core.Logic.{dite}
 use native.Mathlib.Decide.{ℕ_discrete}
 use Rattle.crq_base.specs.declared.event.Event.{Event}
@@ -280,6 +280,13 @@ module _ (c : Core) (j r : ℕ) (x : Content) (b : j < c.start.layout.workers) (
           (λ above. ap (list_in c.shape (c.words.link s).generation) (events_else (c.words.link s).row (next_else o.0 o.1 s o.2 above)) ∙ (inv.lanes.stays s o above ∙ ap (list_in c.shape (c.words.link s).generation) (sym (events_else s (covered_else o.0 o.1 s o.2)))));
       generation = λ s v. let o = guarded_old s v in subst (λ (l : Link). 0 < l.row → (link l.row).generation ≡ l.generation) (sym (links_else s (covered_else o.0 o.1 s o.2)))
           (λ above. ap (λ (l : Link). l.generation) (links_else (c.words.link s).row (next_else o.0 o.1 s o.2 above)) ∙ inv.lanes.generation s o above);
+      twins = λ s v frozen some. let o = guarded_old s v in let ne = covered_else o.0 o.1 s o.2 in let t = c.words.twin s in let same = twins_else s ne in
+          let above : 0 < t = subst (λ z. 0 < z) same some in
+          let apart = covered_else o.0 o.1 t (names_covered (ground_of c) o.0 o.1 s t o.2 (above, inr refl)) in
+          let h = inv.lanes.twins s o (ap (λ (l : Link). l.mark) (sym (links_else s ne)) ∙ frozen) above in (
+            ap (λ z. (link z).generation) same ∙ (ap (λ (l : Link). l.generation) (links_else t apart) ∙ (h.0 ∙ ap (λ (l : Link). l.generation + 1) (sym (links_else s ne)))),
+            ap event same ∙ (events_else t apart ∙ (h.1 ∙ sym (events_else s ne))),
+          );
     };
     writing = record {
       placed = λ k y. put_all c.written j new_words (λ k ys. k < c.start.layout.workers → In y ys → y.place < 6) (λ _ i. (wrote_in y i).1) (λ k _. inv.writing.placed k y) k;

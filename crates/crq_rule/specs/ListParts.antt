@@ -111,13 +111,18 @@ pub record Standing (n : ℕ) (head link : ℕ → Link) (twin : ℕ → ℕ) (e
 pub record Copying (n : ℕ) (head link : ℕ → Link) (twin : ℕ → ℕ) (event : ℕ → Event) (old : ℕ → Option Stand) : Type 0 where
   pub each : (k : ℕ) (s : Stand) → k < n → old k ≡ Some s → StandFits head link twin event s × ((link s.row).mark ≡ Mov)
 
--- 12. Lanes: from a row that a guard covers links lead on to greater rows of the same list
+-- 12. Lanes: from a row that a guard covers links lead on to greater rows of the same list, and a frozen one's twin is its copy
+
+-- the row's twin holds the same event in the next table
+abbrev pub IsCopied : (ℕ → Link) → (ℕ → ℕ) → (ℕ → Event) → ℕ → Type 0
+IsCopied link twin event r = ((link (twin r)).generation ≡ (link r).generation + 1) × (event (twin r) ≡ event r)
 
 pub record Lanes (l : Layout) (shape : ℕ → Shape) (ground : Ground) (event : ℕ → Event) : Type 0 where
   pub is_row : (r : ℕ) → IsGuarded ground r → IsRow l r
   pub rises : (r : ℕ) → IsGuarded ground r → 0 < (ground.link r).row → ranks event r < ranks event (ground.link r).row
   pub stays : (r : ℕ) → IsGuarded ground r → 0 < (ground.link r).row → list_in shape (ground.link r).generation (event (ground.link r).row) ≡ list_in shape (ground.link r).generation (event r)
   pub generation : (r : ℕ) → IsGuarded ground r → 0 < (ground.link r).row → (ground.link (ground.link r).row).generation ≡ (ground.link r).generation
+  pub twins : (r : ℕ) → IsGuarded ground r → (ground.link r).mark ≡ Mov → 0 < ground.twin r → IsCopied ground.link ground.twin event r
 
 -- 13. Writing: the words that a caller wrote stand in its rows in hand
 
