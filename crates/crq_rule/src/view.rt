@@ -100,15 +100,20 @@ pub struct Sweep {
     pub rank: u64,
 }
 
-/// What a helper of a migration has passed: the new heads that it found prepared, the old heads that it found frozen and
-/// that it found empty, the pin, and current's epoch that it loaded for the pin.
+/// What a helper of a migration has passed. Heads are passed in order, so their number says which.
 pub struct Help {
+    /// The generation of the table that moves.
     pub generation: u64,
-    pub prepared: LinkedList<u64>,
-    pub frozen: LinkedList<u64>,
-    pub emptied: LinkedList<u64>,
-    pub pin: Option<Pin>,
+    /// How many new heads it found prepared.
+    pub prepared: u64,
+    /// How many old heads it found frozen.
+    pub frozen: u64,
+    /// How many old heads it found frozen and empty.
+    pub emptied: u64,
+    /// Current's epoch, as it loaded it for the pin.
     pub epoch: Option<u64>,
+    /// The pin that names the new table.
+    pub pin: Option<Pin>,
 }
 
 /// The least numbers of entries that the caller's answers since the deal told the history to have: of new tables, and
