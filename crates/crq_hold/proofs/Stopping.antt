@@ -15,7 +15,7 @@ use Rattle.crq_queue.specs.Runs.{IsInside}
 
 -- a take that has ended leaves no row that was cut
 take_uncut : (n : ℕ) (table : Table) (x : Control) (op op' : TakeOp) (old new : Pass) (end : MarkEnd) → TakeAnswers n table x op op' old new (Done end) → (caller table new).cut ≡ None
-take_uncut n table x op op' old new (Marked r e) a = a.3
+take_uncut n table x op op' old new (Marked r e c) a = a.3
 take_uncut n table x op op' old new (Beyond e) a = a.4
 take_uncut n table x op op' old new Nothing a = a.3
 take_uncut n table x op op' old new Lost a = a.3

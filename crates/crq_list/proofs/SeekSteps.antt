@@ -71,7 +71,7 @@ head_row q r e = cc
 val_del : (l : Link) → l.mark ≡ Val → l.mark ≡ Del → ⊥
 val_del l a b = cc
 
-one_target : (t u : Event × ℕ) → Some t ≡ Some u → t ≡ u
+pub one_target : (t u : Event × ℕ) → Some t ≡ Some u → t ≡ u
 one_target t u e = cc
 
 module _ (n : ℕ) (table : Table) (x : Control) (sought : Sought) (p : Caller) where

@@ -1,6 +1,6 @@
 -- What is known of a word after one step more, how far a take's walk is, and what each step of a take tells.
-use Rattle.std.proofs.Common.{◌≡◌, ◌≢◌, ◌⊎◌, ⊎_elim, inl, inr, ℕ, zero, suc, ◌+◌, ◌-◌, ◌*◌, ◌^◌, ◌<◌, ◌≤◌, cond, Bool, true, false, List, [], ◌∷◌, ◌++◌, length, Option, Some, None, eq-eqb, ne_eqb, sym, refl, ap, ◌∙◌, subst, arith, eqb, ◌||◌, ◌&&◌}
-use Rattle.std.proofs.lemmas.Bool.{false≢true, cond_both}
+use Rattle.std.proofs.Common.{◌≡◌, ◌≢◌, ◌⊎◌, ⊎_elim, inl, inr, ℕ, zero, suc, ◌+◌, ◌-◌, ◌*◌, ◌/◌, ◌%◌, ◌^◌, ◌<◌, ◌≤◌, ◌==◌, cond, Bool, true, false, List, [], ◌∷◌, ◌++◌, length, drop, Option, Some, None, le_refl, eq-eqb, ne_eqb, sym, refl, ap, ◌∙◌, subst, arith, eqb, ◌||◌, ◌&&◌}
+use Rattle.std.proofs.lemmas.Bool.{false≢true, cond_both, eqb-true}
 use Rattle.std.proofs.lemmas.List.{length-append}
 use mathlib.Core.Logic.{dite}
 use native.Mathlib.Decide.{ℕ_discrete}
@@ -23,16 +23,22 @@ use Rattle.crq_rule.specs.declared.view.Stand.{Stand}
 use Rattle.crq_rule.specs.declared.view.Sight.{Sight}
 use Rattle.crq_rule.specs.declared.view.Walk.{Walk}
 use Rattle.crq_rule.specs.declared.view.Caller.{Caller}
-use Rattle.crq_rule.specs.Places.{index, link as link_place}
+use Rattle.crq_rule.specs.Places.{index, link as link_place, IsHead}
 use Rattle.crq_rule.specs.Parts.{IsEvent, rows_of}
 use Rattle.crq_rule.specs.Kinds.{makes}
-use Rattle.crq_rule.specs.Ranks.{rank, Cell, at_head, at_row, cell_place}
-use Rattle.crq_rule.specs.ListKinds.{StandsOn, MayMiss, is_passed, is_val, is_twin, new_stand, next_stand, only_row, noted_stand, noted, stands_after, begins_walk, walk_after, table_seen, sight_after, row_place, event_word, marks, cut_debt, relieved_names}
+use Rattle.crq_rule.specs.Ranks.{rank, head_of, head_for, bucket, IsOpen, Cell, at_head, at_row, cell_place}
+use Rattle.crq_rule.specs.ListKinds.{StandsOn, MayMiss, is_passed, is_final, is_val, is_twin, new_stand, next_stand, only_row, noted_stand, noted, stands_after, begins_walk, walk_after, table_seen, sight_after, relieved, row_place, event_word, marks, cut_debt, relieved_names}
+use Rattle.crq_rule.specs.Moves.{Lawful}
 use Rattle.crq_rule.proofs.Standings.{rows_in, in_rows, row_stays, row_next}
 use Rattle.crq_rows.specs.Passes.{caller, load_made, step_made, IsPassOf, Stepped}
 use Rattle.crq_rows.specs.Reading.{stays}
+use Rattle.crq_list.specs.declared.parts.Before.{Before}
+use Rattle.crq_list.specs.declared.parts.Spot.TheVariants.{Head}
 use Rattle.crq_list.specs.declared.parts.Progress.{Progress}
 use Rattle.crq_list.specs.declared.parts.Progress.TheVariants.{More, Done}
+use Rattle.crq_list.specs.declared.cut.CutOp.{CutOp}
+use Rattle.crq_list.specs.declared.seek.SeekState.{SeekState}
+use Rattle.crq_list.specs.declared.seek.SeekState.TheVariants.{Load as Begins, Passing}
 use Rattle.crq_list.specs.declared.take.MarkEnd.{MarkEnd}
 use Rattle.crq_list.specs.declared.take.MarkEnd.TheVariants.{Marked, Beyond, Nothing, Lost}
 use Rattle.crq_list.specs.declared.take.TakeOp.{TakeOp}
@@ -41,10 +47,16 @@ use Rattle.crq_list.specs.declared.take.TakeState.TheVariants.{Load, Walking, Re
 use Rattle.crq_rows.proofs.Knowing.{known_here, known_else}
 use Rattle.crq_rows.proofs.Working.{plain_no_tick}
 use Rattle.crq_list.proofs.StepLaws.{marks_apart}
+use Rattle.crq_list.proofs.SweepLaws.{sweep_begins, sweep_stays, sweep_passes}
+use Rattle.crq_list.proofs.SeekLaws.{link_apart, event_apart}
+use Rattle.crq_list.proofs.SeekSteps.{one_event, one_target}
 use Rattle.crq_list.specs.Known.{is_exchange, Works, turns_after}
-use Rattle.crq_list.specs.Spots.{rank_at}
+use Rattle.crq_list.specs.Spots.{cell, rank_at}
+use Rattle.crq_list.specs.Sweeps.{SweepsTo}
+use Rattle.crq_list.specs.Seeking.{IsAt, IsSeeking, spot_of}
+use Rattle.crq_list.specs.Cutting.{IsCutting, head_link}
 use Rattle.crq_list.specs.Swaps.{Saw, MarkSwapped, where_won}
-use Rattle.crq_list.specs.Taking.{IsPresent, IsRead, IsTakingAt, IsTaking, taking_exchanges, taking_left, StopsAt, TakeAnswers, TakeStepped, SeesTable}
+use Rattle.crq_list.specs.Taking.{IsPresent, IsRead, IsTakingAt, NamesFirst, IsFirstKnown, IsTaking, taking_exchanges, taking_left, cut_of, StopsAt, TakeAnswers, TakeStepped, SeesTable}
 
 -- the words of a row's event are other words than its link
 other_word : (l : Layout) (r place : ℕ) → 2 ≤ place → place < 6 → index l (row_place r place) ≢ index l (link_place r)
@@ -134,8 +146,8 @@ module _ (n : ℕ) (table : Table) (x : Control) (op : TakeOp) (s : TakeState) (
   abbrev is_op : TakeOp
   is_op = record op { state = s }
 
-  taken : (s' : TakeState) → ((r : ℕ) (l : Link) (e : Event) → s' ≡ Marking r l e → e.time < op.limit) → IsTakingAt n table s' now → IsTaking n table x (record op { state = s' }) now
-  taken s' below at = record {
+  taken : (s' : TakeState) → ((r : ℕ) (l : Link) (e : Event) (f : ℕ) → s' ≡ Marking r l e f → e.time < op.limit) → IsFirstKnown table.start.layout op.found.generation op.head s' (drop n now.made) → IsTakingAt n table s' now → IsTaking n table x (record op { state = s' }) now
+  taken s' below first at = record {
     counted = let c = t.counted in let longer = length-append before.made (m ∷ []) in omega arith;
     on = t.on;
     began = t.began;
@@ -148,14 +160,15 @@ module _ (n : ℕ) (table : Table) (x : Control) (op : TakeOp) (s : TakeState) (
     free = refl;
     below = below;
     sees = table_seen s';
+    first = first;
     at = at;
   }
     where
       table_seen : (s' : TakeState) → SeesTable s' x now
       table_seen Load = tt
-      table_seen (Walking r) = sees
-      table_seen (Reading r l place read) = sees
-      table_seen (Marking r l e) = sees
+      table_seen (Walking r f) = sees
+      table_seen (Reading r l place read f) = sees
+      table_seen (Marking r l e f) = sees
 
   loaded : (op' : TakeOp) (answer : Progress MarkEnd) → TakeAnswers n table x is_op op' old new answer → TakeStepped n table x is_op op' old new answer
   loaded op' answer answers = record {
@@ -175,10 +188,10 @@ module _ (n : ℕ) (table : Table) (x : Control) (op : TakeOp) (s : TakeState) (
   }
 
   -- it goes on
-  pub more : (s' : TakeState) → ((r : ℕ) (l : Link) (e : Event) → s' ≡ Marking r l e → e.time < op.limit) → IsTakingAt n table s' now → taking_left s' now < taking_left s before
-      → TakeStepped n table x is_op (record op { state = s' }) old new More
-  more s' below at less = loaded (record op { state = s' }) More (
-    subst (IsTaking n table x (record op { state = s' })) (sym h.part) (taken s' below at),
+  pub more : (s' : TakeState) → ((r : ℕ) (l : Link) (e : Event) (f : ℕ) → s' ≡ Marking r l e f → e.time < op.limit) → IsFirstKnown table.start.layout op.found.generation op.head s' (drop n now.made) → IsTakingAt n table s' now
+      → taking_left s' now < taking_left s before → TakeStepped n table x is_op (record op { state = s' }) old new More
+  more s' below first at less = loaded (record op { state = s' }) More (
+    subst (IsTaking n table x (record op { state = s' })) (sym h.part) (taken s' below first at),
     refl,
     ap (λ (z : Caller). z.own) h.part,
     ap (λ (z : Pass). z.debts) h.same,
@@ -210,14 +223,37 @@ module _ (n : ℕ) (table : Table) (x : Control) (op : TakeOp) (s : TakeState) (
     subst (StopsAt n table e) (sym h.part) stops,
   )
 
-walking_no : (r r' : ℕ) (l : Link) (e : Event) → Walking r ≡ Marking r' l e → ⊥
-walking_no r r' l e q = cc
+walking_no : (r f r' f' : ℕ) (l : Link) (e : Event) → Walking r f ≡ Marking r' l e f' → ⊥
+walking_no r f r' f' l e q = cc
 
-reading_no : (r r' place : ℕ) (l l' : Link) (e e' : Event) → Reading r l place e ≡ Marking r' l' e' → ⊥
-reading_no r r' place l l' e e' q = cc
+reading_no : (r r' place f f' : ℕ) (l l' : Link) (e e' : Event) → Reading r l place e f ≡ Marking r' l' e' f' → ⊥
+reading_no r r' place f f' l l' e e' q = cc
 
-marking_one : (r r' : ℕ) (l l' : Link) (e e' : Event) → Marking r l e ≡ Marking r' l' e' → e ≡ e'
-marking_one r r' l l' e e' q = cc
+marking_one : (r r' f f' : ℕ) (l l' : Link) (e e' : Event) → Marking r l e f ≡ Marking r' l' e' f' → e ≡ e'
+marking_one r r' f f' l l' e e' q = cc
+
+-- The row that the head names
+
+-- a step on another word leaves what is known of it
+names_on : (l : Layout) (generation q f n : ℕ) (made : List Made) (m : Made) → n ≤ length made → m.word ≢ index l (cell_place (at_head q)) → NamesFirst l generation q f (drop n made) → NamesFirst l generation q f (drop n (made ++ m ∷ []))
+names_on l generation q f n made m counted other s = record {
+  bits = s.bits;
+  known = known_else n made m (index l (cell_place (at_head q))) counted other ∙ s.known;
+  swept = sweep_stays n made (made ++ m ∷ []) m refl counted l (at_head q) (at_row f) s.swept;
+}
+
+-- the link of a row is another word than a head
+row_apart : (l : Layout) (q r : ℕ) → 0 < r → IsHead q → index l (link_place r) ≢ index l (cell_place (at_head q))
+row_apart l q r some head = link_apart l r (at_head q) some head (λ s e. absurd (cc))
+
+-- the load of the head makes it known
+names_first : (l : Layout) (generation q n : ℕ) (made : List Made) (found : Link) → n ≤ length made → IsLink found → found.mark ≡ Val → found.generation ≡ generation
+    → NamesFirst l generation q found.row (drop n (made ++ load_made WalkKind (index l (cell_place (at_head q))) (link_word found) ∷ []))
+names_first l generation q n made found counted bits val same = let m = load_made WalkKind (index l (cell_place (at_head q))) (link_word found) in let is : found ≡ head_link generation found.row = λ i. record { generation = same i; row = found.row; mark = val i } in record {
+  bits = subst IsLink is bits;
+  known = known_here n made m (index l (cell_place (at_head q))) counted refl ∙ ap (λ z. Some (link_word z)) is;
+  swept = sweep_passes n made (made ++ m ∷ []) m refl counted l (at_head q) (at_head q) found (record { load = refl; bits = bits; present = val }) (sweep_begins l (at_head q) (drop n made));
+}
 
 -- a walk of a caller that owes no dead row moves it
 saw_loads : (table : Table) (old new : Pass) (cell : Cell) (l : Link) (saw : Saw table old new cell true l) (w : Option Walk) (v : Option Sight) → Lawful (caller table old) → (caller table old).debts.cut ≡ None
@@ -233,11 +269,11 @@ saw_loads table old new cell l saw w v law free walks sees = let p = caller tabl
 }
 
 -- what is answered after a head or row that was passed
-abbrev Onward : Link → TakeState × Progress MarkEnd → Type 0
-Onward l r = ((l.row ≡ 0) × (r ≡ (Load, Done Nothing))) ⊎ ((0 < l.row) × (r ≡ (Walking l.row, More)))
+abbrev Onward : Link → ℕ → TakeState × Progress MarkEnd → Type 0
+Onward l f r = ((l.row ≡ 0) × (r ≡ (Load, Done Nothing))) ⊎ ((0 < l.row) × (r ≡ (Walking l.row f, More)))
 
 -- Load: the head is present
-pub head_stepped : (n : ℕ) (table : Table) (x : Control) (op : TakeOp) (old new : Pass) (l : Link) (r : TakeState × Progress MarkEnd) → Lawful (caller table old) → Saw table old new (at_head op.head) true l → l.mark ≡ Val → Onward l r
+pub head_stepped : (n : ℕ) (table : Table) (x : Control) (op : TakeOp) (old new : Pass) (l : Link) (r : TakeState × Progress MarkEnd) → Lawful (caller table old) → Saw table old new (at_head op.head) true l → l.mark ≡ Val → Onward l l.row r
     → IsTaking n table x (record op { state = Load }) (caller table old) → TakeStepped n table x (record op { state = Load }) (record op { state = r.0 }) old new r.1
 head_stepped n table x op old new l r law saw val onward t = let y : Walk = record { head = op.head; at = l.row } in
     let p = caller table old in let at = (saw.marked x t.control t.opened).1 in
@@ -246,7 +282,8 @@ head_stepped n table x op old new l r law saw val onward t = let y : Walk = reco
     let h = saw_loads table old new (at_head op.head) l saw (Some y) (Some (record { table = x })) law t.free (ap (λ b. cond b (Some y) None) begins) seen in ⊎_elim
     (λ end. subst (λ z. TakeStepped n table x (record op { state = Load }) (record op { state = z.0 }) old new z.1) (sym end.1) (nothing n table x op Load old new _ _ _ _ h refl refl t y refl end.0))
     (λ some. subst (λ z. TakeStepped n table x (record op { state = Load }) (record op { state = z.0 }) old new z.1) (sym some.1)
-    (more n table x op Load old new _ _ _ _ h refl refl t (Walking l.row) (λ r l' e q. absurd (walking_no l.row r l' e q))
+    (more n table x op Load old new _ _ _ _ h refl refl t (Walking l.row l.row) (λ r l' e f q. absurd (walking_no l.row l.row r f l' e q))
+    (names_first table.start.layout op.found.generation op.head n (caller table old).made l t.counted saw.is_link val (at ∙ sym (ap (λ (z : Control). z.generation) t.control_is)))
     (y, refl, refl, some.0, head_on l saw.event some.0) (omega arith))) onward
   where
     head_on : (l : Link) (e : Event) → 0 < l.row → (f : Event) × StandsOn (next_stand (at_head op.head) l e) l.row f
@@ -260,23 +297,25 @@ stands : (ss : List Stand) (r : ℕ) → In r (rows_of ss) → (e : Event) × St
 stands ss r i = let s = in_rows ss r i in (s.0.event, (s.0, s.1, s.2, refl))
 
 -- Walking: the row is dead
-pub dead_stepped : (n : ℕ) (table : Table) (x : Control) (op : TakeOp) (r : ℕ) (old new : Pass) (l : Link) (to : TakeState × Progress MarkEnd) → Lawful (caller table old) → Saw table old new (at_row r) true l → is_passed l.mark ≡ true → Onward l to
-    → IsTaking n table x (record op { state = Walking r }) (caller table old) → TakeStepped n table x (record op { state = Walking r }) (record op { state = to.0 }) old new to.1
-dead_stepped n table x op r old new l to law saw dead onward t = let p = caller table old in let ss = p.position.rows in let e = saw.event in let y : Walk = record t.at.0 { at = l.row } in let i = stood ss r t.at.4 in
+pub dead_stepped : (n : ℕ) (table : Table) (x : Control) (op : TakeOp) (r first : ℕ) (old new : Pass) (l : Link) (to : TakeState × Progress MarkEnd) → Lawful (caller table old) → Saw table old new (at_row r) true l → is_passed l.mark ≡ true → Onward l first to
+    → IsTaking n table x (record op { state = Walking r first }) (caller table old) → TakeStepped n table x (record op { state = Walking r first }) (record op { state = to.0 }) old new to.1
+dead_stepped n table x op r first old new l to law saw dead onward t = let p = caller table old in let ss = p.position.rows in let e = saw.event in let y : Walk = record t.at.0 { at = l.row } in let i = stood ss r t.at.4 in
     let h = saw_loads table old new (at_row r) l saw (Some y) (Some (record { table = x })) law t.free (ap (walk_after (at_row r) true p.found.control l) t.at.1 ∙ ap (λ b. Some (cond b y t.at.0)) dead) t.sees in ⊎_elim
-    (λ end. subst (λ z. TakeStepped n table x (record op { state = Walking r }) (record op { state = z.0 }) old new z.1) (sym end.1) (nothing n table x op (Walking r) old new _ _ _ _ h refl refl t y refl end.0))
+    (λ end. subst (λ z. TakeStepped n table x (record op { state = Walking r first }) (record op { state = z.0 }) old new z.1) (sym end.1) (nothing n table x op (Walking r first) old new _ _ _ _ h refl refl t y refl end.0))
     (λ some. let on = ⊎_elim (λ (z : l.row ≡ 0). absurd (omega arith)) (λ k. k) (row_next r true l e ss) in let up : (f : Event) → StandsOn ss r f → rank f r < rank e l.row = λ f k. (saw.next f k some.0).0 in
-    subst (λ z. TakeStepped n table x (record op { state = Walking r }) (record op { state = z.0 }) old new z.1) (sym some.1)
-    (more n table x op (Walking r) old new _ _ _ _ h refl refl t (Walking l.row) (λ r l' e q. absurd (walking_no l.row r l' e q))
+    subst (λ z. TakeStepped n table x (record op { state = Walking r first }) (record op { state = z.0 }) old new z.1) (sym some.1)
+    (more n table x op (Walking r first) old new _ _ _ _ h refl refl t (Walking l.row first) (λ r l' e f q. absurd (walking_no l.row first r f l' e q))
+    (names_on table.start.layout op.found.generation op.head first n p.made (load_made WalkKind (index table.start.layout (link_place r)) (link_word l)) t.counted (row_apart table.start.layout op.head r t.at.3 t.is_head) t.first)
     (y, refl, refl, some.0, stands (stands_after (at_row r) true l e ss) l.row on) (nearer (at_row r) l e ss _ r saw.is_link (saw.row some.0).1 some.0 i up))) onward
 
 -- or present
-pub present_stepped : (n : ℕ) (table : Table) (x : Control) (op : TakeOp) (r : ℕ) (old new : Pass) (l : Link) (unread : Event) → Lawful (caller table old) → Saw table old new (at_row r) true l → l.mark ≡ Val
-    → IsTaking n table x (record op { state = Walking r }) (caller table old) → TakeStepped n table x (record op { state = Walking r }) (record op { state = Reading r l 2 unread }) old new More
-present_stepped n table x op r old new l unread law saw val t = let p = caller table old in let ss = p.position.rows in let e = saw.event in let y = t.at.0 in let i = stood ss r t.at.4 in
+pub present_stepped : (n : ℕ) (table : Table) (x : Control) (op : TakeOp) (r first : ℕ) (old new : Pass) (l : Link) (unread : Event) → Lawful (caller table old) → Saw table old new (at_row r) true l → l.mark ≡ Val
+    → IsTaking n table x (record op { state = Walking r first }) (caller table old) → TakeStepped n table x (record op { state = Walking r first }) (record op { state = Reading r l 2 unread first }) old new More
+present_stepped n table x op r first old new l unread law saw val t = let p = caller table old in let ss = p.position.rows in let e = saw.event in let y = t.at.0 in let i = stood ss r t.at.4 in
     let h = saw_loads table old new (at_row r) l saw (Some y) (Some (record { table = x })) law t.free (ap (walk_after (at_row r) true p.found.control l) t.at.1 ∙ ap (λ k. Some (cond (is_passed k) (record y { at = l.row }) y)) val) t.sees in
     let far = as_far l e ss r i (λ some f k. (saw.next f k some).0) in
-    more n table x op (Walking r) old new _ _ _ _ h refl refl t (Reading r l 2 unread) (λ r' l' e' q. absurd (reading_no r r' 2 l l' unread e' q)) (
+    more n table x op (Walking r first) old new _ _ _ _ h refl refl t (Reading r l 2 unread first) (λ r' l' e' f q. absurd (reading_no r r' 2 first f l l' unread e' q))
+    (names_on table.start.layout op.found.generation op.head first n p.made (load_made WalkKind (index table.start.layout (link_place r)) (link_word l)) t.counted (row_apart table.start.layout op.head r t.at.3 t.is_head) t.first) (
       record {
         at = (y, refl, t.at.2, t.at.3, stands (stands_after (at_row r) true l e ss) r (row_stays r true l e ss i));
         bits = saw.is_link;
@@ -322,33 +361,45 @@ pub some_word : (n : ℕ) (table : Table) (r : ℕ) (l : Link) (place : ℕ) (ol
     → IsPresent n table r l (caller table old) → (e : Event) × IsEvent e × (found ≡ event_word e place)
 some_word n table r l place old found of word h = let on = h.at.4 in (on.0, is_event table old r on.0 of on.1, word on.0 on.1)
 
-module _ (n : ℕ) (table : Table) (x : Control) (op : TakeOp) (r : ℕ) (l : Link) (place : ℕ) (read : Event) (old new : Pass) (found : ℕ) (got : Event) (of : IsPassOf table old)
+module _ (n : ℕ) (table : Table) (x : Control) (op : TakeOp) (r : ℕ) (l : Link) (place : ℕ) (read : Event) (first : ℕ) (old new : Pass) (found : ℕ) (got : Event) (of : IsPassOf table old)
     (h : Stepped table old new (load_made Read (index table.start.layout (row_place r place)) found) stays) (word : (e : Event) → StandsOn (caller table old).position.rows r e → found ≡ event_word e place) (gets : HasGot read place found got)
-    (t : IsTaking n table x (record op { state = Reading r l place read }) (caller table old)) where
+    (t : IsTaking n table x (record op { state = Reading r l place read first }) (caller table old)) where
   now_read : (e : Event) → StandsOn (caller table old).position.rows r e → IsRead (place + 1) got e × (place ≡ 5 → got ≡ e)
   now_read e on = gets e (is_event table old r e of on) (word e on) (t.at.3 e on)
 
+  still_first : NamesFirst table.start.layout op.found.generation op.head first (drop n ((caller table old).made ++ load_made Read (index table.start.layout (row_place r place)) found ∷ []))
+  still_first = names_on table.start.layout op.found.generation op.head first n (caller table old).made (load_made Read (index table.start.layout (row_place r place)) found) t.counted (event_apart table.start.layout r place (at_head op.head) t.at.0.at.3 t.at.1 t.is_head) t.first
+
   -- there are more words to read
-  pub read_stepped : place < 5 → TakeStepped n table x (record op { state = Reading r l place read }) (record op { state = Reading r l (place + 1) got }) old new More
-  read_stepped five = let two = t.at.1 in more n table x op (Reading r l place read) old new _ _ _ _ (read_loads table old new _ found of.lawful t.free h) refl t.sees t (Reading r l (place + 1) got) (λ r' l' e' q. absurd (reading_no r r' (place + 1) l l' got e' q))
-      (still n table r place l found (caller table old) t.counted t.at.1 t.at.2 t.at.0, omega arith, omega arith, λ e on. (now_read e on).0) (omega arith)
+  pub read_stepped : place < 5 → TakeStepped n table x (record op { state = Reading r l place read first }) (record op { state = Reading r l (place + 1) got first }) old new More
+  read_stepped five = let two = t.at.1 in more n table x op (Reading r l place read first) old new _ _ _ _ (read_loads table old new _ found of.lawful t.free h) refl t.sees t (Reading r l (place + 1) got first) (λ r' l' e' f q. absurd (reading_no r r' (place + 1) first f l l' got e' q))
+      still_first (still n table r place l found (caller table old) t.counted t.at.1 t.at.2 t.at.0, omega arith, omega arith, λ e on. (now_read e on).0) (omega arith)
 
   -- the event is read, and it is the row's
   whole : 5 ≤ place → StandsOn (caller table old).position.rows r got
   whole five = let on = t.at.0.at.4 in let last : place ≡ 5 = (let high = t.at.2 in omega arith) in subst (StandsOn (caller table old).position.rows r) (sym ((now_read on.0 on.1).1 last)) on.1
 
-  pub beyond_stepped : 5 ≤ place → op.limit ≤ got.time → TakeStepped n table x (record op { state = Reading r l place read }) (record op { state = Load }) old new (Done (Beyond got))
-  beyond_stepped five high = let y = t.at.0.at in past n table x op (Reading r l place read) old new _ _ _ _ (read_loads table old new _ found of.lawful t.free h) refl t.sees t y.0 got y.1
+  pub beyond_stepped : 5 ≤ place → op.limit ≤ got.time → TakeStepped n table x (record op { state = Reading r l place read first }) (record op { state = Load }) old new (Done (Beyond got))
+  beyond_stepped five high = let y = t.at.0.at in past n table x op (Reading r l place read first) old new _ _ _ _ (read_loads table old new _ found of.lawful t.free h) refl t.sees t y.0 got y.1
       (subst (λ z. StandsOn (caller table old).position.rows z got) (sym y.2) (whole five)) high (r, l, still n table r place l found (caller table old) t.counted t.at.1 t.at.2 t.at.0, whole five)
 
-  pub whole_stepped : 5 ≤ place → got.time < op.limit → TakeStepped n table x (record op { state = Reading r l place read }) (record op { state = Marking r l got }) old new More
-  whole_stepped five low = more n table x op (Reading r l place read) old new _ _ _ _ (read_loads table old new _ found of.lawful t.free h) refl t.sees t (Marking r l got) (λ r' l' e' q. subst (λ (z : Event). z.time < op.limit) (marking_one r r' l l' got e' q) low)
-      (still n table r place l found (caller table old) t.counted t.at.1 t.at.2 t.at.0, whole five) (let high = t.at.2 in omega arith)
+  pub whole_stepped : 5 ≤ place → got.time < op.limit → TakeStepped n table x (record op { state = Reading r l place read first }) (record op { state = Marking r l got first }) old new More
+  whole_stepped five low = more n table x op (Reading r l place read first) old new _ _ _ _ (read_loads table old new _ found of.lawful t.free h) refl t.sees t (Marking r l got first) (λ r' l' e' f q. subst (λ (z : Event). z.time < op.limit) (marking_one r r' first f l l' got e' q) low)
+      still_first (still n table r place l found (caller table old) t.counted t.at.1 t.at.2 t.at.0, whole five) (let high = t.at.2 in omega arith)
 
 -- Marking
 
-module _ (n : ℕ) (table : Table) (x : Control) (op : TakeOp) (r : ℕ) (l : Link) (e : Event) (old new : Pass) (of : IsPassOf table old)
-    (t : IsTaking n table x (record op { state = Marking r l e }) (caller table old)) where
+-- where a table has one list, each event is of it
+only_list : (x : Control) (q : ℕ) (e : Event) → x.log ≡ 0 → IsOpen x q → head_of x e ≡ q
+unfolding head_for bucket
+only_list x q e one opened = let low = opened.0 in let high = subst (λ z. q < x.generation % 2 * 32768 + 2 ^ z) one opened.1 in
+    let none = subst (λ z. e.time / 2 ^ x.shift % 2 ^ z ≡ 0) (sym one) (mod_one (e.time / 2 ^ x.shift)) in omega arith
+  where
+    mod_one : (m : ℕ) → m % 2 ^ 0 ≡ 0
+    mod_one m = omega arith
+
+module _ (n : ℕ) (table : Table) (x : Control) (op : TakeOp) (r : ℕ) (l : Link) (e : Event) (first : ℕ) (old new : Pass) (of : IsPassOf table old)
+    (t : IsTaking n table x (record op { state = Marking r l e first }) (caller table old)) where
   abbrev mark_made : ℕ → Made
   mark_made found = step_made MarkKind (index table.start.layout (link_place r)) (link_word l) (link_word (record l { mark = Del })) found
 
@@ -360,23 +411,75 @@ module _ (n : ℕ) (table : Table) (x : Control) (op : TakeOp) (r : ℕ) (l : Li
       go true = record { stays = record { number = refl; start = refl; deal = refl; found = refl; guard = refl }; step = mark_made found; made = refl; kind = refl; expects = λ _. (t.at.0.known, marks_apart l t.at.0.present); timed = λ yes. absurd (cc) }
       go false = record { stays = record { number = refl; start = refl; deal = refl; found = refl; guard = refl }; step = mark_made found; made = refl; kind = refl; expects = λ _. (t.at.0.known, marks_apart l t.at.0.present); timed = λ yes. absurd (cc) }
 
+  -- the caller once the row is marked
+  abbrev now_marked : ℕ → Caller
+  now_marked found = makes (mark_made found) (marks op.found r e (caller table old))
+
+  abbrev seen_first : ℕ → Before
+  seen_first f = record { spot = Head op.head; link = head_link op.found.generation f }
+
+  cut_at : (found : ℕ) (seek : SeekState) → spot_of seek ≡ Head op.head → IsAt n table x (cut_of op r e first).sought seek (now_marked found) → IsSeeking n table x (cut_of op r e first).sought seek (now_marked found)
+  cut_at found seek head at = record {
+    counted = let c = t.counted in let longer = length-append (caller table old).made (mark_made found ∷ []) in omega arith;
+    on = t.on;
+    list_is = record { control = t.control; generation = ap (λ (z : Control). z.generation) t.control_is; is_head = t.is_head; opened = t.opened };
+    target_is = only_list x op.head e t.one t.opened;
+    swept = subst (λ z. SweepsTo table.start.layout (at_head op.head) (drop n (now_marked found).made) (cell z)) (sym head) (sweep_begins table.start.layout (at_head op.head) (drop n (now_marked found).made));
+    at = at;
+  }
+
+  -- at the head
+  cut_anew : (found : ℕ) → IsSeeking n table x (cut_of op r e first).sought (Begins (Head op.head)) (now_marked found)
+  cut_anew found = cut_at found (Begins (Head op.head)) refl (t.uncut, refl)
+
+  -- or at the link that was found there, where it named the row
+  cut_first : (found : ℕ) → Lawful (now_marked found) → first ≡ r → IsSeeking n table x (cut_of op r e first).sought (Passing (seen_first r)) (now_marked found)
+  cut_first found law is = let one : (g : Event) → StandsOn (now_marked found).position.rows r g → e ≡ g = λ g on. one_event (now_marked found) law r e g t.at.1 on in
+      let names = subst (λ f. NamesFirst table.start.layout op.found.generation op.head f (drop n (now_marked found).made)) is
+      (names_on table.start.layout op.found.generation op.head first n (caller table old).made (mark_made found) t.counted (row_apart table.start.layout op.head r t.at.0.at.3 t.is_head) t.first) in
+      cut_at found (Passing (seen_first r)) refl (
+        t.uncut,
+        record {
+          passed = record {
+            bits = names.bits;
+            present = refl;
+            generation = ap (λ (z : Control). z.generation) t.control_is;
+            known = names.known;
+            reached = refl;
+            swept = names.swept;
+            next = λ some. record { event = e; on = t.at.1; belongs = only_list x op.head e t.one t.opened; beyond = tt };
+            owed = record { ahead = λ d is at owed. (t.at.0.at.3, λ g on. let same = one_target (e, r) (d.event, d.row) is in subst (λ (z : Event × ℕ). rank g r ≤ rank z.0 z.1) same (subst (λ z. rank z r ≤ rank e r) (one g on) (le_refl (rank e r)))) };
+          };
+          some_row = t.at.0.at.3;
+          up_to = λ g on. subst (λ z. rank z r ≤ rank e r) (one g on) (le_refl (rank e r));
+        },
+      )
+
   module _ {won : Bool} (s : MarkSwapped table old new (at_row r) l op.found r e won) where
     mark_part : {b : Bool} → won ≡ b → caller table new ≡ makes (mark_made s.swapped.found) (where_won b (marks op.found r e) (caller table old))
     mark_part is = s.swapped.part ∙ ap (λ b. makes (mark_made s.swapped.found) (where_won b (marks op.found r e) (caller table old))) is
 
-    marked_so : (answer : Progress MarkEnd) → TakeAnswers n table x (record op { state = Marking r l e }) (record op { state = Load }) old new answer
-        → TakeStepped n table x (record op { state = Marking r l e }) (record op { state = Load }) old new answer
+    marked_so : (answer : Progress MarkEnd) → TakeAnswers n table x (record op { state = Marking r l e first }) (record op { state = Load }) old new answer
+        → TakeStepped n table x (record op { state = Marking r l e first }) (record op { state = Load }) old new answer
     marked_so answer answers = record { is = s.swapped.is; works = mark_works s.swapped.found won s.swapped.part; turns = s.swapped.turns; number = s.swapped.number; free = s.free; answers = answers }
 
-    pub marks_row : won ≡ true → TakeStepped n table x (record op { state = Marking r l e }) (record op { state = Load }) old new (Done (Marked r e))
-    marks_row is = marked_so (Done (Marked r e)) (
+    -- the cut of the row may begin
+    cuts_row : won ≡ true → IsCutting n table x (cut_of op r e first) (caller table new)
+    cuts_row is = let law = subst Lawful (mark_part is) s.swapped.is.lawful in subst (IsCutting n table x (cut_of op r e first)) (sym (mark_part is))
+        (cond_both (first == r) (Passing (seen_first r)) (Begins (Head op.head)) (λ (z : SeekState). IsSeeking n table x (cut_of op r e first).sought z (now_marked s.swapped.found))
+        (λ yes. cut_first s.swapped.found law (eqb-true first r yes)) (λ no. cut_anew s.swapped.found))
+
+    pub marks_row : (c : CutOp) → c ≡ cut_of op r e first → won ≡ true → TakeStepped n table x (record op { state = Marking r l e first }) (record op { state = Load }) old new (Done (Marked r e c))
+    marks_row c cut is = marked_so (Done (Marked r e c)) (
       ap (λ (q : Caller). q.own) (mark_part is) ∙ ap (λ j. (caller table old).own ++ Take j e ∷ []) of.sits.numbered,
-      t.below r l e refl,
+      t.below r l e first refl,
       s.debts ∙ (ap (λ b. cond b (record old.debts { cut = Some (cut_debt op.found r e) }) old.debts) is ∙ ap (λ y. record old.debts { cut = Some (cut_debt y r e) }) t.control_is),
       ap (λ (q : Caller). q.cut) (mark_part is) ∙ t.uncut,
+      subst (λ z. IsCutting n table x z (caller table new)) (sym cut) (cuts_row is),
+      ap (λ (z : CutOp). z.sought.target) cut,
     )
 
-    pub marks_not : won ≡ false → TakeStepped n table x (record op { state = Marking r l e }) (record op { state = Load }) old new (Done Lost)
+    pub marks_not : won ≡ false → TakeStepped n table x (record op { state = Marking r l e first }) (record op { state = Load }) old new (Done Lost)
     marks_not is = marked_so (Done Lost) (
       ap (λ (q : Caller). q.own) (mark_part is),
       s.debts ∙ ap (λ b. cond b (record old.debts { cut = Some (cut_debt op.found r e) }) old.debts) is,

@@ -1,6 +1,8 @@
 -- Cutting dead rows out of a list: what is known between two steps, and what each step tells.
-use Rattle.std.specs.Prelude.{◌≡◌, ◌⊎◌, ℕ, ◌<◌, Bool, true, drop, Some, None}
+use Rattle.std.specs.Prelude.{◌≡◌, ◌⊎◌, ℕ, ◌<◌, ◌==◌, cond, Bool, true, drop, Some, None}
 use Rattle.crq_base.specs.declared.event.Event.{Event}
+use Rattle.crq_base.specs.declared.words.Link.{Link}
+use Rattle.crq_base.specs.declared.words.Mark.TheVariants.{Val}
 use Rattle.crq_base.specs.declared.words.Control.{Control}
 use Rattle.crq_rule.specs.declared.pass.Pass.{Pass}
 use Rattle.crq_rule.specs.declared.pass.Table.{Table}
@@ -15,6 +17,10 @@ use Rattle.crq_list.specs.declared.parts.Progress.TheVariants.{More, Done}
 use Rattle.crq_list.specs.declared.cut.CutEnd.{CutEnd}
 use Rattle.crq_list.specs.declared.cut.CutEnd.TheVariants.{Clean, Frozen}
 use Rattle.crq_list.specs.declared.cut.CutOp.{CutOp}
+use Rattle.crq_list.specs.declared.parts.ListAt.{ListAt}
+use Rattle.crq_list.specs.declared.parts.Spot.TheVariants.{Head}
+use Rattle.crq_list.specs.declared.seek.SeekState.{SeekState}
+use Rattle.crq_list.specs.declared.seek.SeekState.TheVariants.{Load, Passing}
 use Rattle.crq_list.specs.declared.seek.SeekEnd.{SeekEnd}
 use Rattle.crq_list.specs.declared.seek.SeekEnd.TheVariants.{There, Frozen as FoundFrozen}
 use Rattle.crq_list.specs.Known.{Works, turns_after}
@@ -27,6 +33,14 @@ use Rattle.crq_list.specs.Seeking.{IsSeeking, seek_exchanges, seek_left}
 -- a caller that cuts the dead rows of a list of the table that it found
 abbrev pub IsCutting : ℕ → Table → Control → CutOp → Caller → Type 0
 IsCutting n table x op p = IsSeeking n table x op.sought op.state p
+
+-- the link of a head of a table of this generation, where it names the row r
+abbrev pub head_link : ℕ → ℕ → Link
+head_link generation r = record { generation = generation; row = r; mark = Val }
+
+-- where the cut of the row r begins, if the list's head was found to name the row f: at that link, or at the head
+abbrev pub cut_begins : ListAt → ℕ → ℕ → SeekState
+cut_begins list r f = cond (f == r) (Passing (record { spot = Head list.head; link = head_link list.generation r })) (Load (Head list.head))
 
 -- what a step of the walk says of the cut
 abbrev pub progress_of : Progress SeekEnd → Progress CutEnd

@@ -1,11 +1,12 @@
 -- Taking the first present event of a list: what is known between two steps, and what each step tells.
-use Rattle.std.specs.Prelude.{◌≡◌, ◌≢◌, ◌⊎◌, ℕ, ◌+◌, ◌-◌, ◌*◌, ◌^◌, ◌<◌, ◌≤◌, Bool, true, false, [], ◌∷◌, ◌++◌, length, drop, Some, None}
+use Rattle.std.specs.Prelude.{◌≡◌, ◌≢◌, ◌⊎◌, ℕ, ◌+◌, ◌-◌, ◌*◌, ◌^◌, ◌<◌, ◌≤◌, Bool, true, false, List, [], ◌∷◌, ◌++◌, length, drop, Some, None}
 use Rattle.crq_base.specs.declared.event.Event.{Event}
 use Rattle.crq_base.specs.declared.entry.Entry.TheVariants.{Take}
 use Rattle.crq_base.specs.declared.words.Link.{Link}
 use Rattle.crq_base.specs.declared.words.Mark.TheVariants.{Val}
 use Rattle.crq_base.specs.declared.words.Control.{Control}
 use Rattle.crq_base.specs.Words.{IsLink, link_word}
+use Rattle.crq_rule.specs.declared.layout.Layout.{Layout}
 use Rattle.crq_rule.specs.declared.pass.Pass.{Pass}
 use Rattle.crq_rule.specs.declared.pass.Table.{Table}
 use Rattle.crq_rule.specs.declared.view.Made.{Made}
@@ -13,12 +14,14 @@ use Rattle.crq_rule.specs.declared.view.Walk.{Walk}
 use Rattle.crq_rule.specs.declared.view.Caller.{Caller}
 use Rattle.crq_rule.specs.Places.{index, link as link_place, IsHead}
 use Rattle.crq_rule.specs.Parts.{IsOn}
-use Rattle.crq_rule.specs.Ranks.{IsOpen}
+use Rattle.crq_rule.specs.Ranks.{IsOpen, at_head, at_row, cell_place}
 use Rattle.crq_rule.specs.HistoryParts.{EndsInBegin}
 use Rattle.crq_rule.specs.ListKinds.{StandsOn, MayMiss, cut_debt}
 use Rattle.crq_rows.specs.Passes.{caller, IsPassOf}
+use Rattle.crq_list.specs.declared.parts.ListAt.{ListAt}
 use Rattle.crq_list.specs.declared.parts.Progress.{Progress}
 use Rattle.crq_list.specs.declared.parts.Progress.TheVariants.{More, Done}
+use Rattle.crq_list.specs.declared.cut.CutOp.{CutOp}
 use Rattle.crq_list.specs.declared.take.MarkEnd.{MarkEnd}
 use Rattle.crq_list.specs.declared.take.MarkEnd.TheVariants.{Marked, Beyond, Nothing, Lost, Frozen}
 use Rattle.crq_list.specs.declared.take.TakeOp.{TakeOp}
@@ -27,6 +30,8 @@ use Rattle.crq_list.specs.declared.take.TakeState.TheVariants.{Load, Walking, Re
 use Rattle.crq_list.specs.Known.{is_exchange, Works, turns_after, last_known}
 use Rattle.crq_list.specs.Stretches.{Stretch}
 use Rattle.crq_list.specs.Operations.{Operation}
+use Rattle.crq_list.specs.Sweeps.{SweepsTo}
+use Rattle.crq_list.specs.Cutting.{IsCutting, head_link, cut_begins}
 use Rattle.crq_list.specs.Spots.{rank_at}
 
 -- the caller's walk stands at the row
@@ -46,9 +51,22 @@ IsRead place read e = (2 < place → (read.time ≡ e.time) × (read.dst ≡ e.d
 
 abbrev pub IsTakingAt : ℕ → Table → TakeState → Caller → Type 0
 IsTakingAt n table Load p = Unit {0}
-IsTakingAt n table (Walking r) p = IsWalkAt p r
-IsTakingAt n table (Reading r l place read) p = IsPresent n table r l p × (2 ≤ place) × (place < 6) × ((e : Event) → StandsOn p.position.rows r e → IsRead place read e)
-IsTakingAt n table (Marking r l e) p = IsPresent n table r l p × StandsOn p.position.rows r e
+IsTakingAt n table (Walking r f) p = IsWalkAt p r
+IsTakingAt n table (Reading r l place read f) p = IsPresent n table r l p × (2 ≤ place) × (place < 6) × ((e : Event) → StandsOn p.position.rows r e → IsRead place read e)
+IsTakingAt n table (Marking r l e f) p = IsPresent n table r l p × StandsOn p.position.rows r e
+
+-- With these steps the head q, of a table of this generation, was last found to name the row f, and a sweep of its list came to that row
+pub record NamesFirst (l : Layout) (generation q f : ℕ) (made : List Made) : Type 0 where
+  pub bits : IsLink (head_link generation f)
+  pub known : last_known made (index l (cell_place (at_head q))) ≡ Some (link_word (head_link generation f))
+  pub swept : SweepsTo l (at_head q) made (at_row f)
+
+-- so it was, once the head is loaded
+abbrev pub IsFirstKnown : Layout → ℕ → ℕ → TakeState → List Made → Type 0
+IsFirstKnown l generation q Load made = Unit {0}
+IsFirstKnown l generation q (Walking r f) made = NamesFirst l generation q f made
+IsFirstKnown l generation q (Reading r link place read f) made = NamesFirst l generation q f made
+IsFirstKnown l generation q (Marking r link e f) made = NamesFirst l generation q f made
 
 -- a take that walks has read the table of this control word
 abbrev pub SeesTable : TakeState → Control → Caller → Type 0
@@ -67,19 +85,27 @@ pub record IsTaking (n : ℕ) (table : Table) (x : Control) (op : TakeOp) (p : C
   pub control_is : op.found ≡ x
   pub uncut : p.cut ≡ None
   pub free : p.debts.cut ≡ None
-  pub below : (r : ℕ) (l : Link) (e : Event) → op.state ≡ Marking r l e → e.time < op.limit
+  pub below : (r : ℕ) (l : Link) (e : Event) (f : ℕ) → op.state ≡ Marking r l e f → e.time < op.limit
   pub sees : SeesTable op.state x p
+  pub first : IsFirstKnown table.start.layout op.found.generation op.head op.state (drop n p.made)
   pub at : IsTakingAt n table op.state p
 
 abbrev pub taking_exchanges : TakeState → Bool
-taking_exchanges (Marking r l e) = true
+taking_exchanges (Marking r l e f) = true
 taking_exchanges _ = false
 
 abbrev pub taking_left : TakeState → Caller → ℕ
 taking_left Load p = (2 ^ 160) * 16 + 15
-taking_left (Walking r) p = (2 ^ 160 - rank_at p.position.rows r) * 16 + 12
-taking_left (Reading r l place read) p = (2 ^ 160 - rank_at p.position.rows r) * 16 + (11 - place)
-taking_left (Marking r l e) p = 0
+taking_left (Walking r f) p = (2 ^ 160 - rank_at p.position.rows r) * 16 + 12
+taking_left (Reading r l place read f) p = (2 ^ 160 - rank_at p.position.rows r) * 16 + (11 - place)
+taking_left (Marking r l e f) p = 0
+
+-- the list that the take walks, and the cut of a row of it that was marked, where the list's head was found to name the row f
+abbrev pub list_taken : TakeOp → ListAt
+list_taken op = record { generation = op.found.generation; head = op.head }
+
+abbrev pub cut_of : TakeOp → ℕ → Event → ℕ → CutOp
+cut_of op r e f = record { sought = record { list = list_taken op; target = Some (e, r) }; state = cut_begins (list_taken op) r f }
 
 -- the one step made was an exchange, which found another word than it expected
 abbrev pub FoundAnother : Caller → Caller → Type 0
@@ -92,8 +118,9 @@ StopsAt n table e p = (r : ℕ) × (l : Link) × IsPresent n table r l p × Stan
 abbrev pub TakeAnswers : ℕ → Table → Control → TakeOp → TakeOp → Pass → Pass → Progress MarkEnd → Type 0
 TakeAnswers n table x op op' old new More = let p = caller table old in let q = caller table new in
     IsTaking n table x op' q × (op' ≡ record op { state = op'.state }) × (q.own ≡ p.own) × (new.debts ≡ old.debts) × ((taking_exchanges op.state ≡ true) ⊎ (taking_left op'.state q < taking_left op.state p))
-TakeAnswers n table x op op' old new (Done (Marked r e)) = let p = caller table old in let q = caller table new in
+TakeAnswers n table x op op' old new (Done (Marked r e c)) = let p = caller table old in let q = caller table new in
     (q.own ≡ p.own ++ Take old.number e ∷ []) × (e.time < op.limit) × (new.debts ≡ record old.debts { cut = Some (cut_debt x r e) }) × (q.cut ≡ None)
+    × IsCutting n table x c q × (c.sought.target ≡ Some (e, r))
 TakeAnswers n table x op op' old new (Done (Beyond e)) = let p = caller table old in let q = caller table new in
     (q.own ≡ p.own) × (new.debts ≡ old.debts) × MayMiss x op.limit q × (op.limit ≤ e.time) × (q.cut ≡ None) × (q.debts.cut ≡ None) × StopsAt n table e q
 TakeAnswers n table x op op' old new (Done Nothing) = let p = caller table old in let q = caller table new in

@@ -1,16 +1,16 @@
 //! Cutting dead rows out of a list.
-ghost use Rattle.std.specs.Prelude.{◌≡◌, ℕ};
+ghost use Rattle.std.specs.Prelude.{◌≡◌, ℕ, Some};
 ghost use Rattle.crq_rows.specs.Passes.{IsPassOf};
 ghost use Rattle.crq_list.specs.declared.seek.SeekState.TheVariants.{Load};
 ghost use Rattle.crq_list.specs.declared.parts.Spot.TheVariants.{Head};
 ghost use Rattle.crq_list.specs.Seeking.{seek_exchanges};
 ghost use Rattle.crq_list.specs.Operations.{IsUnderWay, MakesStep, MakesSteps};
-ghost use Rattle.crq_list.specs.Cutting.{the_cut, progress_of};
+ghost use Rattle.crq_list.specs.Cutting.{the_cut, cut_begins, progress_of};
 
-use crate::parts::{ListAt, Progress, Spot};
+use crate::parts::{Before, ListAt, Progress, Spot};
 use crate::seek::{SeekEnd, SeekState, Sought};
 use crate::stretch::run_seek;
-use crq_base::Event;
+use crq_base::{Event, Link, Mark};
 use crq_rows::{Pass, Table};
 
 /// How a cut ends.
@@ -54,6 +54,31 @@ impl CutOp {
         CutOp {
             sought: Sought { list, target: upto },
             state: SeekState::Load(Spot::Head(list.head)),
+        }
+    }
+
+    /// The cut of a row that a take marked, whose walk found the list's head to name the row `first`. If that is the marked
+    /// row, then the cut begins at the head's link as it was found. Else, or where the link isn't that any more, it walks the
+    /// list from its head.
+    #[inline(always)]
+    pub(crate) fn after(list: ListAt, event: Event, row: u32, first: u32) -> CutOp
+        ensures { result ≡ record { sought = record { list = list; target = Some (event, row) }; state = cut_begins list row first } }
+    {
+        if first != row {
+            return CutOp::new(list, Some((event, row)));
+        }
+        let link = Link {
+            generation: list.generation,
+            row,
+            mark: Mark::Val,
+        };
+        let spot = Spot::Head(list.head);
+        CutOp {
+            sought: Sought {
+                list,
+                target: Some((event, row)),
+            },
+            state: SeekState::Passing(Before { spot, link }),
         }
     }
 

@@ -10,9 +10,10 @@ ghost use Rattle.crq_list.specs.declared.parts.Progress.TheVariants.{More, Done}
 ghost use Rattle.crq_list.specs.declared.take.MarkEnd.TheVariants.{Nothing};
 ghost use Rattle.crq_list.specs.declared.take.TakeState.TheVariants.{Load, Walking, Reading, Marking};
 ghost use Rattle.crq_list.specs.Operations.{IsUnderWay, MakesStep, MakesSteps};
-ghost use Rattle.crq_list.specs.Taking.{IsRead, the_take, take_at, taking_exchanges};
+ghost use Rattle.crq_list.specs.Taking.{IsRead, the_take, take_at, cut_of, taking_exchanges};
 
-use crate::parts::{Place, Progress, Spot};
+use crate::cut::CutOp;
+use crate::parts::{ListAt, Place, Progress, Spot};
 use crate::steps::{mark_step, walk_step};
 use crq_base::{Control, Event, Link, Mark};
 use crq_rows::{Pass, Table, read_step};
@@ -21,8 +22,8 @@ use crq_rule::BANK;
 /// How a take from a list ends.
 #[derive(Clone, Copy, Debug, PartialEq, Eq)]
 pub enum MarkEnd {
-    /// This row is marked dead: its event was taken.
-    Marked(u32, Event),
+    /// This row is marked dead: its event was taken. The cut of the row is yet to be made.
+    Marked(u32, Event, CutOp),
     /// The first present event isn't below the limit. It is this one, of the row at which the walk stopped.
     Beyond(Event),
     /// The list has no present event.
@@ -33,17 +34,17 @@ pub enum MarkEnd {
     Frozen,
 }
 
-/// How far a take is.
+/// How far a take is. What comes last in each state but the first is the row that the list's head was found to name.
 #[derive(Clone, Copy, Debug, PartialEq, Eq)]
 pub enum TakeState {
     /// The list's head is to be loaded.
     Load,
     /// The link of this row is to be loaded.
-    Walking(u32),
+    Walking(u32, u32),
     /// This row was found present, with this link, and this word of its event is to be read. The words before it are read.
-    Reading(u32, Link, u32, Event),
+    Reading(u32, Link, u32, Event, u32),
     /// This row, with this link and this event, is to be marked.
-    Marking(u32, Link, Event),
+    Marking(u32, Link, Event, u32),
 }
 
 /// A take of the first present event of a list that is below a limit, one atomic step at a time. It goes past dead rows
@@ -71,13 +72,13 @@ const UNREAD: Event = Event {
 
 /// What comes after a head or row that was passed: the row that its link names, or the end of the list.
 #[inline(always)]
-fn onward(link: Link) -> (TakeState, Progress<MarkEnd>)
-    ensures { ((link.row ≡ 0) × (result ≡ (Load, Done Nothing))) ⊎ ((0 < link.row) × (result ≡ (Walking link.row, More))) }
+fn onward(link: Link, first: u32) -> (TakeState, Progress<MarkEnd>)
+    ensures { ((link.row ≡ 0) × (result ≡ (Load, Done Nothing))) ⊎ ((0 < link.row) × (result ≡ (Walking link.row first, More))) }
 {
     if link.row == 0 {
         (TakeState::Load, Progress::Done(MarkEnd::Nothing))
     } else {
-        (TakeState::Walking(link.row), Progress::More)
+        (TakeState::Walking(link.row, first), Progress::More)
     }
 }
 
@@ -125,7 +126,7 @@ impl TakeOp {
     pub fn exchanges(&self) -> bool
         ensures { result ≡ taking_exchanges self.now.state }
     {
-        matches!(self.state, TakeState::Marking(_, _, _))
+        matches!(self.state, TakeState::Marking(_, _, _, _))
     }
 
     /// Loads the head.
@@ -137,22 +138,31 @@ impl TakeOp {
     {
         let link = walk_step(table, pass, Spot::Head(self.head), true);
         match link.mark {
-            Mark::Val => onward(link),
+            Mark::Val => onward(link, link.row),
             _ => (TakeState::Load, Progress::Done(MarkEnd::Frozen)),
         }
     }
 
     /// Loads the link of the row at which the walk is, and goes past it where it is dead.
     #[inline(always)]
-    fn walk(&self, table: &Table, pass: &mut Pass, row: u32) -> (TakeState, Progress<MarkEnd>)
+    fn walk(
+        &self,
+        table: &Table,
+        pass: &mut Pass,
+        row: u32,
+        first: u32,
+    ) -> (TakeState, Progress<MarkEnd>)
         requires of { IsPassOf table.now pass.old }
-        requires op { IsUnderWay the_take table.now (take_at self.now (Walking row), pass.old) }
-        ensures { MakesStep the_take table.now (take_at self.now (Walking row), pass.old) (take_at self.now result.0, pass.new) result.1 }
+        requires op { IsUnderWay the_take table.now (take_at self.now (Walking row first), pass.old) }
+        ensures { MakesStep the_take table.now (take_at self.now (Walking row first), pass.old) (take_at self.now result.0, pass.new) result.1 }
     {
         let link = walk_step(table, pass, Spot::Row(row), true);
         match link.mark {
-            Mark::Val => (TakeState::Reading(row, link, 2, UNREAD), Progress::More),
-            Mark::Inv | Mark::Del => onward(link),
+            Mark::Val => (
+                TakeState::Reading(row, link, 2, UNREAD, first),
+                Progress::More,
+            ),
+            Mark::Inv | Mark::Del => onward(link, first),
             Mark::Mov => (TakeState::Load, Progress::Done(MarkEnd::Frozen)),
         }
     }
@@ -167,24 +177,25 @@ impl TakeOp {
         link: Link,
         place: u32,
         event: Event,
+        first: u32,
     ) -> (TakeState, Progress<MarkEnd>)
         requires of { IsPassOf table.now pass.old }
-        requires op { IsUnderWay the_take table.now (take_at self.now (Reading row link place event), pass.old) }
-        ensures stepped { MakesStep the_take table.now (take_at self.now (Reading row link place event), pass.old) (take_at self.now result.0, pass.new) result.1 }
-        ensures same { (other : ℕ) (found : Link) (next : ℕ) (read : Event) → result.0 ≡ Reading other found next read → (other ≡ row) × (found ≡ link) }
+        requires op { IsUnderWay the_take table.now (take_at self.now (Reading row link place event first), pass.old) }
+        ensures stepped { MakesStep the_take table.now (take_at self.now (Reading row link place event first), pass.old) (take_at self.now result.0, pass.new) result.1 }
+        ensures same { (other : ℕ) (found : Link) (next : ℕ) (read : Event) (head : ℕ) → result.0 ≡ Reading other found next read head → (other ≡ row) × (found ≡ link) × (head ≡ first) }
     {
         let word = read_step(table, pass, row, place);
         let event = with_word(event, place, word);
         if place < 5 {
             return (
-                TakeState::Reading(row, link, place + 1, event),
+                TakeState::Reading(row, link, place + 1, event, first),
                 Progress::More,
             );
         }
         if u64::from(event.time) >= self.limit {
             return (TakeState::Load, Progress::Done(MarkEnd::Beyond(event)));
         }
-        (TakeState::Marking(row, link, event), Progress::More)
+        (TakeState::Marking(row, link, event, first), Progress::More)
     }
 
     /// Reads the words of the present row's event from this one on.
@@ -195,17 +206,18 @@ impl TakeOp {
         pass: &mut Pass,
         row: u32,
         link: Link,
-        first: u32,
+        start: u32,
         unread: Event,
+        first: u32,
     ) -> (TakeState, Progress<MarkEnd>)
         requires of { IsPassOf table.now pass.old }
-        requires op { IsUnderWay the_take table.now (take_at self.now (Reading row link first unread), pass.old) }
-        ensures { MakesSteps the_take table.now (take_at self.now (Reading row link first unread), pass.old) (take_at self.now result.0, pass.new) result.1 }
+        requires op { IsUnderWay the_take table.now (take_at self.now (Reading row link start unread first), pass.old) }
+        ensures { MakesSteps the_take table.now (take_at self.now (Reading row link start unread first), pass.old) (take_at self.now result.0, pass.new) result.1 }
     {
-        let (mut place, mut event) = (first, unread);
+        let (mut place, mut event) = (start, unread);
         loop {
-            let told = self.read(table, pass, row, link, place, event);
-            let (TakeState::Reading(_, _, next, read), Progress::More) = told else {
+            let told = self.read(table, pass, row, link, place, event, first);
+            let (TakeState::Reading(_, _, next, read, _), Progress::More) = told else {
                 return told;
             };
             place = next;
@@ -219,19 +231,21 @@ impl TakeOp {
         &self,
         table: &Table,
         pass: &mut Pass,
+        start: u32,
         first: u32,
     ) -> (TakeState, Progress<MarkEnd>)
         requires of { IsPassOf table.now pass.old }
-        requires op { IsUnderWay the_take table.now (take_at self.now (Walking first), pass.old) }
-        ensures { MakesSteps the_take table.now (take_at self.now (Walking first), pass.old) (take_at self.now result.0, pass.new) result.1 }
+        requires op { IsUnderWay the_take table.now (take_at self.now (Walking start first), pass.old) }
+        ensures { MakesSteps the_take table.now (take_at self.now (Walking start first), pass.old) (take_at self.now result.0, pass.new) result.1 }
     {
-        let mut row = first;
+        let (mut row, mut named) = (start, first);
         loop {
-            let told = self.walk(table, pass, row);
-            let (TakeState::Walking(next), Progress::More) = told else {
+            let told = self.walk(table, pass, row, named);
+            let (TakeState::Walking(next, still), Progress::More) = told else {
                 return told;
             };
             row = next;
+            named = still;
         }
     }
 
@@ -242,16 +256,17 @@ impl TakeOp {
         table: &Table,
         pass: &mut Pass,
         row: u32,
+        first: u32,
     ) -> (TakeState, Progress<MarkEnd>)
         requires of { IsPassOf table.now pass.old }
-        requires op { IsUnderWay the_take table.now (take_at self.now (Walking row), pass.old) }
-        ensures { MakesSteps the_take table.now (take_at self.now (Walking row), pass.old) (take_at self.now result.0, pass.new) result.1 }
+        requires op { IsUnderWay the_take table.now (take_at self.now (Walking row first), pass.old) }
+        ensures { MakesSteps the_take table.now (take_at self.now (Walking row first), pass.old) (take_at self.now result.0, pass.new) result.1 }
     {
-        let told = self.walk_rows(table, pass, row);
-        let (TakeState::Reading(row, link, place, event), Progress::More) = told else {
+        let told = self.walk_rows(table, pass, row, first);
+        let (TakeState::Reading(row, link, place, event, first), Progress::More) = told else {
             return told;
         };
-        self.read_event(table, pass, row, link, place, event)
+        self.read_event(table, pass, row, link, place, event, first)
     }
 
     /// Loads the head, and walks from there on.
@@ -262,10 +277,22 @@ impl TakeOp {
         ensures { MakesSteps the_take table.now (take_at self.now Load, pass.old) (take_at self.now result.0, pass.new) result.1 }
     {
         let told = self.load(table, pass);
-        let (TakeState::Walking(row), Progress::More) = told else {
+        let (TakeState::Walking(row, first), Progress::More) = told else {
             return told;
         };
-        self.from_walking(table, pass, row)
+        self.from_walking(table, pass, row, first)
+    }
+
+    /// The cut of a row that was marked.
+    #[inline(always)]
+    fn cut_of(&self, row: u32, event: Event, first: u32) -> CutOp
+        ensures { result ≡ cut_of self.now row event first }
+    {
+        let list = ListAt {
+            generation: self.found.generation,
+            head: self.head,
+        };
+        CutOp::after(list, event, row, first)
     }
 
     /// Marks the present row.
@@ -277,14 +304,15 @@ impl TakeOp {
         row: u32,
         link: Link,
         event: Event,
+        first: u32,
     ) -> (TakeState, Progress<MarkEnd>)
         requires of { IsPassOf table.now pass.old }
         requires free { pass.old.debts.cut ≡ None }
-        requires op { IsUnderWay the_take table.now (take_at self.now (Marking row link event), pass.old) }
-        ensures { MakesStep the_take table.now (take_at self.now (Marking row link event), pass.old) (take_at self.now result.0, pass.new) result.1 }
+        requires op { IsUnderWay the_take table.now (take_at self.now (Marking row link event first), pass.old) }
+        ensures { MakesStep the_take table.now (take_at self.now (Marking row link event first), pass.old) (take_at self.now result.0, pass.new) result.1 }
     {
         let end = if mark_step(table, pass, &self.found, row, link, &event) {
-            MarkEnd::Marked(row, event)
+            MarkEnd::Marked(row, event, self.cut_of(row, event, first))
         } else {
             MarkEnd::Lost
         };
@@ -301,11 +329,13 @@ impl TakeOp {
     {
         let (state, answer) = match self.state {
             TakeState::Load => self.load(table, pass),
-            TakeState::Walking(row) => self.walk(table, pass, row),
-            TakeState::Reading(row, link, place, event) => self.read(
-                table, pass, row, link, place, event,
+            TakeState::Walking(row, first) => self.walk(table, pass, row, first),
+            TakeState::Reading(row, link, place, event, first) => self.read(
+                table, pass, row, link, place, event, first,
             ),
-            TakeState::Marking(row, link, event) => self.mark(table, pass, row, link, event),
+            TakeState::Marking(row, link, event, first) => self.mark(
+                table, pass, row, link, event, first,
+            ),
         };
         self.state = state;
         answer
@@ -321,11 +351,11 @@ impl TakeOp {
     {
         let (state, answer) = match self.state {
             TakeState::Load => self.from_load(table, pass),
-            TakeState::Walking(row) => self.from_walking(table, pass, row),
-            TakeState::Reading(row, link, place, event) => self.read_event(
-                table, pass, row, link, place, event,
+            TakeState::Walking(row, first) => self.from_walking(table, pass, row, first),
+            TakeState::Reading(row, link, place, event, first) => self.read_event(
+                table, pass, row, link, place, event, first,
             ),
-            TakeState::Marking(_, _, _) => return self.step(table, pass),
+            TakeState::Marking(_, _, _, _) => return self.step(table, pass),
         };
         self.state = state;
         answer

@@ -20,12 +20,13 @@ use Rattle.crq_rule.specs.HistoryParts.{EndsInBegin}
 use Rattle.crq_rule.specs.ListKinds.{begins, cut_debt, put_entries}
 use Rattle.crq_rule.proofs.Puts.{in_snoc}
 use Rattle.crq_rows.specs.Passes.{caller}
+use Rattle.crq_list.specs.declared.cut.CutOp.{CutOp}
 use Rattle.crq_list.specs.Swaps.{Controlled}
 use Rattle.crq_queue.specs.declared.runs.Spent.{Spent}
 use Rattle.crq_queue.specs.Wholes.{IsResting}
 use Rattle.crq_queue.specs.Runs.{Ran, RanTicks, MayRun}
 use Rattle.crq_queue.specs.Parts.{Entered, Left, CutNeeds, TakeNeeds}
-use Rattle.crq_queue.specs.Stages.{CallBegun, CutFinished, DebtSettled, EventInserted, EventTaken, IsFinished, RowAnswers, RowFound, anew}
+use Rattle.crq_queue.specs.Stages.{CallBegun, CutsDebt, CutFinished, DebtSettled, EventInserted, EventTaken, IsFinished, RowAnswers, RowFound, anew}
 use Rattle.crq_queue.specs.Calls.{Call, call, steps_before, Called, OwesNothing, IsShort, StoppedSettling, WentOn, PutWants, PutAnswers, CutOwed, TakeAnswers}
 use Rattle.crq_queue.proofs.RunLaws.{ran_trans, ran_both, ran_ticks, used_for, used_on}
 use Rattle.crq_queue.proofs.CallSteps.{IsAtWork, may_go, may_anew, called, called_ticks, goes_inside, works_on, comes_to_rest, begin_rests, begin_found, begin_ran}
@@ -175,20 +176,21 @@ module _ {table : Table} {budget : ℕ} {b : Pass} {x : Control} (old : Pass) (l
     still_numbered : c.number ≡ old.number
     still_numbered = entered.ran.number ∙ begun.ran.number
 
-    module _ (limit : ℕ) (d : Pass) (answer : Option Event) (mark : (n : ℕ) → MayRun table n budget c → EventTaken table n budget x limit c d (Ok answer)) where
-      marked_so : {end : Option Event} → answer ≡ end → EventTaken table (length (caller table old).made) budget x limit c d (Ok end)
+    module _ (limit : ℕ) (d : Pass) (answer : Option (Event × CutOp)) (mark : (n : ℕ) → MayRun table n budget c → EventTaken table n budget x limit c d (Ok answer)) where
+      marked_so : {end : Option (Event × CutOp)} → answer ≡ end → EventTaken table (length (caller table old).made) budget x limit c d (Ok end)
       marked_so at = subst (λ z. EventTaken table (length (caller table old).made) budget x limit c d (Ok z)) at (mark (length (caller table old).made) may_entered)
 
-      pub take_owes : {e : Event} → answer ≡ Some e → IsAtWork table x d × (d.turns ≤ budget)
-      take_owes at = let t = marked_so at in (works_on take_inside t.0 t.1, t.0.within)
+      pub take_owes : {e : Event} {c k : CutOp} → answer ≡ Some (e, c) → k ≡ c → IsAtWork table x d × (d.turns ≤ budget) × ((n : ℕ) × (y : Control) × CutsDebt n table y k d)
+      take_owes at same = let t = marked_so at in (works_on take_inside t.0 t.1, t.0.within, (length (caller table old).made, x, subst (λ z. CutsDebt (length (caller table old).made) table x z d) (sym same) t.3.2))
 
-      pub take_done : {e : Event} {f : Pass} {cut : Result (Unit {0}) Spent} → answer ≡ Some e → ((n : ℕ) → MayRun table n budget d → CutFinished table n budget x d f cut) → Ends (call table budget old) b x limit f (Ok (Taken e (Bucket 0)))
-      take_done {e} {f} {cut} at finish = let t = marked_so at in let k = finish (length (caller table old).made) (may_go may_entered t.0) in (
-        subst (λ j. Ran table (length (caller table old).made) budget b f (Take j e ∷ [])) still_numbered (ran_trans entered.ran (ran_trans t.0 k.ran)),
-        (x, works_on (works_on take_inside t.0 t.1) k.ran k.inside),
+      pub take_done : {e : Event} {c k : CutOp} {f : Pass} {cut : Result (Unit {0}) Spent} → answer ≡ Some (e, c) → k ≡ c → ((n : ℕ) (y : Control) → MayRun table n budget d → CutsDebt n table y k d → CutFinished table n budget y d f cut)
+          → Ends (call table budget old) b x limit f (Ok (Taken e (Bucket 0)))
+      take_done {e} {c} {k} {f} {cut} at same finish = let t = marked_so at in let done = finish (length (caller table old).made) x (may_go may_entered t.0) (subst (λ z. CutsDebt (length (caller table old).made) table x z d) (sym same) t.3.2) in (
+        subst (λ j. Ran table (length (caller table old).made) budget b f (Take j e ∷ [])) still_numbered (ran_trans entered.ran (ran_trans t.0 done.ran)),
+        (x, works_on (works_on take_inside t.0 t.1) done.ran done.inside),
         t.2,
         refl,
-        cut_left (call table budget old) x e t.3.0 d f cut t.3.1 k.finished,
+        cut_left (call table budget old) x e t.3.0 d f cut t.3.1 done.finished,
       )
 
       pub take_missed : answer ≡ None → Ends (call table budget old) b x limit d (Ok Missed)

@@ -22,14 +22,14 @@ use Rattle.crq_list.specs.declared.insert.InsertOp.{InsertOp}
 use Rattle.crq_list.specs.declared.insert.InsertState.TheVariants.{Writing}
 use Rattle.crq_list.specs.declared.take.TakeOp.{TakeOp}
 use Rattle.crq_list.specs.declared.take.TakeState.TheVariants.{Load as LoadHead, Marking}
-use Rattle.crq_list.specs.Spots.{IsListOf}
+use Rattle.crq_list.specs.Spots.{Target, IsListOf, IsTarget}
 use Rattle.crq_list.specs.Cutting.{IsCutting}
 use Rattle.crq_list.specs.Inserting.{IsInserting}
 use Rattle.crq_list.specs.Taking.{IsTaking}
 use Rattle.crq_queue.specs.declared.runs.Spent.{Spent}
 use Rattle.crq_queue.specs.Runs.{IsInside}
 use Rattle.crq_queue.specs.Parts.{CutRan, UptoNeeds}
-use Rattle.crq_queue.specs.Stages.{CutFinished}
+use Rattle.crq_queue.specs.Stages.{CutsDebt, CutFinished}
 use Rattle.crq_list.proofs.SweepLaws.{sweep_begins}
 use Rattle.crq_queue.proofs.RunLaws.{used_for}
 use Rattle.crq_queue.proofs.CallSteps.{head_open, first_open, is_uncut, uncut_ran}
@@ -82,7 +82,7 @@ module _ {table : Table} {x : Control} {pass : Pass} (of : IsPassOf table pass) 
     at = (inside.uncut, omega arith, omega arith, (λ b. absurd (omega arith), λ place low high _. absurd (omega arith)));
   }
 
-  not_marking : {r : ℕ} {l : Link} {e : Event} → LoadHead ≡ Marking r l e → ⊥
+  not_marking : {r f : ℕ} {l : Link} {e : Event} → LoadHead ≡ Marking r l e f → ⊥
   not_marking is = cc
 
   -- a take from the one list of the table
@@ -100,11 +100,21 @@ module _ {table : Table} {x : Control} {pass : Pass} (of : IsPassOf table pass) 
     control_is = refl;
     uncut = inside.uncut;
     free = ⊎_elim (λ q. q) (λ q. q ∙ free) of.debts.cut;
-    below = λ r l e is. absurd (not_marking is);
+    below = λ r l e f is. absurd (not_marking is);
+    first = tt;
     at = tt;
   }
 
+  -- the cut of the row that is owed, from the head on
+  pub may_cut_owed : {n : ℕ} (op : CutOp) (list : ListAt) (d : CutDebt) → n ≤ length (caller table pass).made → (list.generation ≡ x.generation) × (list.head ≡ head_of x d.event)
+      → op ≡ record { sought = record { list = list; target = Some (d.event, d.row) }; state = Load (Head list.head) } → pass.debts.cut ≡ Some d → CutsDebt n table x op pass
+  may_cut_owed op list d counted names is owes = (may_cut op list d.event d.row counted names is, (d, owes, ap (λ (o : CutOp). o.sought.target) is))
+
 -- The dead row that was owed is cut
+
+-- its list is that of the cut
+owed_list : (x : Control) (list : ListAt) (target : Target) (d : CutDebt) → target ≡ Some (d.event, d.row) → IsTarget x list target → list.head ≡ head_of x d.event
+owed_list x list target d is of = sym (subst (IsTarget x list) is of)
 
 module _ {table : Table} {n budget : ℕ} {x : Control} {op : CutOp} {old mid : Pass} (d : CutDebt) where
   -- it isn't known as owed any more
@@ -112,14 +122,18 @@ module _ {table : Table} {n budget : ℕ} {x : Control} {op : CutOp} {old mid : 
   cut_known c owes upto head = ⊎_elim (λ q. q) (λ q. let known : (caller table mid).debts.cut ≡ Some d = q ∙ (ap (λ (d : Debts). d.cut) c.debts ∙ owes) in
       absurd (c.ended.0 d upto (c.ran.is.lawful.owed_at d x known c.inside.control ∙ sym head) known)) c.ran.is.debts.cut
 
-  pub cut_finished : {u : Unit {0}} → CutRan table n budget x op old mid (Ok u) → old.debts.cut ≡ Some d → op.sought.target ≡ Some (d.event, d.row) → op.sought.list.head ≡ head_of x d.event
+  finished : {u : Unit {0}} → CutRan table n budget x op old mid (Ok u) → old.debts.cut ≡ Some d → op.sought.target ≡ Some (d.event, d.row) → op.sought.list.head ≡ head_of x d.event
       → CutFinished table n budget x old (record mid { debts = record mid.debts { cut = None } }) (Ok tt)
-  cut_finished c owes upto head = let of = is_uncut c.ran.is (cut_known c owes upto head) in record {
+  finished c owes upto head = let of = is_uncut c.ran.is (cut_known c owes upto head) in record {
     ran = uncut_ran c.ran of;
     inside = record { on = c.inside.on; uncut = c.inside.uncut; control = c.inside.control };
     free = c.free;
     finished = refl;
   }
 
-pub cut_unfinished : {table : Table} {n budget : ℕ} {x : Control} {op : CutOp} {old new : Pass} {s t : Spent} (d : CutDebt) → CutRan table n budget x op old new (Err s) → old.debts.cut ≡ Some d → op.sought.target ≡ Some (d.event, d.row) → CutFinished table n budget x old new (Err t)
-cut_unfinished {table} {n} d c owes upto = record { ran = c.ran; inside = c.inside; free = c.free; finished = (ap (λ (d : Debts). d.cut) c.debts, used_for (λ p needs. record { debt = d; owes = owes; cuts = subst (λ u. UptoNeeds n table u p) upto needs }) c.ended) }
+module _ {table : Table} {n budget : ℕ} {x : Control} {op : CutOp} {old new : Pass} (owed : CutsDebt n table x op old) where
+  pub cut_finished : {u : Unit {0}} → CutRan table n budget x op old new (Ok u) → CutFinished table n budget x old (record new { debts = record new.debts { cut = None } }) (Ok tt)
+  cut_finished c = let d = owed.1.0 in finished d c owed.1.1 owed.1.2 (owed_list x op.sought.list op.sought.target d owed.1.2 owed.0.target_is)
+
+  pub cut_unfinished : {s t : Spent} → CutRan table n budget x op old new (Err s) → CutFinished table n budget x old new (Err t)
+  cut_unfinished c = let d = owed.1.0 in let owes = owed.1.1 in let upto = owed.1.2 in record { ran = c.ran; inside = c.inside; free = c.free; finished = (ap (λ (d : Debts). d.cut) c.debts, used_for (λ p needs. record { debt = d; owes = owes; cuts = subst (λ u. UptoNeeds n table u p) upto needs }) c.ended) }

@@ -25,7 +25,7 @@ use Rattle.crq_rule.specs.Parts.{IsEvent}
 use Rattle.crq_rule.specs.Places.{IsHead}
 use Rattle.crq_rule.specs.Ranks.{head_of, IsOpen, Cell, at_head, at_row}
 use Rattle.crq_rule.specs.HistoryParts.{EndsInBegin}
-use Rattle.crq_rule.specs.ListKinds.{MayMiss, loads_control, misses, put_entries}
+use Rattle.crq_rule.specs.ListKinds.{MayMiss, loads_control, misses, put_entries, cut_debt}
 use Rattle.crq_rows.specs.declared.recover.Recover.{Recover}
 use Rattle.crq_rows.specs.declared.recover.RecoverOp.{RecoverOp}
 use Rattle.crq_rows.specs.Recovering.{CountsRows, RecoverAnswer}
@@ -243,9 +243,9 @@ pub record IsMarking (table : Table) (budget : ℕ) (x : Control) (start pass : 
   pub ran : (n : ℕ) → MayRun table n budget start → Ran table n budget start pass []
 
 -- a take that marked nothing, and didn't lose its row
-is_missed : {table : Table} {x : Control} {a b : Pass} (n budget : ℕ) (op : TakeOp) (end : MarkEnd) → ((row : ℕ) (e : Event) → end ≡ Marked row e → ⊥) → (end ≡ Lost → ⊥) → TakeRan table n budget x op a b (Ok end)
+is_missed : {table : Table} {x : Control} {a b : Pass} (n budget : ℕ) (op : TakeOp) (end : MarkEnd) → ((row : ℕ) (e : Event) (c : CutOp) → end ≡ Marked row e c → ⊥) → (end ≡ Lost → ⊥) → TakeRan table n budget x op a b (Ok end)
     → Ran table n budget a b [] × IsInside table x b × (b.debts ≡ a.debts) × MayMiss x op.limit (caller table b)
-is_missed n budget op (Marked row e) marked lost t = absurd (marked row e refl)
+is_missed n budget op (Marked row e c) marked lost t = absurd (marked row e c refl)
 is_missed n budget op (Beyond e) marked lost t = t
 is_missed n budget op Nothing marked lost t = t
 is_missed n budget op Lost marked lost t = absurd (lost refl)
@@ -263,9 +263,9 @@ module _ {table : Table} {budget : ℕ} {x : Control} {start a : Pass} {op : Tak
     taken_first = take 0 x (mark_take (omega arith))
 
   module _ (b : Pass) (end : MarkEnd) (take : (n : ℕ) (y : Control) → IsTaking n table y op (caller table a) → TakeRan table n budget y op a b (Ok end)) where
-    pub take_marked : {row : ℕ} {e : Event} → end ≡ Marked row e → {n : ℕ} → MayRun table n budget start → EventTaken table n budget x limit start b (Ok (Some e))
-    take_marked {row} {e} at {n} may = let t = subst (λ z. TakeRan table n budget x op a b (Ok z)) at (taken b (Ok end) take may) in let r = m.ran n may in
-        (subst (λ j. Ran table n budget start b (Take j e ∷ [])) r.number (ran_trans r t.0), t.1, subst (λ (o : TakeOp). e.time < o.limit) is t.2, (row, t.3))
+    pub take_marked : {row : ℕ} {e : Event} {c : CutOp} → end ≡ Marked row e c → {n : ℕ} → MayRun table n budget start → EventTaken table n budget x limit start b (Ok (Some (e, c)))
+    take_marked {row} {e} {c} at {n} may = let t = subst (λ z. TakeRan table n budget x op a b (Ok z)) at (taken b (Ok end) take may) in let r = m.ran n may in
+        (subst (λ j. Ran table n budget start b (Take j e ∷ [])) r.number (ran_trans r t.0), t.1, subst (λ (o : TakeOp). e.time < o.limit) is t.2, (row, t.3, (t.4, (cut_debt x row e, t.3, t.5))))
 
     pub take_lost : end ≡ Lost → IsMarking table budget x start b × (a.turns < b.turns)
     take_lost at = let t = subst (λ z. TakeRan table 0 budget x op a b (Ok z)) at (taken_first b (Ok end) take) in (
@@ -280,7 +280,7 @@ module _ {table : Table} {budget : ℕ} {x : Control} {start a : Pass} {op : Tak
       t.4,
     )
 
-    module _ (not_marked : (row : ℕ) (e : Event) → end ≡ Marked row e → ⊥) (not_lost : end ≡ Lost → ⊥) where
+    module _ (not_marked : (row : ℕ) (e : Event) (c : CutOp) → end ≡ Marked row e c → ⊥) (not_lost : end ≡ Lost → ⊥) where
       pub take_missed : IsPassOf table b × MayMiss x limit (caller table b)
       take_missed = let t = is_missed 0 budget op end not_marked not_lost (taken_first b (Ok end) take) in (t.0.is, subst (λ (o : TakeOp). MayMiss x o.limit (caller table b)) is t.3)
 

@@ -88,9 +88,9 @@ state_small (Linking b) p = omega arith
 
 taking_small : (state : TakeState) (p : Caller) → taking_left state p < big
 taking_small LoadHead p = omega arith
-taking_small (Walking r) p = omega arith
-taking_small (ReadingRow r l place read) p = omega arith
-taking_small (Marking r l e) p = omega arith
+taking_small (Walking r f) p = omega arith
+taking_small (ReadingRow r l place read f) p = omega arith
+taking_small (Marking r l e f) p = omega arith
 
 state_uncut : (n : ℕ) (table : Table) (x : Control) (op : InsertOp) (state : InsertState) (p : Caller) → IsInsertingAt n table x op state p → state_exchanges state ≡ true → p.cut ≡ None
 state_uncut n table x op (Writing place) p at e = at.0
@@ -247,11 +247,13 @@ module _ (table : Table) (n budget : ℕ) (x : Control) (op : TakeOp) (old : Pas
     limit_is = ap (λ (o : TakeOp). o.limit) g.op_is
 
     pub take_ends : (after : TakeOp) (new : Pass) (end : MarkEnd) → TakeStepped n table x now after mid new (Done end) → TakeRan table n budget x op old new (Ok end)
-    take_ends after new (Marked r e) s = let a = s.answers in (
+    take_ends after new (Marked r e c) s = let a = s.answers in (
       take_ran (Take old.number e ∷ []) (Some (cut_debt x r e)) s a.2 (a.0 ∙ ap (λ j. (caller table mid).own ++ Take j e ∷ []) g.ran.number),
       inside_of mid s.works.stays g.at.on g.at.control a.3,
       subst (λ l. e.time < l) limit_is a.1,
       ap (λ d. d.cut) a.2,
+      a.4,
+      a.5,
     )
     take_ends after new (Beyond e) s = let a = s.answers in (
       take_ran [] mid.debts.cut s a.1 (nothing_added a.0),

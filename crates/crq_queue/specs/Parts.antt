@@ -129,7 +129,8 @@ InsertRan table n budget x op old new (Ok u) = Ran table n budget old new (put_e
 InsertRan table n budget x op old new (Err s) = Ran table n budget old new [] × IsInside table x new × (new.debts ≡ old.debts) × IsUsedUp table n budget (InsertNeeds n table op.event) new
 
 abbrev pub TakeRan : Table → ℕ → ℕ → Control → TakeOp → Pass → Pass → Result MarkEnd Spent → Type 0
-TakeRan table n budget x op old new (Ok (Marked r e)) = Ran table n budget old new (Take old.number e ∷ []) × IsInside table x new × (e.time < op.limit) × (new.debts.cut ≡ Some (cut_debt x r e))
+TakeRan table n budget x op old new (Ok (Marked r e c)) = Ran table n budget old new (Take old.number e ∷ []) × IsInside table x new × (e.time < op.limit) × (new.debts.cut ≡ Some (cut_debt x r e))
+    × IsCutting n table x c (caller table new) × (c.sought.target ≡ Some (e, r))
 TakeRan table n budget x op old new (Ok (Beyond e)) = Ran table n budget old new [] × IsInside table x new × (new.debts ≡ old.debts) × MayMiss x op.limit (caller table new)
 TakeRan table n budget x op old new (Ok Nothing) = Ran table n budget old new [] × IsInside table x new × (new.debts ≡ old.debts) × MayMiss x op.limit (caller table new)
 TakeRan table n budget x op old new (Ok Lost) = Ran table n budget old new [] × IsInside table x new × (new.debts ≡ old.debts) × ((caller table new).debts.cut ≡ None) × (old.turns < new.turns)

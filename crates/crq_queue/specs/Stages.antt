@@ -9,7 +9,10 @@ use Rattle.crq_base.specs.declared.kinds.StepKind.TheVariants.{Begin as BeginKin
 use Rattle.crq_base.specs.Lists.{In}
 use Rattle.crq_rows.specs.Recovering.{CountsRows}
 use Rattle.crq_rows.specs.declared.recover.Recover.TheVariants.{Held as IsHeld, Rows as NoRows}
+use Rattle.crq_list.specs.declared.cut.CutOp.{CutOp}
+use Rattle.crq_list.specs.Cutting.{IsCutting}
 use Rattle.crq_list.specs.Swaps.{Controlled}
+use Rattle.crq_rule.specs.declared.debts.CutDebt.{CutDebt}
 use Rattle.crq_rule.specs.declared.pass.Pass.{Pass}
 use Rattle.crq_rule.specs.declared.pass.Table.{Table}
 use Rattle.crq_rule.specs.ListKinds.{begins, cut_debt, put_entries}
@@ -19,6 +22,10 @@ use Rattle.crq_queue.specs.Wholes.{IsResting}
 use Rattle.crq_queue.specs.Runs.{Ran, RanTicks, IsInside, IsSwept}
 use Rattle.crq_queue.specs.Parts.{InsertNeeds, TakeNeeds, CutNeeds, IsUsedUp, UptoNeeds, RowNeeds}
 use Rattle.crq_queue.specs.Calls.{Call, Called, OwesNothing, StoppedSettling, NoRow, steps_before}
+
+-- this cut is under way, and goes up to the dead row that the pass owes
+abbrev pub CutsDebt : ℕ → Table → Control → CutOp → Pass → Type 0
+CutsDebt n table x op pass = IsCutting n table x op (caller table pass) × ((d : CutDebt) × (pass.debts.cut ≡ Some d) × (op.sought.target ≡ Some (d.event, d.row)))
 
 -- the pass owes no dead row; or it still owes the one that the old pass owed, and the budget is used up in the cut of that
 abbrev pub IsFinished : Table → ℕ → ℕ → Pass → Pass → Result (Unit {0}) Spent → Type 0
@@ -86,7 +93,7 @@ abbrev pub EventInserted : Table → ℕ → ℕ → Event → Pass → Pass →
 EventInserted table n budget e old new (Ok u) = Ran table n budget old new (put_entries old.number e) × IsResting table new × (new.debts.cut ≡ old.debts.cut)
 EventInserted table n budget e old new (Err s) = Ran table n budget old new [] × IsResting table new × (new.debts.cut ≡ old.debts.cut) × IsUsedUp table n budget (InsertNeeds n table e) new
 
-abbrev pub EventTaken : Table → ℕ → ℕ → Control → ℕ → Pass → Pass → Result (Option Event) Spent → Type 0
-EventTaken table n budget x limit old new (Ok (Some e)) = Ran table n budget old new (Take old.number e ∷ []) × IsInside table x new × (e.time < limit) × ((row : ℕ) × (new.debts.cut ≡ Some (cut_debt x row e)))
+abbrev pub EventTaken : Table → ℕ → ℕ → Control → ℕ → Pass → Pass → Result (Option (Event × CutOp)) Spent → Type 0
+EventTaken table n budget x limit old new (Ok (Some t)) = Ran table n budget old new (Take old.number t.0 ∷ []) × IsInside table x new × (t.0.time < limit) × ((row : ℕ) × (new.debts.cut ≡ Some (cut_debt x row t.0)) × CutsDebt n table x t.1 new)
 EventTaken table n budget x limit old new (Ok None) = Ran table n budget old new (Miss old.number limit ∷ []) × ((x' : Control) × IsInside table x' new) × (new.debts.cut ≡ None)
 EventTaken table n budget x limit old new (Err s) = Ran table n budget old new [] × IsInside table x new × (new.debts.cut ≡ None) × IsUsedUp table n budget (TakeNeeds n table limit) new

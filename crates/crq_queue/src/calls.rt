@@ -11,7 +11,7 @@ ghost use Rattle.crq_rows.specs.Passes.{caller, IsPassOf};
 ghost use Rattle.crq_queue.specs.Wholes.{IsResting};
 ghost use Rattle.crq_queue.specs.Runs.{MayRun, IsInside};
 ghost use Rattle.crq_queue.specs.Calls.{PutAnswers, TakeAnswers, SettleAnswers, call};
-ghost use Rattle.crq_queue.specs.Stages.{BeginAnswers, CutFinished, DebtSettled, SweepEnded, RowFound, EventInserted, EventTaken};
+ghost use Rattle.crq_queue.specs.Stages.{BeginAnswers, CutsDebt, CutFinished, DebtSettled, SweepEnded, RowFound, EventInserted, EventTaken};
 
 use crate::calendar::Calendar;
 use crate::runs::{
@@ -50,6 +50,19 @@ fn only_list(control: &Control) -> ListAt
 }
 
 impl Calendar {
+    /// Makes this cut, of the dead row that the pass owes, while its guard is on.
+    #[inline(always)]
+    fn cut_owed(&self, pass: &mut Pass, cut: CutOp, budget: u32) -> Result<(), Spent>
+        requires of { IsPassOf self.now.table pass.old }
+        requires within { pass.old.turns ≤ budget }
+        requires owed { (n : ℕ) × (x : Control) × CutsDebt n self.now.table x cut pass.old }
+        ensures { (n : ℕ) (x : Control) → MayRun self.now.table n budget pass.old → CutsDebt n self.now.table x cut pass.old → CutFinished self.now.table n budget x pass.old pass.new result }
+    {
+        cut_within(&self.table, pass, cut, budget)?;
+        pass.debts.cut = None;
+        Ok(())
+    }
+
     /// Cuts the dead row that the pass owes, if it owes one, while its guard is on.
     #[inline(always)]
     fn finish_cut(&self, pass: &mut Pass, control: &Control, budget: u32) -> Result<(), Spent>
@@ -62,14 +75,8 @@ impl Calendar {
             return Ok(());
         };
         let list = list_of(control, &debt.event);
-        cut_within(
-            &self.table,
-            pass,
-            CutOp::new(list, Some((debt.event, debt.row))),
-            budget,
-        )?;
-        pass.debts.cut = None;
-        Ok(())
+        let cut = CutOp::new(list, Some((debt.event, debt.row)));
+        self.cut_owed(pass, cut, budget)
     }
 
     /// Finishes what a resting pass owes.
@@ -206,8 +213,8 @@ impl Calendar {
         }
     }
 
-    /// Marks the least event below the limit, while the guard is on: `Some` is the event, and its row is owed to be cut. None
-    /// where there is no such event.
+    /// Marks the least event below the limit, while the guard is on: `Some` is the event with the cut of its row, which is
+    /// owed. None where there is no such event.
     #[inline(always)]
     fn mark(
         &self,
@@ -215,7 +222,7 @@ impl Calendar {
         control: &Control,
         limit: u64,
         budget: u32,
-    ) -> Result<Option<Event>, Spent>
+    ) -> Result<Option<(Event, CutOp)>, Spent>
         requires of { IsPassOf self.now.table pass.old }
         requires inside { IsInside self.now.table control.now pass.old }
         requires one { control.now.log ≡ 0 }
@@ -227,7 +234,7 @@ impl Calendar {
         loop {
             let op = TakeOp::new(*control, Place::Bucket(LAST_BUCKET), limit);
             match take_within(&self.table, pass, op, budget)? {
-                MarkEnd::Marked(_, event) => return Ok(Some(event)),
+                MarkEnd::Marked(_, event, cut) => return Ok(Some((event, cut))),
                 MarkEnd::Lost => {}
                 _ => {
                     miss_step(&self.table, pass, limit);
@@ -254,8 +261,8 @@ impl Calendar {
         };
         enter(&self.table, pass);
         let end = match self.mark(pass, &control, limit, budget) {
-            Ok(Some(event)) => {
-                let _owed = self.finish_cut(pass, &control, budget);
+            Ok(Some((event, cut))) => {
+                let _owed = self.cut_owed(pass, cut, budget);
                 Ok(TakeEnd::Taken(event, Route::Bucket(0)))
             }
             Ok(None) => Ok(TakeEnd::Missed),

@@ -69,7 +69,7 @@ fn mark(queue: &Calendar, pass: &mut Pass, control: &Control) -> Option<(Event, 
     for _ in 0..STEPS {
         match op.step(&queue.table, pass) {
             Progress::More => {}
-            Progress::Done(MarkEnd::Marked(row, event)) => return Some((event, row)),
+            Progress::Done(MarkEnd::Marked(row, event, _)) => return Some((event, row)),
             Progress::Done(_) => return None,
         }
     }

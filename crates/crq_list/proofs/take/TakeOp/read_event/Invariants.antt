@@ -11,9 +11,9 @@ use Rattle.crq_list.proofs.Stretching.{Goes}
 use Rattle.crq_list.proofs.take.TakeOp.read_event.Given as goal
 
 abbrev pub invariant-loop-next : goal.invariant-loop-next
-invariant-loop-next l = IsPassOf l.table l.pass × ((n : ℕ) (x : Control) → IsTaking n l.table x (record l.self { state = Reading l.fn.row l.fn.link l.fn.first l.fn.unread }) (caller l.table l.fn.pass)
-    → IsTaking n l.table x (record l.self { state = Reading l.row l.link l.place l.event }) (caller l.table l.pass)
-    × Goes TakeOp (Progress MarkEnd) (TakeStepped n l.table x) take_exchanges More (record l.self { state = Reading l.fn.row l.fn.link l.fn.first l.fn.unread }) (record l.self { state = Reading l.row l.link l.place l.event }) l.fn.pass l.pass)
+invariant-loop-next l = IsPassOf l.table l.pass × ((n : ℕ) (x : Control) → IsTaking n l.table x (record l.self { state = Reading l.fn.row l.fn.link l.fn.start l.fn.unread l.fn.first }) (caller l.table l.fn.pass)
+    → IsTaking n l.table x (record l.self { state = Reading l.row l.link l.place l.event l.first }) (caller l.table l.pass)
+    × Goes TakeOp (Progress MarkEnd) (TakeStepped n l.table x) take_exchanges More (record l.self { state = Reading l.fn.row l.fn.link l.fn.start l.fn.unread l.fn.first }) (record l.self { state = Reading l.row l.link l.place l.event l.first }) l.fn.pass l.pass)
 
 abbrev pub decreases-loop-next : goal.decreases-loop-next
-decreases-loop-next l = taking_left (Reading l.row l.link l.place l.event) (caller l.table l.pass)
+decreases-loop-next l = taking_left (Reading l.row l.link l.place l.event l.first) (caller l.table l.pass)

@@ -11,9 +11,9 @@ use Rattle.crq_list.proofs.Stretching.{Goes}
 use Rattle.crq_list.proofs.take.TakeOp.walk_rows.Given as goal
 
 abbrev pub invariant-loop-next : goal.invariant-loop-next
-invariant-loop-next l = IsPassOf l.table l.pass × ((n : ℕ) (x : Control) → IsTaking n l.table x (record l.self { state = Walking l.fn.first }) (caller l.table l.fn.pass)
-    → IsTaking n l.table x (record l.self { state = Walking l.row }) (caller l.table l.pass)
-    × Goes TakeOp (Progress MarkEnd) (TakeStepped n l.table x) take_exchanges More (record l.self { state = Walking l.fn.first }) (record l.self { state = Walking l.row }) l.fn.pass l.pass)
+invariant-loop-next l = IsPassOf l.table l.pass × ((n : ℕ) (x : Control) → IsTaking n l.table x (record l.self { state = Walking l.fn.start l.fn.first }) (caller l.table l.fn.pass)
+    → IsTaking n l.table x (record l.self { state = Walking l.row l.named }) (caller l.table l.pass)
+    × Goes TakeOp (Progress MarkEnd) (TakeStepped n l.table x) take_exchanges More (record l.self { state = Walking l.fn.start l.fn.first }) (record l.self { state = Walking l.row l.named }) l.fn.pass l.pass)
 
 abbrev pub decreases-loop-next : goal.decreases-loop-next
-decreases-loop-next l = taking_left (Walking l.row) (caller l.table l.pass)
+decreases-loop-next l = taking_left (Walking l.row l.named) (caller l.table l.pass)

@@ -18,14 +18,14 @@ mark-requires c = let old = c.args.pass.now in let low = c.ranges.budget.fits in
   within = take_within old low begun enter;
 }
 
-pub finish_cut-owed-requires : goal.finish_cut-owed-requires
-finish_cut-owed-requires c = let m = c.in-Ok-Some in let w = take_owes c.args.pass.now c.ranges.budget.fits c.in-Ok.ensures c.enter.ensures c.args.limit c.mark.new.pass m.field-0 m.ensures m.field-0-is in
-    record { of = w.0.is; inside = w.0.inside; within = let within = w.1 in omega arith }
+pub cut_owed-owed-requires : goal.cut_owed-owed-requires
+cut_owed-owed-requires c = let m = c.in-Ok-Some in let w = take_owes c.args.pass.now c.ranges.budget.fits c.in-Ok.ensures c.enter.ensures c.args.limit c.mark.new.pass m.field-0 m.ensures m.field-0-is m.cut-is in
+    record { of = w.0.is; within = let within = w.1 in omega arith; owed = w.2 }
 
 pub leave-requires : goal.leave-requires
 leave-requires c = let table = c.args.self.now.table in let old = c.args.pass.now in let budget = c.args.budget in let limit = c.args.limit in let low = c.ranges.budget.fits in let b = c.in-Ok in let begun = b.ensures in let enter = c.enter.ensures in
     let pass = c.match-mark.pass in let end = c.match-mark.end in let ends : Ends (call table budget old) c.begin.new.pass b.control limit pass end = elim c.match-mark.branch [
-      | in-Ok-Some w ↦ let m = w.in-Ok-Some in ends_so old low begun limit w.finish_cut-owed.new.pass pass (Ok (Taken m.event (Bucket 0))) end w.pass-is (w.end-is ∙ ap (λ (e : Event). Ok (Taken e (Bucket 0))) m.event-is) (take_done old low begun enter limit c.mark.new.pass m.field-0 m.ensures m.field-0-is w.finish_cut-owed.ensures)
+      | in-Ok-Some w ↦ let m = w.in-Ok-Some in ends_so old low begun limit w.cut_owed-owed.new.pass pass (Ok (Taken m.event (Bucket 0))) end w.pass-is (w.end-is ∙ ap (λ (e : Event). Ok (Taken e (Bucket 0))) m.event-is) (take_done old low begun enter limit c.mark.new.pass m.field-0 m.ensures m.field-0-is m.cut-is w.cut_owed-owed.ensures)
       | in-Ok-None w ↦ let m = w.in-Ok-None in ends_so old low begun limit c.mark.new.pass pass (Ok Missed) end w.pass-is w.end-is (take_missed old low begun enter limit c.mark.new.pass m.field-0 m.ensures m.field-0-is)
       | in-Err w ↦ ends_so old low begun limit c.mark.new.pass pass (Err (Again budget)) end w.pass-is w.end-is (take_late old low begun enter limit c.mark.new.pass w.in-Err.ensures)
     ] in let w = (ends_at_work old low begun limit pass end ends).1 in record { of = w.is; cut = w.inside.uncut; copy = w.copy }
@@ -33,7 +33,7 @@ leave-requires c = let table = c.args.self.now.table in let old = c.args.pass.no
 pub returns : goal.returns
 returns c = let table = c.args.self.now.table in let old = c.args.pass.now in let budget = c.args.budget in let limit = c.args.limit in let low = c.ranges.budget.fits in let b = c.in-Ok in let begun = b.ensures in let enter = c.enter.ensures in
     let pass = c.match-mark.pass in let end = c.match-mark.end in let ends : Ends (call table budget old) c.begin.new.pass b.control limit pass end = elim c.match-mark.branch [
-      | in-Ok-Some w ↦ let m = w.in-Ok-Some in ends_so old low begun limit w.finish_cut-owed.new.pass pass (Ok (Taken m.event (Bucket 0))) end w.pass-is (w.end-is ∙ ap (λ (e : Event). Ok (Taken e (Bucket 0))) m.event-is) (take_done old low begun enter limit c.mark.new.pass m.field-0 m.ensures m.field-0-is w.finish_cut-owed.ensures)
+      | in-Ok-Some w ↦ let m = w.in-Ok-Some in ends_so old low begun limit w.cut_owed-owed.new.pass pass (Ok (Taken m.event (Bucket 0))) end w.pass-is (w.end-is ∙ ap (λ (e : Event). Ok (Taken e (Bucket 0))) m.event-is) (take_done old low begun enter limit c.mark.new.pass m.field-0 m.ensures m.field-0-is m.cut-is w.cut_owed-owed.ensures)
       | in-Ok-None w ↦ let m = w.in-Ok-None in ends_so old low begun limit c.mark.new.pass pass (Ok Missed) end w.pass-is w.end-is (take_missed old low begun enter limit c.mark.new.pass m.field-0 m.ensures m.field-0-is)
       | in-Err w ↦ ends_so old low begun limit c.mark.new.pass pass (Err (Again budget)) end w.pass-is w.end-is (take_late old low begun enter limit c.mark.new.pass w.in-Err.ensures)
     ] in take_answered old low begun limit pass c.leave.ensures end ends
