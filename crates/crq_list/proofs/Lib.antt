@@ -4,4 +4,5 @@ pub mod TakeLaws
 pub mod SweepLaws
 pub mod SeekLaws
 pub mod SeekSteps
+pub mod SweptCuts
 pub mod Stretching

@@ -1,5 +1,5 @@
 -- What each step of a walk to a sought.target tells.
-use Rattle.std.proofs.Common.{◌≡◌, ◌≢◌, ◌⊎◌, ⊎_elim, inl, inr, ℕ, ◌+◌, ◌*◌, ◌^◌, ◌<◌, ◌≤◌, eqb, Bool, true, false, [], ◌∷◌, ◌++◌, drop, length, Some, None, sym, refl, ap, ◌∙◌, subst, arith, eq-eqb}
+use Rattle.std.proofs.Common.{◌≡◌, ◌≢◌, ◌⊎◌, ⊎_elim, inl, inr, ℕ, ◌+◌, ◌*◌, ◌^◌, ◌<◌, ◌≤◌, eqb, Bool, true, false, [], ◌∷◌, ◌++◌, drop, length, Option, Some, None, sym, refl, ap, ◌∙◌, subst, arith, eq-eqb}
 use Rattle.std.proofs.lemmas.Bool.{cond_both, eqb-true, eqb-false}
 use Rattle.std.proofs.lemmas.List.{length-append}
 use Rattle.crq_base.specs.declared.event.Event.{Event}
@@ -33,7 +33,7 @@ use Rattle.crq_list.specs.declared.seek.SeekEnd.TheVariants.{There}
 use Rattle.crq_list.specs.declared.parts.Progress.{Progress}
 use Rattle.crq_list.specs.Known.{Works, Stays, turns_after, last_known}
 use Rattle.crq_list.specs.Spots.{cell, Target, IsUpTo, IsAfter, IsReached, IsBeyondSpot, Next, IsPassed, IsListOf, far, left_of}
-use Rattle.crq_list.specs.Seeking.{spot_of, HasRead, IsPassing, IsAt, IsSeeking, next_seek, key_part, part_of, seek_exchanges, seek_left, IsThere, SeekAnswers, SeekStepped}
+use Rattle.crq_list.specs.Seeking.{spot_of, HasRead, IsPassing, IsAt, IsSeeking, next_seek, key_part, part_of, seek_exchanges, seek_left, IsThere, SeekAnswers, KeepsPassing, Keeps, SeekStepped}
 use Rattle.crq_list.specs.Swaps.{Saw, CutSwapped, where_won}
 use Rattle.crq_list.specs.declared.parts.Progress.TheVariants.{More, Done}
 use Rattle.crq_list.specs.declared.cut.CutEnd.TheVariants.{Clean}
@@ -52,6 +52,7 @@ pub record Told (n : ℕ) (table : Table) (x : Control) (sought : Sought) (seek 
   pub own : q.own ≡ p.own
   pub written : q.written ≡ p.written
   pub owed : (q.debts.cut ≡ None) ⊎ (q.debts.cut ≡ p.debts.cut)
+  pub keeps : Keeps seek seek' p q
   pub answers : SeekAnswers n table x sought seek seek' p q answer
 
 -- two stands on one row have one event
@@ -196,6 +197,7 @@ module _ (n : ℕ) (table : Table) (x : Control) (sought : Sought) (p : Caller) 
     own = refl;
     written = refl;
     owed = owed_walk spot l e law;
+    keeps = tt;
     answers = next_answers sought.target refl (Load spot) b (seen spot l e) (walk_made spot l) refl (walk_stays spot l e) at at.at.0
         (passed_walk spot l e at.counted at.list_is law law' at.at.1 bits present walkable at.swept next) (swept_on (Load spot) (seen spot l e) (walk_made spot l) refl at) (load_low spot (seen spot l e));
   }
@@ -207,6 +209,7 @@ module _ (n : ℕ) (table : Table) (x : Control) (sought : Sought) (p : Caller) 
     own = refl;
     written = refl;
     owed = owed_walk (Row r) l e law;
+    keeps = tt;
     answers = (go_on (Load (Row r)) (Load (Head sought.list.head)) (seen (Row r) l e) (walk_made (Row r) l) refl (walk_stays (Row r) l e) at (swept_anew (seen (Row r) l e)) (at.at.0, refl), inr (omega arith));
   }
 
@@ -267,6 +270,11 @@ module _ (n : ℕ) (table : Table) (x : Control) (sought : Sought) (p : Caller) 
   pub next_row : (b : Before) → IsPassing n table x sought b p → IsReached x sought.list.head sought.target (Row b.link.row) p
   next_row b at = let next = at.passed.next at.some_row in (next.event, next.on, next.belongs, at.up_to next.event next.on)
 
+  -- nothing is said of stands where the row was found present
+  keeps_next : (target' : Target) (b a : Before) (q : Caller) → KeepsPassing b (next_seek a target').0 p q
+  keeps_next None b a q = cond_both (eqb a.link.row 0) (Load a.spot, Done (There a)) (Passing a, More) (λ (z : SeekState × Progress SeekEnd). KeepsPassing b z.0 p q) (λ _. tt) (λ _. tt)
+  keeps_next (Some t) b a q = cond_both (eqb a.link.row 0) (Load a.spot, Done (There a)) (Reading a 2, More) (λ (z : SeekState × Progress SeekEnd). KeepsPassing b z.0 p q) (λ _. tt) (λ _. tt)
+
   pub pass_val : (b : Before) (l : Link) (e : Event) → IsSeeking n table x sought (Passing b) p → Lawful p → Lawful (seen (Row b.link.row) l e) → IsLink l → l.mark ≡ Val → IsWalkable (at_row b.link.row) l p → WalksOn (at_row b.link.row) l e p
       → let a : Before = record { spot = Row b.link.row; link = l } in Told n table x sought (Passing b) (next_seek a sought.target).0 p (seen (Row b.link.row) l e) (next_seek a sought.target).1
   pass_val b l e at law law' bits present walkable on = let spot : Spot = Row b.link.row in let a : Before = record { spot = spot; link = l } in
@@ -281,6 +289,7 @@ module _ (n : ℕ) (table : Table) (x : Control) (sought : Sought) (p : Caller) 
         own = refl;
         written = refl;
         owed = owed_walk spot l e law;
+        keeps = keeps_next sought.target b a q;
         answers = next_answers sought.target refl (Passing b) a q (walk_made spot l) refl (walk_stays spot l e) at at.at.0 (passed_walk spot l e at.counted at.list_is law law' reached bits present walkable at.at.1.passed.swept on)
             (sweep_stays n p.made q.made (walk_made spot l) refl at.counted table.start.layout (at_head sought.list.head) (at_row b.link.row) at.at.1.passed.swept) (omega arith);
       }
@@ -304,6 +313,7 @@ module _ (n : ℕ) (table : Table) (x : Control) (sought : Sought) (p : Caller) 
         own = refl;
         written = refl;
         owed = owed_walk spot l e law;
+        keeps = (refl, keeps);
         answers = (
           go_on (Passing b) (Cutting b l) q (walk_made spot l) refl (walk_stays spot l e) at (swept_on (Passing b) q (walk_made spot l) refl at)
               (at.at.0, passing_stays q law' keeps b known (sweep_stays n p.made q.made (walk_made spot l) refl at.counted table.start.layout (at_head sought.list.head) (at_row b.link.row)) (λ d owed. was_owed p.found.control (at_row b.link.row) p.position.rows l e p.debts.cut d (sym (walk_first (Row b.link.row) l e law) ∙ owed)) passing, bits, dead, link_onward b.link.row l e next.event law' passing.some_row dead next.on on, dead_last b.link.row l e p.position.rows next.event dead next.on),
@@ -347,7 +357,7 @@ module _ (n : ℕ) (table : Table) (x : Control) (sought : Sought) (p : Caller) 
 
     read_told : (seek' : SeekState) (answer : Progress SeekEnd) → SeekAnswers n table x sought (Reading b place) seek' p (read_of b.link.row place word) answer
         → Told n table x sought (Reading b place) seek' p (read_of b.link.row place word) answer
-    read_told seek' answer answers = record { works = read_works; own = refl; written = refl; owed = inr refl; answers = answers }
+    read_told seek' answer answers = record { works = read_works; own = refl; written = refl; owed = inr refl; keeps = tt; answers = answers }
 
     has_read : (e : Event) → StandsOn p.position.rows b.link.row e → HasRead place e t.0
     has_read e on = let before = at.at.5 in subst (λ (z : Event × ℕ). HasRead place e z.0) (one_target before.0 t (sym before.1 ∙ is)) (before.2 e on)
@@ -384,6 +394,15 @@ module _ (n : ℕ) (table : Table) (x : Control) (sought : Sought) (p : Caller) 
 
   -- Cutting
 
+  -- what is still owed is another row than the one that was cut
+  unnamed_other : (r : ℕ) (o : Option CutDebt) (d : CutDebt) → unnamed r o ≡ Some d → d.row ≢ r
+  unnamed_other r None d is = absurd (cc)
+  unnamed_other r (Some a) d is = cond_both (eqb a.row r) None (Some a) (λ (z : Option CutDebt). z ≡ Some d → d.row ≢ r)
+      (λ _ none. absurd (cc)) (λ no same. subst (λ (z : CutDebt). z.row ≢ r) (one_debt a d same) (eqb-false a.row r no)) is
+    where
+      one_debt : (a d : CutDebt) → Some a ≡ Some d → a ≡ d
+      one_debt a d same = cc
+
   pub may_cut : (b : Before) (last : Link) → IsSeeking n table x sought (Cutting b last) p → MayCut (cell b.spot) b.link.row last p
   may_cut b last at = record { none = at.at.0; cell_is = spot_walks b.spot at.list_is at.at.1.passed.reached; on = at.at.5; dead = at.at.3 }
 
@@ -395,17 +414,19 @@ module _ (n : ℕ) (table : Table) (x : Control) (sought : Sought) (p : Caller) 
   reached_cut (Row s) e r m on beyond reached = (reached.0, without_stands r p.position.rows s reached.0 (spot_apart (Row s) e r on beyond s refl) reached.1, reached.2, reached.3)
 
   pub cut_won : (b : Before) (last : Link) (found : ℕ) → Lawful p → IsSeeking n table x sought (Cutting b last) p → Told n table x sought (Cutting b last) (Tagging b.spot b.link.row) p (makes (cut_made b last found) (cuts b.link.row p)) More
-  cut_won b last found law at = let passed = at.at.1.passed in let next = passed.next at.at.1.some_row in let stays : Stays p (makes (cut_made b last found) (cuts b.link.row p)) = record { number = refl; start = refl; deal = refl; found = refl; guard = refl } in record {
-    works = record { stays = stays; step = cut_made b last found; made = refl; kind = refl; expects = λ _. (passed.known, rows_apart b.link last.row at.at.4); timed = λ no. absurd (cc) };
-    own = refl;
-    written = refl;
-    owed = let first = moved_first (unnamed b.link.row p.debts.cut) (unnamed b.link.row p.debts.second_cut) (ap (unnamed b.link.row) law.one_name) in ⊎_elim (λ same. inr (first ∙ same)) (λ none. inl (first ∙ none)) (unnamed_is b.link.row p.debts.cut);
-    answers = (
-      go_on (Cutting b last) (Tagging b.spot b.link.row) (makes (cut_made b last found) (cuts b.link.row p)) (cut_made b last found) refl stays at (swept_on (Cutting b last) (makes (cut_made b last found) (cuts b.link.row p)) (cut_made b last found) refl at)
-          (reached_cut b.spot next.event b.link.row (cut_made b last found) next.on next.beyond passed.reached, (record { row = b.link.row; tags = [] }, refl, refl)),
-      inl refl,
-    );
-  }
+  cut_won b last found law at = let passed = at.at.1.passed in let next = passed.next at.at.1.some_row in let stays : Stays p (makes (cut_made b last found) (cuts b.link.row p)) = record { number = refl; start = refl; deal = refl; found = refl; guard = refl } in
+      let first = moved_first (unnamed b.link.row p.debts.cut) (unnamed b.link.row p.debts.second_cut) (ap (unnamed b.link.row) law.one_name) in record {
+        works = record { stays = stays; step = cut_made b last found; made = refl; kind = refl; expects = λ _. (passed.known, rows_apart b.link last.row at.at.4); timed = λ no. absurd (cc) };
+        own = refl;
+        written = refl;
+        owed = ⊎_elim (λ same. inr (first ∙ same)) (λ none. inl (first ∙ none)) (unnamed_is b.link.row p.debts.cut);
+        keeps = (λ s f ne on. without_stands b.link.row p.position.rows s f ne on, λ d owed. unnamed_other b.link.row p.debts.cut d (sym first ∙ owed));
+        answers = (
+          go_on (Cutting b last) (Tagging b.spot b.link.row) (makes (cut_made b last found) (cuts b.link.row p)) (cut_made b last found) refl stays at (swept_on (Cutting b last) (makes (cut_made b last found) (cuts b.link.row p)) (cut_made b last found) refl at)
+              (reached_cut b.spot next.event b.link.row (cut_made b last found) next.on next.beyond passed.reached, (record { row = b.link.row; tags = [] }, refl, refl)),
+          inl refl,
+        );
+      }
 
   pub cut_lost : (b : Before) (last : Link) (found : ℕ) → IsSeeking n table x sought (Cutting b last) p → Told n table x sought (Cutting b last) (Load (Head sought.list.head)) p (makes (cut_made b last found) p) More
   cut_lost b last found at = let stays : Stays p (makes (cut_made b last found) p) = record { number = refl; start = refl; deal = refl; found = refl; guard = refl } in record {
@@ -413,6 +434,7 @@ module _ (n : ℕ) (table : Table) (x : Control) (sought : Sought) (p : Caller) 
     own = refl;
     written = refl;
     owed = inr refl;
+    keeps = tt;
     answers = (go_on (Cutting b last) (Load (Head sought.list.head)) (makes (cut_made b last found) p) (cut_made b last found) refl stays at (swept_anew (makes (cut_made b last found) p)) (at.at.0, refl), inl refl);
   }
 
@@ -430,6 +452,7 @@ module _ (n : ℕ) (table : Table) (x : Control) (sought : Sought) (p : Caller) 
         own = refl;
         written = refl;
         owed = inr refl;
+        keeps = (refl, refl);
         answers = (go_on (Tagging spot row) (Retiring spot row e) q m refl stays at (swept_on (Tagging spot row) q m refl at) (reached_same spot q refl at.at.0, (record y.0 { tags = e ∷ y.0.tags }, ap (tagged e) y.1, y.2, inl refl)), inr (omega arith));
       }
 
@@ -441,6 +464,7 @@ module _ (n : ℕ) (table : Table) (x : Control) (sought : Sought) (p : Caller) 
         own = refl;
         written = refl;
         owed = inr refl;
+        keeps = ((refl, refl), refl);
         answers = (go_on (Retiring spot row tag) (Load spot) q m refl stays at (swept_on (Retiring spot row tag) q m refl at) (refl, reached_same spot q refl at.at.0), inr (low spot));
       }
     where
@@ -464,6 +488,7 @@ module _ (n : ℕ) (table : Table) (x : Control) (sought : Sought) (old new : Pa
     own = told.own;
     written = told.written;
     owed = told.owed;
+    keeps = told.keeps;
     answers = told.answers;
   }
 
@@ -479,6 +504,7 @@ module _ (n : ℕ) (table : Table) (x : Control) (sought : Sought) (old new : Pa
     own = told.own;
     written = told.written;
     owed = told.owed;
+    keeps = told.keeps;
     answers = told.answers;
   }
 

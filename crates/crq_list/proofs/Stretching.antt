@@ -15,6 +15,7 @@ use Rattle.crq_list.specs.declared.insert.InsertOp.{InsertOp}
 use Rattle.crq_list.specs.declared.insert.InsertState.{InsertState}
 use Rattle.crq_list.specs.declared.insert.InsertState.TheVariants.{Seeking}
 use Rattle.crq_list.specs.declared.insert.InsertEnd.{InsertEnd}
+use Rattle.crq_list.specs.declared.cut.CutOp.{CutOp}
 use Rattle.crq_list.specs.Stretches.{Stretch, ends, goes_on}
 use Rattle.crq_list.specs.Seeking.{IsSeeking, SeekStepped, SeekStretch, seek_exchanges}
 use Rattle.crq_list.specs.Cutting.{CutStepped, CutStretch, progress_of}
@@ -56,17 +57,17 @@ fell exchanges left less plain told = ⊎_elim (λ yes. absurd (false≢true (sy
 
 -- A cut
 
-pub cut_told : (n : ℕ) (table : Table) (x : Control) (sought : Sought) (seek seek' : SeekState) (old new : Pass) (answer : Progress SeekEnd) → SeekStepped n table x sought seek seek' old new answer
-    → CutStepped n table x (record { sought = sought; state = seek }) (record { sought = sought; state = seek' }) old new (progress_of answer)
-cut_told n table x sought seek seek' old new More s = record { is = s.is; works = s.works; turns = s.turns; number = s.number; free = s.free; debts = s.debts; own = s.own; owed = s.owed; answers = (s.answers.0, refl, s.answers.1) }
-cut_told n table x sought seek seek' old new (Done (There b)) s = cut_ends n table x (record { sought = sought; state = seek }) (record { sought = sought; state = seek' }) b old new s
-cut_told n table x sought seek seek' old new (Done FoundFrozen) s = absurd s.answers
+pub cut_told : (n : ℕ) (table : Table) (x : Control) (op : CutOp) (seek seek' : SeekState) (old new : Pass) (answer : Progress SeekEnd) → op.swept ≡ false → SeekStepped n table x op.sought seek seek' old new answer
+    → CutStepped n table x (record op { state = seek }) (record op { state = seek' }) old new (progress_of answer)
+cut_told n table x op seek seek' old new More plain s = record { is = s.is; works = s.works; turns = s.turns; number = s.number; free = s.free; debts = s.debts; own = s.own; owed = s.owed; answers = ((s.answers.0, λ swept. absurd (false≢true (sym plain ∙ swept))), refl, s.answers.1) }
+cut_told n table x op seek seek' old new (Done (There b)) plain s = cut_ends n table x (record op { state = seek }) (record op { state = seek' }) b old new s
+cut_told n table x op seek seek' old new (Done FoundFrozen) plain s = absurd s.answers
 
-pub cut_stretch : (n : ℕ) (table : Table) (x : Control) (sought : Sought) (seek seek' : SeekState) (old new : Pass) (answer : Progress SeekEnd) → SeekStretch n table x sought seek seek' old new answer
-    → CutStretch n table x (record { sought = sought; state = seek }) (record { sought = sought; state = seek' }) old new (progress_of answer)
-cut_stretch n table x sought seek seek' old new answer (ends _ _ _ _ _ s) = ends _ _ old new _ (cut_told n table x sought seek seek' old new answer s)
-cut_stretch n table x sought seek seek' old new answer (goes_on _ mid _ _ between _ _ s plain rest) =
-    goes_on _ (record { sought = sought; state = mid }) _ old between new _ (cut_told n table x sought seek mid old between More s) plain (cut_stretch n table x sought mid seek' between new answer rest)
+pub cut_stretch : (n : ℕ) (table : Table) (x : Control) (op : CutOp) (seek seek' : SeekState) (old new : Pass) (answer : Progress SeekEnd) → op.swept ≡ false → SeekStretch n table x op.sought seek seek' old new answer
+    → CutStretch n table x (record op { state = seek }) (record op { state = seek' }) old new (progress_of answer)
+cut_stretch n table x op seek seek' old new answer unswept (ends _ _ _ _ _ s) = ends _ _ old new _ (cut_told n table x op seek seek' old new answer unswept s)
+cut_stretch n table x op seek seek' old new answer unswept (goes_on _ mid _ _ between _ _ s plain rest) =
+    goes_on _ (record op { state = mid }) _ old between new _ (cut_told n table x op seek mid old between More unswept s) plain (cut_stretch n table x op mid seek' between new answer unswept rest)
 
 -- An insertion
 

@@ -1,5 +1,6 @@
 -- A sweep goes on with each step, and passes the cell at which it is where that was found present.
-use Rattle.std.proofs.Common.{◌≡◌, ⊎_elim, inl, inr, ℕ, ◌<◌, ◌≤◌, List, [], ◌∷◌, ◌++◌, length, drop, refl, sym, ap, ◌∙◌, subst, arith}
+use Rattle.std.proofs.Common.{◌≡◌, ◌⊎◌, ⊎_elim, inl, inr, ℕ, ◌<◌, ◌≤◌, List, [], ◌∷◌, ◌++◌, length, drop, refl, sym, ap, ◌∙◌, subst, arith}
+use Rattle.crq_base.specs.declared.event.Event.{Event}
 use Rattle.crq_base.specs.declared.kinds.StepKind.TheVariants.{Walk, Cut}
 use Rattle.crq_base.specs.declared.words.Link.{Link}
 use Rattle.crq_base.specs.declared.words.Mark.{Mark}
@@ -7,10 +8,13 @@ use Rattle.crq_base.specs.declared.words.Mark.TheVariants.{Val, Del}
 use Rattle.crq_base.specs.Words.{link_word}
 use Rattle.crq_rule.specs.declared.layout.Layout.{Layout}
 use Rattle.crq_rule.specs.declared.view.Made.{Made}
+use Rattle.crq_rule.specs.declared.view.Caller.{Caller}
 use Rattle.crq_rule.specs.Places.{index}
-use Rattle.crq_rule.specs.Ranks.{Cell, at_head, at_row, cell_place}
+use Rattle.crq_rule.specs.Ranks.{rank, Cell, at_head, at_row, cell_place}
+use Rattle.crq_rule.specs.ListKinds.{StandsOn}
 use Rattle.crq_rows.specs.Passes.{load_made, step_made}
 use Rattle.crq_rows.proofs.Knowing.{drop_snoc}
+use Rattle.crq_list.specs.Spots.{SweptPast}
 use Rattle.crq_list.specs.Sweeps.{FindsPresent, SweepsTo}
 
 -- no steps are needed to be where it begins
@@ -37,6 +41,15 @@ module _ (n : ℕ) (made made' : List Made) (m : Made) (is : made' ≡ made ++ m
   -- or takes it on
   pub sweep_passes : (l : Layout) (a b : Cell) (found : Link) → FindsPresent l b m found → SweepsTo l a (drop n made) b → SweepsTo l a (drop n made') (at_row found.row)
   sweep_passes l a b found finds s = subst (λ ms. SweepsTo l a ms (at_row found.row)) (sym since) (one_passed l a b (drop n made) m found finds s)
+
+-- a list that was swept past a row stays so with a step more, where the stand on the next row is kept
+pub past_on : (n : ℕ) (l : Layout) (q : ℕ) (e : Event) (r : ℕ) (p p' : Caller) (m : Made) → p'.made ≡ p.made ++ m ∷ [] → n ≤ length p.made → ((t : ℕ) (f : Event) → rank e r < rank f t → StandsOn p.position.rows t f → StandsOn p'.position.rows t f)
+    → SweptPast n l q e r p → SweptPast n l q e r p'
+past_on n l q e r p p' m made counted keeps s = record {
+  next = s.next;
+  sweeps = sweep_stays n p.made p'.made m made counted l (at_head q) (at_row s.next) s.sweeps;
+  ends = ⊎_elim inl (λ t. inr (t.0, keeps s.next t.0 t.2 t.1, t.2)) s.ends;
+}
 
 -- A worked example: the head names row 5, which is dead and is cut, and after that it names row 7, the last one
 

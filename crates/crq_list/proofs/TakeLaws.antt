@@ -27,7 +27,7 @@ use Rattle.crq_rule.specs.Places.{index, link as link_place, IsHead}
 use Rattle.crq_rule.specs.Parts.{IsEvent, rows_of}
 use Rattle.crq_rule.specs.Kinds.{makes}
 use Rattle.crq_rule.specs.Ranks.{rank, head_of, head_for, bucket, IsOpen, Cell, at_head, at_row, cell_place}
-use Rattle.crq_rule.specs.ListKinds.{StandsOn, MayMiss, is_passed, is_final, is_val, is_twin, new_stand, next_stand, only_row, noted_stand, noted, stands_after, begins_walk, walk_after, table_seen, sight_after, relieved, row_place, event_word, marks, cut_debt, relieved_names}
+use Rattle.crq_rule.specs.ListKinds.{StandsOn, MayMiss, is_passed, is_final, is_val, is_twin, new_stand, next_stand, only_row, noted_stand, noted, stands_after, begins_walk, walk_after, walks, table_seen, sight_after, relieved, row_place, event_word, marks, cut_debt, relieved_names}
 use Rattle.crq_rule.specs.Moves.{Lawful}
 use Rattle.crq_rule.proofs.Standings.{rows_in, in_rows, row_stays, row_next}
 use Rattle.crq_rows.specs.Passes.{caller, load_made, step_made, IsPassOf, Stepped}
@@ -47,14 +47,14 @@ use Rattle.crq_list.specs.declared.take.TakeState.TheVariants.{Load, Walking, Re
 use Rattle.crq_rows.proofs.Knowing.{known_here, known_else}
 use Rattle.crq_rows.proofs.Working.{plain_no_tick}
 use Rattle.crq_list.proofs.StepLaws.{marks_apart}
-use Rattle.crq_list.proofs.SweepLaws.{sweep_begins, sweep_stays, sweep_passes}
-use Rattle.crq_list.proofs.SeekLaws.{link_apart, event_apart}
+use Rattle.crq_list.proofs.SweepLaws.{sweep_begins, sweep_stays, sweep_passes, past_on}
+use Rattle.crq_list.proofs.SeekLaws.{walk_next, walk_here, link_apart, event_apart}
 use Rattle.crq_list.proofs.SeekSteps.{one_event, one_target}
 use Rattle.crq_list.specs.Known.{is_exchange, Works, turns_after}
-use Rattle.crq_list.specs.Spots.{cell, rank_at}
+use Rattle.crq_list.specs.Spots.{cell, rank_at, SweptPast}
 use Rattle.crq_list.specs.Sweeps.{SweepsTo}
 use Rattle.crq_list.specs.Seeking.{IsAt, IsSeeking, spot_of}
-use Rattle.crq_list.specs.Cutting.{IsCutting, head_link}
+use Rattle.crq_list.specs.Cutting.{CutsSwept, IsCutting, head_link}
 use Rattle.crq_list.specs.Swaps.{Saw, MarkSwapped, where_won}
 use Rattle.crq_list.specs.Taking.{IsPresent, IsRead, IsTakingAt, NamesFirst, IsFirstKnown, IsTaking, taking_exchanges, taking_left, cut_of, StopsAt, TakeAnswers, TakeStepped, SeesTable}
 
@@ -146,7 +146,7 @@ module _ (n : ℕ) (table : Table) (x : Control) (op : TakeOp) (s : TakeState) (
   abbrev is_op : TakeOp
   is_op = record op { state = s }
 
-  taken : (s' : TakeState) → ((r : ℕ) (l : Link) (e : Event) (f : ℕ) → s' ≡ Marking r l e f → e.time < op.limit) → IsFirstKnown table.start.layout op.found.generation op.head s' (drop n now.made) → IsTakingAt n table s' now → IsTaking n table x (record op { state = s' }) now
+  taken : (s' : TakeState) → ((r : ℕ) (l : Link) (e : Event) (f : ℕ) → s' ≡ Marking r l e f → e.time < op.limit) → IsFirstKnown n table.start.layout op.found.generation op.head s' now → IsTakingAt n table s' now → IsTaking n table x (record op { state = s' }) now
   taken s' below first at = record {
     counted = let c = t.counted in let longer = length-append before.made (m ∷ []) in omega arith;
     on = t.on;
@@ -188,7 +188,7 @@ module _ (n : ℕ) (table : Table) (x : Control) (op : TakeOp) (s : TakeState) (
   }
 
   -- it goes on
-  pub more : (s' : TakeState) → ((r : ℕ) (l : Link) (e : Event) (f : ℕ) → s' ≡ Marking r l e f → e.time < op.limit) → IsFirstKnown table.start.layout op.found.generation op.head s' (drop n now.made) → IsTakingAt n table s' now
+  pub more : (s' : TakeState) → ((r : ℕ) (l : Link) (e : Event) (f : ℕ) → s' ≡ Marking r l e f → e.time < op.limit) → IsFirstKnown n table.start.layout op.found.generation op.head s' now → IsTakingAt n table s' now
       → taking_left s' now < taking_left s before → TakeStepped n table x is_op (record op { state = s' }) old new More
   more s' below first at less = loaded (record op { state = s' }) More (
     subst (IsTaking n table x (record op { state = s' })) (sym h.part) (taken s' below first at),
@@ -308,14 +308,31 @@ dead_stepped n table x op r first old new l to law saw dead onward t = let p = c
     (names_on table.start.layout op.found.generation op.head first n p.made (load_made WalkKind (index table.start.layout (link_place r)) (link_word l)) t.counted (row_apart table.start.layout op.head r t.at.3 t.is_head) t.first)
     (y, refl, refl, some.0, stands (stands_after (at_row r) true l e ss) l.row on) (nearer (at_row r) l e ss _ r saw.is_link (saw.row some.0).1 some.0 i up))) onward
 
+-- a sweep that came to a row that was found present goes on past it
+past_row : (n : ℕ) (table : Table) (q r : ℕ) (old new : Pass) (l : Link) (saw : Saw table old new (at_row r) true l) → l.mark ≡ Val → n ≤ length (caller table old).made → ((e : Event) × StandsOn (caller table old).position.rows r e)
+    → SweepsTo table.start.layout (at_head q) (drop n (caller table old).made) (at_row r) → {w : Option Walk} {v : Option Sight} → let p = caller table old in let m = load_made WalkKind (index table.start.layout (link_place r)) (link_word l) in
+    let a : Position = record { rows = stands_after (at_row r) true l saw.event p.position.rows; old = p.position.old } in (f : Event) → StandsOn a.rows r f → SweptPast n table.start.layout q f r (makes m (moved a w v no_names p))
+past_row n table q r old new l saw val counted stood swept {w} {v} f on = let p = caller table old in let ss = p.position.rows in let e = saw.event in let m = load_made WalkKind (index table.start.layout (link_place r)) (link_word l) in
+    let law = subst Lawful saw.part saw.is.lawful in record {
+      next = l.row;
+      sweeps = sweep_passes n p.made (p.made ++ m ∷ []) m refl counted table.start.layout (at_head q) (at_row r) l (record { load = refl; bits = saw.is_link; present = val }) swept;
+      ends = dite (ℕ_discrete l.row 0) inl (λ ne. let some : 0 < l.row = omega arith in inr (
+        e,
+        walk_next (at_row r) true l e ss some,
+        subst (λ z. rank z r < rank e l.row) (one_event (makes m (walks (at_row r) true l e p)) law r stood.0 f (walk_here r true l e ss stood.0 stood.1) on) (saw.next stood.0 stood.1 some).0,
+      ));
+    }
+
 -- or present
 pub present_stepped : (n : ℕ) (table : Table) (x : Control) (op : TakeOp) (r first : ℕ) (old new : Pass) (l : Link) (unread : Event) → Lawful (caller table old) → Saw table old new (at_row r) true l → l.mark ≡ Val
     → IsTaking n table x (record op { state = Walking r first }) (caller table old) → TakeStepped n table x (record op { state = Walking r first }) (record op { state = Reading r l 2 unread first }) old new More
 present_stepped n table x op r first old new l unread law saw val t = let p = caller table old in let ss = p.position.rows in let e = saw.event in let y = t.at.0 in let i = stood ss r t.at.4 in
     let h = saw_loads table old new (at_row r) l saw (Some y) (Some (record { table = x })) law t.free (ap (walk_after (at_row r) true p.found.control l) t.at.1 ∙ ap (λ k. Some (cond (is_passed k) (record y { at = l.row }) y)) val) t.sees in
     let far = as_far l e ss r i (λ some f k. (saw.next f k some).0) in
-    more n table x op (Walking r first) old new _ _ _ _ h refl refl t (Reading r l 2 unread first) (λ r' l' e' f q. absurd (reading_no r r' 2 first f l l' unread e' q))
-    (names_on table.start.layout op.found.generation op.head first n p.made (load_made WalkKind (index table.start.layout (link_place r)) (link_word l)) t.counted (row_apart table.start.layout op.head r t.at.3 t.is_head) t.first) (
+    more n table x op (Walking r first) old new _ _ _ _ h refl refl t (Reading r l 2 unread first) (λ r' l' e' f q. absurd (reading_no r r' 2 first f l l' unread e' q)) (
+      names_on table.start.layout op.found.generation op.head first n p.made (load_made WalkKind (index table.start.layout (link_place r)) (link_word l)) t.counted (row_apart table.start.layout op.head r t.at.3 t.is_head) t.first,
+      λ is f on. past_row n table op.head r old new l saw val t.counted t.at.4 (subst (λ z. SweepsTo table.start.layout (at_head op.head) (drop n p.made) (at_row z)) is t.first.swept) f on,
+    ) (
       record {
         at = (y, refl, t.at.2, t.at.3, stands (stands_after (at_row r) true l e ss) r (row_stays r true l e ss i));
         bits = saw.is_link;
@@ -368,12 +385,17 @@ module _ (n : ℕ) (table : Table) (x : Control) (op : TakeOp) (r : ℕ) (l : Li
   now_read e on = gets e (is_event table old r e of on) (word e on) (t.at.3 e on)
 
   still_first : NamesFirst table.start.layout op.found.generation op.head first (drop n ((caller table old).made ++ load_made Read (index table.start.layout (row_place r place)) found ∷ []))
-  still_first = names_on table.start.layout op.found.generation op.head first n (caller table old).made (load_made Read (index table.start.layout (row_place r place)) found) t.counted (event_apart table.start.layout r place (at_head op.head) t.at.0.at.3 t.at.1 t.is_head) t.first
+  still_first = names_on table.start.layout op.found.generation op.head first n (caller table old).made (load_made Read (index table.start.layout (row_place r place)) found) t.counted (event_apart table.start.layout r place (at_head op.head) t.at.0.at.3 t.at.1 t.is_head) t.first.0
+
+  still_past : (e : Event) → StandsOn (caller table old).position.rows r e → first ≡ r
+      → SweptPast n table.start.layout op.head e r (makes (load_made Read (index table.start.layout (row_place r place)) found) (moved (caller table old).position (caller table old).walk (caller table old).sight no_names (caller table old)))
+  still_past e on is = past_on n table.start.layout op.head e r (caller table old) (makes (load_made Read (index table.start.layout (row_place r place)) found) (moved (caller table old).position (caller table old).walk (caller table old).sight no_names (caller table old)))
+      (load_made Read (index table.start.layout (row_place r place)) found) refl t.counted (λ t f less on. on) (t.first.1 is e on)
 
   -- there are more words to read
   pub read_stepped : place < 5 → TakeStepped n table x (record op { state = Reading r l place read first }) (record op { state = Reading r l (place + 1) got first }) old new More
   read_stepped five = let two = t.at.1 in more n table x op (Reading r l place read first) old new _ _ _ _ (read_loads table old new _ found of.lawful t.free h) refl t.sees t (Reading r l (place + 1) got first) (λ r' l' e' f q. absurd (reading_no r r' (place + 1) first f l l' got e' q))
-      still_first (still n table r place l found (caller table old) t.counted t.at.1 t.at.2 t.at.0, omega arith, omega arith, λ e on. (now_read e on).0) (omega arith)
+      (still_first, λ is e on. still_past e on is) (still n table r place l found (caller table old) t.counted t.at.1 t.at.2 t.at.0, omega arith, omega arith, λ e on. (now_read e on).0) (omega arith)
 
   -- the event is read, and it is the row's
   whole : 5 ≤ place → StandsOn (caller table old).position.rows r got
@@ -385,7 +407,7 @@ module _ (n : ℕ) (table : Table) (x : Control) (op : TakeOp) (r : ℕ) (l : Li
 
   pub whole_stepped : 5 ≤ place → got.time < op.limit → TakeStepped n table x (record op { state = Reading r l place read first }) (record op { state = Marking r l got first }) old new More
   whole_stepped five low = more n table x op (Reading r l place read first) old new _ _ _ _ (read_loads table old new _ found of.lawful t.free h) refl t.sees t (Marking r l got first) (λ r' l' e' f q. subst (λ (z : Event). z.time < op.limit) (marking_one r r' first f l l' got e' q) low)
-      still_first (still n table r place l found (caller table old) t.counted t.at.1 t.at.2 t.at.0, whole five) (let high = t.at.2 in omega arith)
+      (still_first, still_past got (whole five)) (still n table r place l found (caller table old) t.counted t.at.1 t.at.2 t.at.0, whole five) (let high = t.at.2 in omega arith)
 
 -- Marking
 
@@ -436,7 +458,7 @@ module _ (n : ℕ) (table : Table) (x : Control) (op : TakeOp) (r : ℕ) (l : Li
   cut_first : (found : ℕ) → Lawful (now_marked found) → first ≡ r → IsSeeking n table x (cut_of op r e first).sought (Passing (seen_first r)) (now_marked found)
   cut_first found law is = let one : (g : Event) → StandsOn (now_marked found).position.rows r g → e ≡ g = λ g on. one_event (now_marked found) law r e g t.at.1 on in
       let names = subst (λ f. NamesFirst table.start.layout op.found.generation op.head f (drop n (now_marked found).made)) is
-      (names_on table.start.layout op.found.generation op.head first n (caller table old).made (mark_made found) t.counted (row_apart table.start.layout op.head r t.at.0.at.3 t.is_head) t.first) in
+      (names_on table.start.layout op.found.generation op.head first n (caller table old).made (mark_made found) t.counted (row_apart table.start.layout op.head r t.at.0.at.3 t.is_head) t.first.0) in
       cut_at found (Passing (seen_first r)) refl (
         t.uncut,
         record {
@@ -455,6 +477,16 @@ module _ (n : ℕ) (table : Table) (x : Control) (op : TakeOp) (r : ℕ) (l : Li
         },
       )
 
+  -- the list was swept past the row before it was marked
+  swept_first : (found : ℕ) → first ≡ r → CutsSwept n table.start.layout (cut_of op r e first).sought (Passing (seen_first r)) (now_marked found)
+  swept_first found is = record {
+    event = e;
+    row = r;
+    target_is = refl;
+    past = past_on n table.start.layout op.head e r (caller table old) (now_marked found) (mark_made found) refl t.counted (λ t f less on. on) (t.first.1 is);
+    at = refl;
+  }
+
   module _ {won : Bool} (s : MarkSwapped table old new (at_row r) l op.found r e won) where
     mark_part : {b : Bool} → won ≡ b → caller table new ≡ makes (mark_made s.swapped.found) (where_won b (marks op.found r e) (caller table old))
     mark_part is = s.swapped.part ∙ ap (λ b. makes (mark_made s.swapped.found) (where_won b (marks op.found r e) (caller table old))) is
@@ -465,9 +497,10 @@ module _ (n : ℕ) (table : Table) (x : Control) (op : TakeOp) (r : ℕ) (l : Li
 
     -- the cut of the row may begin
     cuts_row : won ≡ true → IsCutting n table x (cut_of op r e first) (caller table new)
-    cuts_row is = let law = subst Lawful (mark_part is) s.swapped.is.lawful in subst (IsCutting n table x (cut_of op r e first)) (sym (mark_part is))
-        (cond_both (first == r) (Passing (seen_first r)) (Begins (Head op.head)) (λ (z : SeekState). IsSeeking n table x (cut_of op r e first).sought z (now_marked s.swapped.found))
-        (λ yes. cut_first s.swapped.found law (eqb-true first r yes)) (λ no. cut_anew s.swapped.found))
+    cuts_row is = let law = subst Lawful (mark_part is) s.swapped.is.lawful in let found = s.swapped.found in subst (IsCutting n table x (cut_of op r e first)) (sym (mark_part is))
+        (cond_both (first == r) (Passing (seen_first r)) (Begins (Head op.head))
+        (λ (z : SeekState). IsSeeking n table x (cut_of op r e first).sought z (now_marked found) × ((first == r) ≡ true → CutsSwept n table.start.layout (cut_of op r e first).sought z (now_marked found)))
+        (λ yes. let at = eqb-true first r yes in (cut_first found law at, λ _. swept_first found at)) (λ no. (cut_anew found, λ yes. absurd (false≢true (sym no ∙ yes)))))
 
     pub marks_row : (c : CutOp) → c ≡ cut_of op r e first → won ≡ true → TakeStepped n table x (record op { state = Marking r l e first }) (record op { state = Load }) old new (Done (Marked r e c))
     marks_row c cut is = marked_so (Done (Marked r e c)) (

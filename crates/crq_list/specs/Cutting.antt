@@ -1,5 +1,5 @@
 -- Cutting dead rows out of a list: what is known between two steps, and what each step tells.
-use Rattle.std.specs.Prelude.{◌≡◌, ◌⊎◌, ℕ, ◌<◌, ◌==◌, cond, Bool, true, drop, Some, None}
+use Rattle.std.specs.Prelude.{◌≡◌, ◌≢◌, ◌⊎◌, ℕ, ◌<◌, ◌==◌, cond, Bool, true, false, drop, Some, None}
 use Rattle.crq_base.specs.declared.event.Event.{Event}
 use Rattle.crq_base.specs.declared.words.Link.{Link}
 use Rattle.crq_base.specs.declared.words.Mark.TheVariants.{Val}
@@ -20,19 +20,58 @@ use Rattle.crq_list.specs.declared.cut.CutOp.{CutOp}
 use Rattle.crq_list.specs.declared.parts.ListAt.{ListAt}
 use Rattle.crq_list.specs.declared.parts.Spot.TheVariants.{Head}
 use Rattle.crq_list.specs.declared.seek.SeekState.{SeekState}
-use Rattle.crq_list.specs.declared.seek.SeekState.TheVariants.{Load, Passing}
+use Rattle.crq_list.specs.declared.seek.SeekState.TheVariants.{Load, Reading, Passing, Cutting, Tagging, Retiring}
+use Rattle.crq_list.specs.declared.seek.Sought.{Sought}
 use Rattle.crq_list.specs.declared.seek.SeekEnd.{SeekEnd}
 use Rattle.crq_list.specs.declared.seek.SeekEnd.TheVariants.{There, Frozen as FoundFrozen}
 use Rattle.crq_list.specs.Known.{Works, turns_after}
 use Rattle.crq_list.specs.Stretches.{Stretch}
 use Rattle.crq_list.specs.Operations.{Operation}
 use Rattle.crq_list.specs.Sweeps.{SweepsTo}
-use Rattle.crq_list.specs.Spots.{Target, IsAfter}
+use Rattle.crq_list.specs.Spots.{Target, IsAfter, SweptPast}
 use Rattle.crq_list.specs.Seeking.{IsSeeking, seek_exchanges, seek_left}
+
+-- on the way from the dead row r to its retirement
+abbrev pub IsOnRow : SeekState → ℕ → Caller → Type 0
+IsOnRow (Load spot) r p = ⊥
+IsOnRow (Reading b place) r p = ⊥
+IsOnRow (Passing b) r p = b.link.row ≡ r
+IsOnRow (Cutting b last) r p = b.link.row ≡ r
+IsOnRow (Tagging spot row) r p = (d : CutDebt) → p.debts.cut ≡ Some d → d.row ≢ r
+IsOnRow (Retiring spot row tag) r p = (d : CutDebt) → p.debts.cut ≡ Some d → d.row ≢ r
+
+-- the cut is on the way to retire the row asked for, past which the list was swept while it was present
+pub record CutsSwept (n : ℕ) (l : Layout) (sought : Sought) (seek : SeekState) (p : Caller) : Type 0 where
+  pub event : Event
+  pub row : ℕ
+  pub target_is : sought.target ≡ Some (event, row)
+  pub past : SweptPast n l sought.list.head event row p
+  pub at : IsOnRow seek row p
 
 -- a caller that cuts the dead rows of a list of the table that it found
 abbrev pub IsCutting : ℕ → Table → Control → CutOp → Caller → Type 0
-IsCutting n table x op p = IsSeeking n table x op.sought op.state p
+IsCutting n table x op p = IsSeeking n table x op.sought op.state p × (op.swept ≡ true → CutsSwept n table.start.layout op.sought op.state p)
+
+-- whether a walk that was at the first state before a step, and is at the second after it, is on the way from a dead row to its retirement
+abbrev pub is_cutting : SeekState → Bool
+is_cutting (Cutting b last) = true
+is_cutting _ = false
+
+abbrev pub is_tagging : SeekState → Bool
+is_tagging (Tagging spot row) = true
+is_tagging _ = false
+
+abbrev pub is_retiring : SeekState → Bool
+is_retiring (Retiring spot row tag) = true
+is_retiring _ = false
+
+abbrev pub follows : SeekState → SeekState → Bool
+follows (Load spot) seek' = false
+follows (Reading b place) seek' = false
+follows (Passing b) seek' = is_cutting seek'
+follows (Cutting b last) seek' = is_tagging seek'
+follows (Tagging spot row) seek' = is_retiring seek'
+follows (Retiring spot row tag) seek' = false
 
 -- the link of a head of a table of this generation, where it names the row r
 abbrev pub head_link : ℕ → ℕ → Link
@@ -57,7 +96,7 @@ pub record HasSwept (n : ℕ) (l : Layout) (q : ℕ) (target : Target) (p : Call
 
 -- The list was swept up to the row asked for, and without one to its end. A dead row that was the target isn't owed any more
 abbrev pub CutAnswers : ℕ → Table → Control → CutOp → CutOp → Caller → Caller → Progress CutEnd → Type 0
-CutAnswers n table x op op' p q More = IsCutting n table x op' q × (op' ≡ record op { state = op'.state }) × ((seek_exchanges op.state ≡ true) ⊎ (seek_left op'.state q < seek_left op.state p))
+CutAnswers n table x op op' p q More = IsCutting n table x op' q × (op' ≡ record op { state = op'.state; swept = op'.swept }) × ((seek_exchanges op.state ≡ true) ⊎ (seek_left op'.state q < seek_left op.state p))
 CutAnswers n table x op op' p q (Done Clean) = (q.cut ≡ None) × ((d : CutDebt) → op.sought.target ≡ Some (d.event, d.row) → d.head ≡ op.sought.list.head → q.debts.cut ≡ Some d → ⊥) × HasSwept n table.start.layout op.sought.list.head op.sought.target q
 CutAnswers n table x op op' p q (Done Frozen) = ⊥
 

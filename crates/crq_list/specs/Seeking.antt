@@ -7,6 +7,7 @@ use Rattle.crq_base.specs.Words.{IsLink}
 use Rattle.crq_base.specs.Lists.{In}
 use Rattle.crq_rule.specs.declared.pass.Pass.{Pass}
 use Rattle.crq_rule.specs.declared.pass.Table.{Table}
+use Rattle.crq_rule.specs.declared.debts.CutDebt.{CutDebt}
 use Rattle.crq_rule.specs.declared.view.CutRow.{CutRow}
 use Rattle.crq_rule.specs.declared.view.Stand.{Stand}
 use Rattle.crq_rule.specs.declared.view.Caller.{Caller}
@@ -84,6 +85,15 @@ abbrev pub seek_exchanges : SeekState → Bool
 seek_exchanges (Cutting b last) = true
 seek_exchanges _ = false
 
+-- whether it is on the way from a row to its retirement
+abbrev pub is_on_way : SeekState → Bool
+is_on_way (Load spot) = false
+is_on_way (Reading b place) = false
+is_on_way (Passing b) = true
+is_on_way (Cutting b last) = true
+is_on_way (Tagging spot row) = true
+is_on_way (Retiring spot row tag) = true
+
 -- what is left to do until the next exchange: of the list, and of the present row
 abbrev pub seek_left : SeekState → Caller → ℕ
 seek_left (Load (Head q)) p = (2 ^ 160) * 16 + 15
@@ -105,6 +115,38 @@ SeekAnswers n table x sought seek seek' p q More = IsSeeking n table x sought se
 SeekAnswers n table x sought seek seek' p q (Done (There b)) = IsThere n table x sought b q
 SeekAnswers n table x sought seek seek' p q (Done Frozen) = ⊥
 
+-- What a step leaves of stands and debts, on the way from a dead row to its retirement
+
+-- the row was found dead: all stands are kept
+abbrev pub KeepsPassing : Before → SeekState → Caller → Caller → Type 0
+KeepsPassing b (Cutting b' last) p q = (b'.link.row ≡ b.link.row) × ((r : ℕ) (f : Event) → StandsOn p.position.rows r f → StandsOn q.position.rows r f)
+KeepsPassing b (Load spot) p q = Unit {0}
+KeepsPassing b (Reading b' place) p q = Unit {0}
+KeepsPassing b (Passing b') p q = Unit {0}
+KeepsPassing b (Tagging spot row) p q = Unit {0}
+KeepsPassing b (Retiring spot row tag) p q = Unit {0}
+
+-- it was cut: the caller leaves that row alone, and doesn't owe it any more
+abbrev pub KeepsCutting : Before → SeekState → Caller → Caller → Type 0
+KeepsCutting b (Tagging spot row) p q = ((r : ℕ) (f : Event) → r ≢ b.link.row → StandsOn p.position.rows r f → StandsOn q.position.rows r f) × ((d : CutDebt) → q.debts.cut ≡ Some d → d.row ≢ b.link.row)
+KeepsCutting b (Load spot) p q = Unit {0}
+KeepsCutting b (Reading b' place) p q = Unit {0}
+KeepsCutting b (Passing b') p q = Unit {0}
+KeepsCutting b (Cutting b' last) p q = Unit {0}
+KeepsCutting b (Retiring spot row tag) p q = Unit {0}
+
+-- it was tagged or retired: stands and debts stay
+abbrev pub KeepsAll : Caller → Caller → Type 0
+KeepsAll p q = (q.position.rows ≡ p.position.rows) × (q.debts.cut ≡ p.debts.cut)
+
+abbrev pub Keeps : SeekState → SeekState → Caller → Caller → Type 0
+Keeps (Load spot) seek' p q = Unit {0}
+Keeps (Reading b place) seek' p q = Unit {0}
+Keeps (Passing b) seek' p q = KeepsPassing b seek' p q
+Keeps (Cutting b last) seek' p q = KeepsCutting b seek' p q
+Keeps (Tagging spot row) seek' p q = KeepsAll p q
+Keeps (Retiring spot row tag) seek' p q = KeepsAll p q × (q.cut ≡ None)
+
 -- one step of it was made: the caller's entries, rows in hand, words written and run-time state stay, but for a dead row that isn't owed any more
 pub record SeekStepped (n : ℕ) (table : Table) (x : Control) (sought : Sought) (seek seek' : SeekState) (old new : Pass) (answer : Progress SeekEnd) : Type 0 where
   pub is : IsPassOf table new
@@ -116,6 +158,7 @@ pub record SeekStepped (n : ℕ) (table : Table) (x : Control) (sought : Sought)
   pub own : (caller table new).own ≡ (caller table old).own
   pub written : (caller table new).written ≡ (caller table old).written
   pub owed : ((caller table new).debts.cut ≡ None) ⊎ ((caller table new).debts.cut ≡ (caller table old).debts.cut)
+  pub keeps : Keeps seek seek' (caller table old) (caller table new)
   pub answers : SeekAnswers n table x sought seek seek' (caller table old) (caller table new) answer
 
 -- one step of it was made, and then maybe others that are no exchanges

@@ -1,5 +1,5 @@
 -- The places at which a link stands, as the operations name them, and what is known of one that was passed.
-use Rattle.std.specs.Prelude.{◌≡◌, ℕ, ◌-◌, ◌^◌, ◌<◌, ◌≤◌, ◌==◌, cond, List, [], ◌∷◌, drop, Option, Some, None}
+use Rattle.std.specs.Prelude.{◌≡◌, ◌⊎◌, ℕ, ◌-◌, ◌^◌, ◌<◌, ◌≤◌, ◌==◌, cond, List, [], ◌∷◌, drop, Option, Some, None}
 use Rattle.crq_base.specs.declared.event.Event.{Event}
 use Rattle.crq_base.specs.declared.words.Mark.TheVariants.{Val}
 use Rattle.crq_base.specs.declared.words.Control.{Control}
@@ -69,6 +69,12 @@ pub record IsPassed (n : ℕ) (l : Layout) (x : Control) (sought : Sought) (b : 
   pub swept : SweepsTo l (at_head sought.list.head) (drop n p.made) (at_row b.link.row)
   pub next : 0 < b.link.row → Next x sought.list.head b p
   pub owed : IsOwedAhead sought.target sought.list.head b p
+
+-- Since its first n steps the caller swept the list q past the row r with the event e: each row on the way was present when its link was loaded. It stands on the next row, if there is one
+pub record SweptPast (n : ℕ) (l : Layout) (q : ℕ) (e : Event) (r : ℕ) (p : Caller) : Type 0 where
+  pub next : ℕ
+  pub sweeps : SweepsTo l (at_head q) (drop n p.made) (at_row next)
+  pub ends : (next ≡ 0) ⊎ ((f : Event) × StandsOn p.position.rows next f × (rank e r < rank f next))
 
 -- the list is one of the open table, whose control word the caller found
 pub record IsListOf (x : Control) (list : ListAt) (p : Caller) : Type 0 where

@@ -1,5 +1,5 @@
 -- Taking the first present event of a list: what is known between two steps, and what each step tells.
-use Rattle.std.specs.Prelude.{◌≡◌, ◌≢◌, ◌⊎◌, ℕ, ◌+◌, ◌-◌, ◌*◌, ◌^◌, ◌<◌, ◌≤◌, Bool, true, false, List, [], ◌∷◌, ◌++◌, length, drop, Some, None}
+use Rattle.std.specs.Prelude.{◌≡◌, ◌≢◌, ◌⊎◌, ℕ, ◌+◌, ◌-◌, ◌*◌, ◌^◌, ◌<◌, ◌≤◌, ◌==◌, Bool, true, false, List, [], ◌∷◌, ◌++◌, length, drop, Some, None}
 use Rattle.crq_base.specs.declared.event.Event.{Event}
 use Rattle.crq_base.specs.declared.entry.Entry.TheVariants.{Take}
 use Rattle.crq_base.specs.declared.words.Link.{Link}
@@ -32,7 +32,7 @@ use Rattle.crq_list.specs.Stretches.{Stretch}
 use Rattle.crq_list.specs.Operations.{Operation}
 use Rattle.crq_list.specs.Sweeps.{SweepsTo}
 use Rattle.crq_list.specs.Cutting.{IsCutting, head_link, cut_begins}
-use Rattle.crq_list.specs.Spots.{rank_at}
+use Rattle.crq_list.specs.Spots.{rank_at, SweptPast}
 
 -- the caller's walk stands at the row
 abbrev pub IsWalkAt : Caller → ℕ → Type 0
@@ -61,12 +61,12 @@ pub record NamesFirst (l : Layout) (generation q f : ℕ) (made : List Made) : T
   pub known : last_known made (index l (cell_place (at_head q))) ≡ Some (link_word (head_link generation f))
   pub swept : SweepsTo l (at_head q) made (at_row f)
 
--- so it was, once the head is loaded
-abbrev pub IsFirstKnown : Layout → ℕ → ℕ → TakeState → List Made → Type 0
-IsFirstKnown l generation q Load made = Unit {0}
-IsFirstKnown l generation q (Walking r f) made = NamesFirst l generation q f made
-IsFirstKnown l generation q (Reading r link place read f) made = NamesFirst l generation q f made
-IsFirstKnown l generation q (Marking r link e f) made = NamesFirst l generation q f made
+-- so it was, once the head is loaded; and if the row that was found present is that one, then the list was swept past it
+abbrev pub IsFirstKnown : ℕ → Layout → ℕ → ℕ → TakeState → Caller → Type 0
+IsFirstKnown n l generation q Load p = Unit {0}
+IsFirstKnown n l generation q (Walking r f) p = NamesFirst l generation q f (drop n p.made)
+IsFirstKnown n l generation q (Reading r link place read f) p = NamesFirst l generation q f (drop n p.made) × (f ≡ r → (e : Event) → StandsOn p.position.rows r e → SweptPast n l q e r p)
+IsFirstKnown n l generation q (Marking r link e f) p = NamesFirst l generation q f (drop n p.made) × (f ≡ r → SweptPast n l q e r p)
 
 -- a take that walks has read the table of this control word
 abbrev pub SeesTable : TakeState → Control → Caller → Type 0
@@ -87,7 +87,7 @@ pub record IsTaking (n : ℕ) (table : Table) (x : Control) (op : TakeOp) (p : C
   pub free : p.debts.cut ≡ None
   pub below : (r : ℕ) (l : Link) (e : Event) (f : ℕ) → op.state ≡ Marking r l e f → e.time < op.limit
   pub sees : SeesTable op.state x p
-  pub first : IsFirstKnown table.start.layout op.found.generation op.head op.state (drop n p.made)
+  pub first : IsFirstKnown n table.start.layout op.found.generation op.head op.state p
   pub at : IsTakingAt n table op.state p
 
 abbrev pub taking_exchanges : TakeState → Bool
@@ -105,7 +105,7 @@ abbrev pub list_taken : TakeOp → ListAt
 list_taken op = record { generation = op.found.generation; head = op.head }
 
 abbrev pub cut_of : TakeOp → ℕ → Event → ℕ → CutOp
-cut_of op r e f = record { sought = record { list = list_taken op; target = Some (e, r) }; state = cut_begins (list_taken op) r f }
+cut_of op r e f = record { sought = record { list = list_taken op; target = Some (e, r) }; state = cut_begins (list_taken op) r f; swept = f == r }
 
 -- the one step made was an exchange, which found another word than it expected
 abbrev pub FoundAnother : Caller → Caller → Type 0

@@ -1,14 +1,14 @@
 //! Cutting dead rows out of a list.
-ghost use Rattle.std.specs.Prelude.{◌≡◌, ℕ, Some};
+ghost use Rattle.std.specs.Prelude.{◌≡◌, ◌==◌, ℕ, Some, true, false};
 ghost use Rattle.crq_rows.specs.Passes.{IsPassOf};
 ghost use Rattle.crq_list.specs.declared.seek.SeekState.TheVariants.{Load};
 ghost use Rattle.crq_list.specs.declared.parts.Spot.TheVariants.{Head};
 ghost use Rattle.crq_list.specs.Seeking.{seek_exchanges};
 ghost use Rattle.crq_list.specs.Operations.{IsUnderWay, MakesStep, MakesSteps};
-ghost use Rattle.crq_list.specs.Cutting.{the_cut, cut_begins, progress_of};
+ghost use Rattle.crq_list.specs.Cutting.{the_cut, cut_begins, follows, progress_of};
 
 use crate::parts::{Before, ListAt, Progress, Spot};
-use crate::seek::{SeekEnd, SeekState, Sought};
+use crate::seek::{SeekEnd, SeekState, Sought, cut_row};
 use crate::stretch::run_seek;
 use crq_base::{Event, Link, Mark};
 use crq_rows::{Pass, Table};
@@ -32,6 +32,9 @@ pub struct CutOp {
     pub sought: Sought,
     /// How far it is.
     pub state: SeekState,
+    /// Whether the list was swept past the row asked for while that was present. Then nothing is left to do once the row is
+    /// retired. It is given up where the row isn't cut at the link at which the cut began.
+    pub swept: bool,
 }
 
 /// What a step of the walk says of the cut.
@@ -46,23 +49,38 @@ fn progress_of(walked: Progress<SeekEnd>) -> Progress<CutEnd>
     }
 }
 
+/// Whether a walk that was at the first state before a step, and is at the second after it, is on its way from a dead row to
+/// the retirement of that row.
+#[inline(always)]
+fn follows(before: &SeekState, after: &SeekState) -> bool
+    ensures { result ≡ follows before.now after.now }
+{
+    match before {
+        SeekState::Passing(_) => matches!(after, SeekState::Cutting(_, _)),
+        SeekState::Cutting(_, _) => matches!(after, SeekState::Tagging(_, _)),
+        SeekState::Tagging(_, _) => matches!(after, SeekState::Retiring(_, _, _)),
+        _ => false,
+    }
+}
+
 impl CutOp {
     /// A cut that has made no step.
     pub fn new(list: ListAt, upto: Option<(Event, u32)>) -> CutOp
-        ensures { result ≡ record { sought = record { list = list; target = upto }; state = Load (Head list.head) } }
+        ensures { result ≡ record { sought = record { list = list; target = upto }; state = Load (Head list.head); swept = false } }
     {
         CutOp {
             sought: Sought { list, target: upto },
             state: SeekState::Load(Spot::Head(list.head)),
+            swept: false,
         }
     }
 
     /// The cut of a row that a take marked, whose walk found the list's head to name the row `first`. If that is the marked
-    /// row, then the cut begins at the head's link as it was found. Else, or where the link isn't that any more, it walks the
-    /// list from its head.
+    /// row, then the cut is tried at the head's link as it was found, and ends once the row is retired. Else, or where the
+    /// link isn't that any more, it walks the list from its head.
     #[inline(always)]
     pub(crate) fn after(list: ListAt, event: Event, row: u32, first: u32) -> CutOp
-        ensures { result ≡ record { sought = record { list = list; target = Some (event, row) }; state = cut_begins list row first } }
+        ensures { result ≡ record { sought = record { list = list; target = Some (event, row) }; state = cut_begins list row first; swept = first == row } }
     {
         if first != row {
             return CutOp::new(list, Some((event, row)));
@@ -79,6 +97,7 @@ impl CutOp {
                 target: Some((event, row)),
             },
             state: SeekState::Passing(Before { spot, link }),
+            swept: true,
         }
     }
 
@@ -89,6 +108,23 @@ impl CutOp {
         self.state.exchanges()
     }
 
+    /// Makes one atomic step, where the list was swept past the row asked for.
+    #[inline(always)]
+    fn step_swept(&mut self, table: &Table, pass: &mut Pass) -> Progress<CutEnd>
+        requires of { IsPassOf table.now pass.old }
+        requires swept { self.old.swept ≡ true }
+        requires op { IsUnderWay the_cut table.now (self.old, pass.old) }
+        ensures { MakesStep the_cut table.now (self.old, pass.old) (self.new, pass.new) result }
+    {
+        let before = self.state;
+        let walked = self.state.step_on_way(table, pass, &self.sought);
+        if let SeekState::Retiring(_, _, _) = before {
+            return Progress::Done(CutEnd::Clean);
+        }
+        self.swept = follows(&before, &self.state);
+        progress_of(walked)
+    }
+
     /// Makes one atomic step.
     #[inline(always)]
     pub fn step(&mut self, table: &Table, pass: &mut Pass) -> Progress<CutEnd>
@@ -96,6 +132,9 @@ impl CutOp {
         requires op { IsUnderWay the_cut table.now (self.old, pass.old) }
         ensures { MakesStep the_cut table.now (self.old, pass.old) (self.new, pass.new) result }
     {
+        if self.swept {
+            return self.step_swept(table, pass);
+        }
         progress_of(self.state.step(table, pass, &self.sought))
     }
 
@@ -106,8 +145,13 @@ impl CutOp {
         requires op { IsUnderWay the_cut table.now (self.old, pass.old) }
         ensures { MakesSteps the_cut table.now (self.old, pass.old) (self.new, pass.new) result }
     {
-        if self.exchanges() {
-            return self.step(table, pass);
+        if self.swept {
+            return self.step_swept(table, pass);
+        }
+        if let SeekState::Cutting(before, last) = self.state {
+            let (state, walked) = cut_row(table, pass, &self.sought, before, last);
+            self.state = state;
+            return progress_of(walked);
         }
         progress_of(run_seek(table, pass, &self.sought, &mut self.state))
     }

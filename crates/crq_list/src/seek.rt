@@ -1,10 +1,10 @@
 //! Walking a list to a target, with dead rows cut on the way.
-ghost use Rattle.std.specs.Prelude.{◌≡◌, ◌<◌, ℕ};
+ghost use Rattle.std.specs.Prelude.{◌≡◌, ◌<◌, ℕ, true};
 ghost use Rattle.crq_rows.specs.Passes.{IsPassOf};
 ghost use Rattle.crq_list.specs.declared.parts.Before.{Before};
 ghost use Rattle.crq_list.specs.declared.seek.SeekState.TheVariants.{Load, Reading, Passing, Cutting, Tagging, Retiring};
 ghost use Rattle.crq_list.specs.Operations.{IsUnderWay, MakesStep};
-ghost use Rattle.crq_list.specs.Seeking.{the_walk, seek_exchanges, next_seek, key_part, part_of};
+ghost use Rattle.crq_list.specs.Seeking.{the_walk, seek_exchanges, is_on_way, next_seek, key_part, part_of};
 
 use crate::parts::{Before, ListAt, Progress, Spot};
 use crate::steps::{cut_step, walk_step};
@@ -172,7 +172,7 @@ pub(crate) fn pass_row(
 
 /// Cuts the next row, which is dead.
 #[inline(always)]
-fn cut_row(
+pub(crate) fn cut_row(
     table: &Table,
     pass: &mut Pass,
     sought: &Sought,
@@ -258,6 +258,30 @@ impl SeekState {
             SeekState::Cutting(before, last) => cut_row(table, pass, sought, before, last),
             SeekState::Tagging(spot, row) => tag(table, pass, sought, spot, row),
             SeekState::Retiring(spot, row, epoch) => retire(table, pass, sought, spot, row, epoch),
+        };
+        *self = seek;
+        answer
+    }
+
+    /// Makes one atomic step on the way from a dead row to its retirement.
+    #[inline(always)]
+    pub(crate) fn step_on_way(
+        &mut self,
+        table: &Table,
+        pass: &mut Pass,
+        sought: &Sought,
+    ) -> Progress<SeekEnd>
+        requires of { IsPassOf table.now pass.old }
+        requires seek { IsUnderWay (the_walk sought.now) table.now (self.old, pass.old) }
+        requires way { is_on_way self.old ≡ true }
+        ensures { MakesStep (the_walk sought.now) table.now (self.old, pass.old) (self.new, pass.new) result }
+    {
+        let (seek, answer) = match *self {
+            SeekState::Passing(before) => pass_row(table, pass, sought, before),
+            SeekState::Cutting(before, last) => cut_row(table, pass, sought, before, last),
+            SeekState::Tagging(spot, row) => tag(table, pass, sought, spot, row),
+            SeekState::Retiring(spot, row, epoch) => retire(table, pass, sought, spot, row, epoch),
+            SeekState::Load(_) | SeekState::Reading(_, _) => unreachable!(),
         };
         *self = seek;
         answer

@@ -1,5 +1,6 @@
 -- The operations of a call: what they begin with, and what the stage made of one leaves.
-use Rattle.std.proofs.Common.{◌≡◌, ⊎_elim, ℕ, ◌*◌, ◌%◌, ◌≤◌, length, drop, Some, None, Ok, Err, refl, sym, ap, ◌∙◌, subst, arith}
+use Rattle.std.proofs.Common.{◌≡◌, ⊎_elim, ℕ, ◌*◌, ◌%◌, ◌≤◌, false, length, drop, Some, None, Ok, Err, refl, sym, ap, ◌∙◌, subst, arith}
+use Rattle.std.proofs.lemmas.Bool.{false≢true}
 use Rattle.crq_base.specs.declared.event.Event.{Event}
 use Rattle.crq_base.specs.declared.words.Control.{Control}
 use Rattle.crq_base.specs.declared.words.Link.{Link}
@@ -45,27 +46,33 @@ module _ {table : Table} {x : Control} {pass : Pass} (of : IsPassOf table pass) 
 
   -- a cut up to a row of an event
   pub may_cut : {n : ℕ} (op : CutOp) (list : ListAt) (e : Event) (r : ℕ) → n ≤ length (caller table pass).made → (list.generation ≡ x.generation) × (list.head ≡ head_of x e)
-      → op ≡ record { sought = record { list = list; target = Some (e, r) }; state = Load (Head list.head) } → IsCutting n table x op (caller table pass)
-  may_cut {n} op list e r counted names is = subst (λ op. IsCutting n table x op (caller table pass)) (sym is) record {
-    counted = counted;
-    on = inside.on;
-    list_is = event_list list e names.0 names.1;
-    target_is = sym names.1;
-    swept = sweep_begins table.start.layout (at_head list.head) (drop n (caller table pass).made);
-    at = (inside.uncut, refl);
-  }
+      → op ≡ record { sought = record { list = list; target = Some (e, r) }; state = Load (Head list.head); swept = false } → IsCutting n table x op (caller table pass)
+  may_cut {n} op list e r counted names is = subst (λ op. IsCutting n table x op (caller table pass)) (sym is) (
+    record {
+      counted = counted;
+      on = inside.on;
+      list_is = event_list list e names.0 names.1;
+      target_is = sym names.1;
+      swept = sweep_begins table.start.layout (at_head list.head) (drop n (caller table pass).made);
+      at = (inside.uncut, refl);
+    },
+    λ swept. absurd (false≢true swept),
+  )
 
   -- a sweep of the first list of the table
   pub may_sweep : {n : ℕ} (op : CutOp) (list : ListAt) → n ≤ length (caller table pass).made → (list.generation ≡ x.generation) × (list.head ≡ x.generation % 2 * 32768)
-      → op ≡ record { sought = record { list = list; target = None }; state = Load (Head list.head) } → IsCutting n table x op (caller table pass)
-  may_sweep {n} op list counted names is = let heads = first_open x list.head names.1 in subst (λ op. IsCutting n table x op (caller table pass)) (sym is) record {
-    counted = counted;
-    on = inside.on;
-    list_is = record { control = inside.control; generation = names.0; is_head = heads.0; opened = heads.1 };
-    target_is = tt;
-    swept = sweep_begins table.start.layout (at_head list.head) (drop n (caller table pass).made);
-    at = (inside.uncut, refl);
-  }
+      → op ≡ record { sought = record { list = list; target = None }; state = Load (Head list.head); swept = false } → IsCutting n table x op (caller table pass)
+  may_sweep {n} op list counted names is = let heads = first_open x list.head names.1 in subst (λ op. IsCutting n table x op (caller table pass)) (sym is) (
+    record {
+      counted = counted;
+      on = inside.on;
+      list_is = record { control = inside.control; generation = names.0; is_head = heads.0; opened = heads.1 };
+      target_is = tt;
+      swept = sweep_begins table.start.layout (at_head list.head) (drop n (caller table pass).made);
+      at = (inside.uncut, refl);
+    },
+    λ swept. absurd (false≢true swept),
+  )
 
   -- an insertion of an event in a row in hand
   pub may_insert : {n : ℕ} (op : InsertOp) (list : ListAt) (e : Event) (r : ℕ) → n ≤ length (caller table pass).made → (list.generation ≡ x.generation) × (list.head ≡ head_of x e) → IsEvent op.event → In r (caller table pass).hand
@@ -107,7 +114,7 @@ module _ {table : Table} {x : Control} {pass : Pass} (of : IsPassOf table pass) 
 
   -- the cut of the row that is owed, from the head on
   pub may_cut_owed : {n : ℕ} (op : CutOp) (list : ListAt) (d : CutDebt) → n ≤ length (caller table pass).made → (list.generation ≡ x.generation) × (list.head ≡ head_of x d.event)
-      → op ≡ record { sought = record { list = list; target = Some (d.event, d.row) }; state = Load (Head list.head) } → pass.debts.cut ≡ Some d → CutsDebt n table x op pass
+      → op ≡ record { sought = record { list = list; target = Some (d.event, d.row) }; state = Load (Head list.head); swept = false } → pass.debts.cut ≡ Some d → CutsDebt n table x op pass
   may_cut_owed op list d counted names is owes = (may_cut op list d.event d.row counted names is, (d, owes, ap (λ (o : CutOp). o.sought.target) is))
 
 -- The dead row that was owed is cut
@@ -133,7 +140,7 @@ module _ {table : Table} {n budget : ℕ} {x : Control} {op : CutOp} {old mid : 
 
 module _ {table : Table} {n budget : ℕ} {x : Control} {op : CutOp} {old new : Pass} (owed : CutsDebt n table x op old) where
   pub cut_finished : {u : Unit {0}} → CutRan table n budget x op old new (Ok u) → CutFinished table n budget x old (record new { debts = record new.debts { cut = None } }) (Ok tt)
-  cut_finished c = let d = owed.1.0 in finished d c owed.1.1 owed.1.2 (owed_list x op.sought.list op.sought.target d owed.1.2 owed.0.target_is)
+  cut_finished c = let d = owed.1.0 in finished d c owed.1.1 owed.1.2 (owed_list x op.sought.list op.sought.target d owed.1.2 owed.0.0.target_is)
 
   pub cut_unfinished : {s t : Spent} → CutRan table n budget x op old new (Err s) → CutFinished table n budget x old new (Err t)
   cut_unfinished c = let d = owed.1.0 in let owes = owed.1.1 in let upto = owed.1.2 in record { ran = c.ran; inside = c.inside; free = c.free; finished = (ap (λ (d : Debts). d.cut) c.debts, used_for (λ p needs. record { debt = d; owes = owes; cuts = subst (λ u. UptoNeeds n table u p) upto needs }) c.ended) }

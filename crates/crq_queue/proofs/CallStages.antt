@@ -1,5 +1,5 @@
 -- The stages of a call, each made of parts.
-use Rattle.std.proofs.Common.{◌≡◌, ⊎_elim, inl, inr, ℕ, ◌+◌, ◌*◌, ◌%◌, ◌^◌, ◌<◌, ◌≤◌, true, List, [], ◌∷◌, ◌++◌, length, drop, le_refl, Option, Some, None, Result, Ok, Err, get_or, refl, sym, ap, ◌∙◌, subst, arith}
+use Rattle.std.proofs.Common.{◌≡◌, ⊎_elim, inl, inr, ℕ, ◌+◌, ◌*◌, ◌%◌, ◌^◌, ◌<◌, ◌≤◌, true, false, List, [], ◌∷◌, ◌++◌, length, drop, le_refl, Option, Some, None, Result, Ok, Err, get_or, refl, sym, ap, ◌∙◌, subst, arith}
 use Rattle.std.specs.Option.{is_some}
 use Rattle.std.proofs.lemmas.Bool.{false≢true}
 use Rattle.std.proofs.lemmas.List.{append-nil, append_assoc}
@@ -193,7 +193,7 @@ still_swept l a b [] ys is = subst (SweepsTo l a ys) is (sweep_begins l a ys)
 still_swept l a b (m ∷ xs) ys is = ⊎_elim (λ s. inl (still_swept l a b xs ys s)) (λ t. inr (t.0, t.1, still_swept l (at_row t.0.row) b xs ys t.2)) is
 
 module _ {table : Table} {budget : ℕ} {a b : Pass} {x : Control} (r : IsResting table a) (found : (caller table a).found.control ≡ Some x) (enter : (n budget : ℕ) → MayRun table n budget a → Entered table n budget a b)
-    {op : CutOp} {list : ListAt} (names : (list.generation ≡ x.generation) × (list.head ≡ x.generation % 2 * 32768)) (is : op ≡ record { sought = record { list = list; target = None }; state = SeekHead (Head list.head) }) where
+    {op : CutOp} {list : ListAt} (names : (list.generation ≡ x.generation) × (list.head ≡ x.generation % 2 * 32768)) (is : op ≡ record { sought = record { list = list; target = None }; state = SeekHead (Head list.head); swept = false }) where
   pub enter_sweep : {n : ℕ} → MayRun table n budget a → IsCutting n table x op (caller table b)
   enter_sweep {n} may = let e = enter n budget may in let w = goes_inside r found e in may_sweep w.is w.inside op list e.ran.counted names is
 

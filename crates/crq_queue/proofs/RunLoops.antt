@@ -112,7 +112,7 @@ pub record CutGoes (table : Table) (n budget : ℕ) (x : Control) (op now : CutO
   pub ran : Ran table n budget old new []
   pub stays : Stays (caller table old) (caller table new)
   pub at : IsCutting n table x now (caller table new)
-  pub op_is : now ≡ record op { state = now.state }
+  pub op_is : now ≡ record op { state = now.state; swept = now.swept }
   pub free : new.free.items ≡ old.free.items
   pub debts : new.debts ≡ old.debts
   pub owed : ((caller table new).debts.cut ≡ None) ⊎ ((caller table new).debts.cut ≡ (caller table old).debts.cut)
@@ -125,18 +125,18 @@ owed_on (inr was) (inr same) = inr (same ∙ was)
 
 module _ (table : Table) (n budget : ℕ) (x : Control) (op : CutOp) (old : Pass) (low : budget < 4294967296) where
   pub cut_begins : IsPassOf table old → old.turns ≤ budget → IsCutting n table x op (caller table old) → CutGoes table n budget x op op old old
-  cut_begins of within at = record { ran = ran_none of (record { counted = at.counted; within = within; low = low }); stays = stays_none (caller table old); at = at; op_is = refl; free = refl; debts = refl; owed = inr refl }
+  cut_begins of within at = record { ran = ran_none of (record { counted = at.0.counted; within = within; low = low }); stays = stays_none (caller table old); at = at; op_is = refl; free = refl; debts = refl; owed = inr refl }
 
   module _ (now : CutOp) (mid : Pass) (g : CutGoes table n budget x op now old mid) (room : seek_exchanges now.state ≡ true → mid.turns < budget) where
     cut_ran : {after : CutOp} {new : Pass} {answer : Progress CutEnd} → CutStepped n table x now after mid new answer → Ran table n budget old new []
-    cut_ran s = ran_trans g.ran (ran_inside g.at.on (seek_exchanges now.state) [] (may_run_on low g.ran) room s.is s.number (ap (λ d. d.settle) s.debts) (ap (λ d. d.copy) s.debts) (ap (λ d. d.second_cut) s.debts) s.works s.turns (nothing_added s.own))
+    cut_ran s = ran_trans g.ran (ran_inside g.at.0.on (seek_exchanges now.state) [] (may_run_on low g.ran) room s.is s.number (ap (λ d. d.settle) s.debts) (ap (λ d. d.copy) s.debts) (ap (λ d. d.second_cut) s.debts) s.works s.turns (nothing_added s.own))
 
     pub cut_goes : (after : CutOp) (new : Pass) → CutStepped n table x now after mid new More → CutGoes table n budget x op after old new
     cut_goes after new s = record {
       ran = cut_ran s;
       stays = stays_trans g.stays s.works.stays;
       at = s.answers.0;
-      op_is = s.answers.1 ∙ ap (λ (o : CutOp). record o { state = after.state }) g.op_is;
+      op_is = s.answers.1 ∙ ap (λ (o : CutOp). record o { state = after.state; swept = after.swept }) g.op_is;
       free = s.free ∙ g.free;
       debts = s.debts ∙ g.debts;
       owed = owed_on g.owed s.owed;
@@ -148,7 +148,7 @@ module _ (table : Table) (n budget : ℕ) (x : Control) (op : CutOp) (old : Pass
     pub cut_ends : (after : CutOp) (new : Pass) → CutStepped n table x now after mid new (Done Clean) → CutRan table n budget x op old new (Ok tt)
     cut_ends after new s = record {
       ran = cut_ran s;
-      inside = inside_of mid s.works.stays g.at.on g.at.list_is.control s.answers.0;
+      inside = inside_of mid s.works.stays g.at.0.on g.at.0.list_is.control s.answers.0;
       found = (stays_trans g.stays s.works.stays).found;
       free = s.free ∙ g.free;
       debts = s.debts ∙ g.debts;
@@ -162,7 +162,7 @@ module _ (table : Table) (n budget : ℕ) (x : Control) (op : CutOp) (old : Pass
   pub cut_spent : (now : CutOp) (new : Pass) (s : Spent) → CutGoes table n budget x op now old new → seek_exchanges now.state ≡ true → budget ≤ new.turns → CutRan table n budget x op old new (Err s)
   cut_spent now new s g exchanges used = record {
     ran = g.ran;
-    inside = record { on = g.at.on; uncut = seek_uncut n table x now.sought now.state (caller table new) g.at exchanges; control = g.at.list_is.control };
+    inside = record { on = g.at.0.on; uncut = seek_uncut n table x now.sought now.state (caller table new) g.at.0 exchanges; control = g.at.0.list_is.control };
     found = g.stays.found;
     free = g.free;
     debts = g.debts;
