@@ -1,9 +1,8 @@
 -- A cut of a row past which the list was swept while it was present: what each step of its walk leaves, and its end.
-use Rattle.std.proofs.Common.{◌≡◌, ◌≢◌, ⊎_elim, inl, inr, ℕ, ◌<◌, ◌≤◌, Bool, true, false, [], ◌∷◌, ◌++◌, Some, sym, refl, ap, ◌∙◌, subst, arith}
+use Rattle.std.proofs.Common.{◌≡◌, ◌≢◌, ⊎_elim, inl, inr, ℕ, ◌<◌, ◌≤◌, true, Some, sym, refl, ap, ◌∙◌, subst, arith}
 use Rattle.std.proofs.lemmas.Bool.{false≢true}
 use Rattle.crq_base.specs.declared.event.Event.{Event}
 use Rattle.crq_base.specs.declared.words.Control.{Control}
-use Rattle.crq_rule.specs.declared.debts.CutDebt.{CutDebt}
 use Rattle.crq_rule.specs.declared.pass.Pass.{Pass}
 use Rattle.crq_rule.specs.declared.pass.Table.{Table}
 use Rattle.crq_rule.specs.declared.view.Caller.{Caller}
@@ -20,9 +19,9 @@ use Rattle.crq_list.specs.declared.seek.SeekEnd.{SeekEnd}
 use Rattle.crq_list.specs.declared.seek.SeekEnd.TheVariants.{There, Frozen as FoundFrozen}
 use Rattle.crq_list.specs.declared.cut.CutEnd.TheVariants.{Clean}
 use Rattle.crq_list.specs.declared.cut.CutOp.{CutOp}
-use Rattle.crq_list.specs.Spots.{Target, IsUpTo, IsAfter, SweptPast}
+use Rattle.crq_list.specs.Spots.{Target, IsUpTo, IsAfter}
 use Rattle.crq_list.specs.Seeking.{IsSeeking, SeekStepped, is_on_way}
-use Rattle.crq_list.specs.Cutting.{IsOnRow, CutsSwept, IsCutting, HasSwept, CutStepped, follows, progress_of}
+use Rattle.crq_list.specs.Cutting.{IsOnRow, CutsSwept, IsCutting, CutStepped, follows, progress_of}
 use Rattle.crq_list.proofs.SweepLaws.{sweep_stays, past_on}
 use Rattle.crq_list.proofs.SeekSteps.{cut_ends, one_target}
 

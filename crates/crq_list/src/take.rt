@@ -22,7 +22,7 @@ use crq_rule::BANK;
 /// How a take from a list ends.
 #[derive(Clone, Copy, Debug, PartialEq, Eq)]
 pub enum MarkEnd {
-    /// This row is marked dead: its event was taken. The cut of the row is yet to be made.
+    /// This row is marked dead: its event was taken. The cut of the row is yet to be made: this is it.
     Marked(u32, Event, CutOp),
     /// The first present event isn't below the limit. It is this one, of the row at which the walk stopped.
     Beyond(Event),
