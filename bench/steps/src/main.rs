@@ -163,7 +163,7 @@ impl Table {
         self.leave();
     }
 
-    /// Takes the least event, and cuts its row. There has to be one.
+    /// Takes the least event, and cuts its row by the head's link as it was found. There has to be one.
     #[inline(never)]
     fn take(&self) -> Event {
         self.enter();
@@ -174,23 +174,17 @@ impl Table {
         black_box(self.load(first + 4));
         let (number, load) = (self.load(first + 5), self.load(first + 6));
         self.exchange(first, link, link + DEAD);
-        self.cut();
+        self.cut(head);
         self.leave();
         Event { time, number, load }
     }
 
-    /// Cuts the first row, which is dead, retires it, and looks at the one behind it.
-    fn cut(&self) {
-        let head = self.load(HEAD);
+    /// Cuts the row that this link of the head names, which is dead, and retires it.
+    fn cut(&self, head: u64) {
         let dead = row(named(head));
-        black_box([3, 4, 5].map(|word| self.load(dead + word)));
         let link = self.load(dead);
         self.exchange(HEAD, head, link - DEAD);
         self.store(dead + 1, self.load(EPOCH) + 1);
-        let next = named(self.load(HEAD));
-        if next != 0 {
-            black_box(self.load(row(next) + 3));
-        }
     }
 }
 
