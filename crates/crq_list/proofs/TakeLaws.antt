@@ -12,7 +12,6 @@ use Rattle.crq_base.specs.declared.words.Mark.TheVariants.{Val, Del}
 use Rattle.crq_base.specs.declared.words.Control.{Control}
 use Rattle.crq_base.specs.Words.{IsLink, link_word}
 use Rattle.crq_base.specs.Lists.{In}
-use Rattle.crq_rule.specs.Moves.{Lawful}
 use Rattle.crq_rule.specs.Core.{DeadNames, names_of, renamed}
 use Rattle.crq_rule.specs.declared.layout.Layout.{Layout}
 use Rattle.crq_rule.specs.declared.pass.Pass.{Pass}
@@ -27,7 +26,7 @@ use Rattle.crq_rule.specs.Places.{index, link as link_place, IsHead}
 use Rattle.crq_rule.specs.Parts.{IsEvent, rows_of}
 use Rattle.crq_rule.specs.Kinds.{makes}
 use Rattle.crq_rule.specs.Ranks.{rank, head_of, head_for, bucket, IsOpen, Cell, at_head, at_row, cell_place}
-use Rattle.crq_rule.specs.ListKinds.{StandsOn, MayMiss, is_passed, is_final, is_val, is_twin, new_stand, next_stand, only_row, noted_stand, noted, stands_after, begins_walk, walk_after, walks, table_seen, sight_after, relieved, row_place, event_word, marks, cut_debt, relieved_names}
+use Rattle.crq_rule.specs.ListKinds.{StandsOn, MayMiss, is_passed, is_val, is_twin, new_stand, next_stand, only_row, noted_stand, noted, stands_after, begins_walk, walk_after, walks, table_seen, sight_after, row_place, event_word, marks, cut_debt, relieved_names}
 use Rattle.crq_rule.specs.Moves.{Lawful}
 use Rattle.crq_rule.proofs.Standings.{rows_in, in_rows, row_stays, row_next}
 use Rattle.crq_rows.specs.Passes.{caller, load_made, step_made, IsPassOf, Stepped}
