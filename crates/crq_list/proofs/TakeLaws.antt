@@ -26,7 +26,7 @@ use Rattle.crq_rule.specs.Places.{index, link as link_place, IsHead}
 use Rattle.crq_rule.specs.Parts.{IsEvent, rows_of}
 use Rattle.crq_rule.specs.Kinds.{makes}
 use Rattle.crq_rule.specs.Ranks.{rank, head_of, head_for, bucket, IsOpen, Cell, at_head, at_row, cell_place}
-use Rattle.crq_rule.specs.ListKinds.{StandsOn, MayMiss, is_passed, is_val, is_twin, new_stand, next_stand, only_row, noted_stand, noted, stands_after, begins_walk, walk_after, walks, table_seen, sight_after, row_place, event_word, marks, cut_debt, relieved_names}
+use Rattle.crq_rule.specs.ListKinds.{StandsOn, MayMiss, is_passed, is_val, is_twin, new_stand, next_stand, only_row, noted_stand, noted, stands_after, begins_walk, walk_after, walks, HasSeen, current_seen, table_seen, sight_after, row_place, event_word, marks, cut_debt, relieved_names}
 use Rattle.crq_rule.specs.Moves.{Lawful}
 use Rattle.crq_rule.proofs.Standings.{rows_in, in_rows, row_stays, row_next}
 use Rattle.crq_rows.specs.Passes.{caller, load_made, step_made, IsPassOf, Stepped}
@@ -134,7 +134,7 @@ pub record Loads (table : Table) (old new : Pass) (m : Made) (a : Position) (w :
   pub load : is_exchange m.kind ≡ false
   pub part : caller table new ≡ makes m (moved a w v no_names (caller table old))
 
-module _ (n : ℕ) (table : Table) (x : Control) (op : TakeOp) (s : TakeState) (old new : Pass) (m : Made) (a : Position) (w : Option Walk) (v : Option Sight) (h : Loads table old new m a w v) (no : taking_exchanges s ≡ false) (sees : v ≡ Some (record { table = x }))
+module _ (n : ℕ) (table : Table) (x : Control) (op : TakeOp) (s : TakeState) (old new : Pass) (m : Made) (a : Position) (w : Option Walk) (v : Option Sight) (h : Loads table old new m a w v) (no : taking_exchanges s ≡ false) (sees : HasSeen x v)
     (t : IsTaking n table x (record op { state = s }) (caller table old)) where
   abbrev before : Caller
   before = caller table old
@@ -277,11 +277,12 @@ pub head_stepped : (n : ℕ) (table : Table) (x : Control) (op : TakeOp) (old ne
 head_stepped n table x op old new l r law saw val onward t = let y : Walk = record { head = op.head; at = l.row } in
     let p = caller table old in let at = (saw.marked x t.control t.opened).1 in
     let begins : begins_walk p.found.control l ≡ true = ap (λ c. begins_walk c l) t.control ∙ (λ i. is_val (val i) && eq-eqb l.generation x.generation at i) in
-    let seen : sight_after (at_head op.head) true p.found.control l p.sight ≡ Some (record { table = x }) = ap (λ b. cond b (table_seen p.found.control) p.sight) begins ∙ ap table_seen t.control in
-    let h = saw_loads table old new (at_head op.head) l saw (Some y) (Some (record { table = x })) law t.free (ap (λ b. cond b (Some y) None) begins) seen in ⊎_elim
-    (λ end. subst (λ z. TakeStepped n table x (record op { state = Load }) (record op { state = z.0 }) old new z.1) (sym end.1) (nothing n table x op Load old new _ _ _ _ h refl refl t y refl end.0))
+    let mine : Option Sight = Some (record { table = x; current = current_seen p.sight }) in
+    let seen : sight_after (at_head op.head) true p.found.control l p.sight ≡ mine = ap (λ b. cond b (table_seen p.found.control (current_seen p.sight)) p.sight) begins ∙ ap (λ o. table_seen o (current_seen p.sight)) t.control in
+    let h = saw_loads table old new (at_head op.head) l saw (Some y) mine law t.free (ap (λ b. cond b (Some y) None) begins) seen in ⊎_elim
+    (λ end. subst (λ z. TakeStepped n table x (record op { state = Load }) (record op { state = z.0 }) old new z.1) (sym end.1) (nothing n table x op Load old new _ _ _ _ h refl (current_seen p.sight, refl) t y refl end.0))
     (λ some. subst (λ z. TakeStepped n table x (record op { state = Load }) (record op { state = z.0 }) old new z.1) (sym some.1)
-    (more n table x op Load old new _ _ _ _ h refl refl t (Walking l.row l.row) (λ r l' e f q. absurd (walking_no l.row l.row r f l' e q))
+    (more n table x op Load old new _ _ _ _ h refl (current_seen p.sight, refl) t (Walking l.row l.row) (λ r l' e f q. absurd (walking_no l.row l.row r f l' e q))
     (names_first table.start.layout op.found.generation op.head n (caller table old).made l t.counted saw.is_link val (at ∙ sym (ap (λ (z : Control). z.generation) t.control_is)))
     (y, refl, refl, some.0, head_on l saw.event some.0) (omega arith))) onward
   where
@@ -299,11 +300,11 @@ stands ss r i = let s = in_rows ss r i in (s.0.event, (s.0, s.1, s.2, refl))
 pub dead_stepped : (n : ℕ) (table : Table) (x : Control) (op : TakeOp) (r first : ℕ) (old new : Pass) (l : Link) (to : TakeState × Progress MarkEnd) → Lawful (caller table old) → Saw table old new (at_row r) true l → is_passed l.mark ≡ true → Onward l first to
     → IsTaking n table x (record op { state = Walking r first }) (caller table old) → TakeStepped n table x (record op { state = Walking r first }) (record op { state = to.0 }) old new to.1
 dead_stepped n table x op r first old new l to law saw dead onward t = let p = caller table old in let ss = p.position.rows in let e = saw.event in let y : Walk = record t.at.0 { at = l.row } in let i = stood ss r t.at.4 in
-    let h = saw_loads table old new (at_row r) l saw (Some y) (Some (record { table = x })) law t.free (ap (walk_after (at_row r) true p.found.control l) t.at.1 ∙ ap (λ b. Some (cond b y t.at.0)) dead) t.sees in ⊎_elim
-    (λ end. subst (λ z. TakeStepped n table x (record op { state = Walking r first }) (record op { state = z.0 }) old new z.1) (sym end.1) (nothing n table x op (Walking r first) old new _ _ _ _ h refl refl t y refl end.0))
+    let h = saw_loads table old new (at_row r) l saw (Some y) p.sight law t.free (ap (walk_after (at_row r) true p.found.control l) t.at.1 ∙ ap (λ b. Some (cond b y t.at.0)) dead) refl in ⊎_elim
+    (λ end. subst (λ z. TakeStepped n table x (record op { state = Walking r first }) (record op { state = z.0 }) old new z.1) (sym end.1) (nothing n table x op (Walking r first) old new _ _ _ _ h refl t.sees t y refl end.0))
     (λ some. let on = ⊎_elim (λ (z : l.row ≡ 0). absurd (omega arith)) (λ k. k) (row_next r true l e ss) in let up : (f : Event) → StandsOn ss r f → rank f r < rank e l.row = λ f k. (saw.next f k some.0).0 in
     subst (λ z. TakeStepped n table x (record op { state = Walking r first }) (record op { state = z.0 }) old new z.1) (sym some.1)
-    (more n table x op (Walking r first) old new _ _ _ _ h refl refl t (Walking l.row first) (λ r l' e f q. absurd (walking_no l.row first r f l' e q))
+    (more n table x op (Walking r first) old new _ _ _ _ h refl t.sees t (Walking l.row first) (λ r l' e f q. absurd (walking_no l.row first r f l' e q))
     (names_on table.start.layout op.found.generation op.head first n p.made (load_made WalkKind (index table.start.layout (link_place r)) (link_word l)) t.counted (row_apart table.start.layout op.head r t.at.3 t.is_head) t.first)
     (y, refl, refl, some.0, stands (stands_after (at_row r) true l e ss) l.row on) (nearer (at_row r) l e ss _ r saw.is_link (saw.row some.0).1 some.0 i up))) onward
 
@@ -326,9 +327,9 @@ past_row n table q r old new l saw val counted stood swept {w} {v} f on = let p 
 pub present_stepped : (n : ℕ) (table : Table) (x : Control) (op : TakeOp) (r first : ℕ) (old new : Pass) (l : Link) (unread : Event) → Lawful (caller table old) → Saw table old new (at_row r) true l → l.mark ≡ Val
     → IsTaking n table x (record op { state = Walking r first }) (caller table old) → TakeStepped n table x (record op { state = Walking r first }) (record op { state = Reading r l 2 unread first }) old new More
 present_stepped n table x op r first old new l unread law saw val t = let p = caller table old in let ss = p.position.rows in let e = saw.event in let y = t.at.0 in let i = stood ss r t.at.4 in
-    let h = saw_loads table old new (at_row r) l saw (Some y) (Some (record { table = x })) law t.free (ap (walk_after (at_row r) true p.found.control l) t.at.1 ∙ ap (λ k. Some (cond (is_passed k) (record y { at = l.row }) y)) val) t.sees in
+    let h = saw_loads table old new (at_row r) l saw (Some y) p.sight law t.free (ap (walk_after (at_row r) true p.found.control l) t.at.1 ∙ ap (λ k. Some (cond (is_passed k) (record y { at = l.row }) y)) val) refl in
     let far = as_far l e ss r i (λ some f k. (saw.next f k some).0) in
-    more n table x op (Walking r first) old new _ _ _ _ h refl refl t (Reading r l 2 unread first) (λ r' l' e' f q. absurd (reading_no r r' 2 first f l l' unread e' q)) (
+    more n table x op (Walking r first) old new _ _ _ _ h refl t.sees t (Reading r l 2 unread first) (λ r' l' e' f q. absurd (reading_no r r' 2 first f l l' unread e' q)) (
       names_on table.start.layout op.found.generation op.head first n p.made (load_made WalkKind (index table.start.layout (link_place r)) (link_word l)) t.counted (row_apart table.start.layout op.head r t.at.3 t.is_head) t.first,
       λ is f on. past_row n table op.head r old new l saw val t.counted t.at.4 (subst (λ z. SweepsTo table.start.layout (at_head op.head) (drop n p.made) (at_row z)) is t.first.swept) f on,
     ) (

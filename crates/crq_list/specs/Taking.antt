@@ -16,7 +16,7 @@ use Rattle.crq_rule.specs.Places.{index, link as link_place, IsHead}
 use Rattle.crq_rule.specs.Parts.{IsOn}
 use Rattle.crq_rule.specs.Ranks.{IsOpen, at_head, at_row, cell_place}
 use Rattle.crq_rule.specs.HistoryParts.{EndsInBegin}
-use Rattle.crq_rule.specs.ListKinds.{StandsOn, MayMiss, cut_debt}
+use Rattle.crq_rule.specs.ListKinds.{StandsOn, HasSeen, MayMiss, cut_debt}
 use Rattle.crq_rows.specs.Passes.{caller, IsPassOf}
 use Rattle.crq_list.specs.declared.parts.ListAt.{ListAt}
 use Rattle.crq_list.specs.declared.parts.Progress.{Progress}
@@ -71,7 +71,7 @@ IsFirstKnown n l generation q (Marking r link e f) p = NamesFirst l generation q
 -- a take that walks has read the table of this control word
 abbrev pub SeesTable : TakeState → Control → Caller → Type 0
 SeesTable Load x p = Unit {0}
-SeesTable _ x p = p.sight ≡ Some (record { table = x })
+SeesTable _ x p = HasSeen x p.sight
 
 -- a caller that began and takes from the one list of the table that it found, and owes no dead row
 pub record IsTaking (n : ℕ) (table : Table) (x : Control) (op : TakeOp) (p : Caller) : Type 0 where

@@ -54,6 +54,7 @@ finds_control start control shape current found sight j now old = record {
       (λ _ e. subst (Fits start control shape) (some_control control x e) now) (λ k _. old.controls k x) k;
   currents = λ k x. put_all found j (record (found j) { control = Some control }) (λ k f. k < start.layout.workers → f.current ≡ Some x → NotAfter x current) (old.currents j x) (λ k _. old.currents k x) k;
   sights = old.sights;
+  views = old.views;
 }
 
 -- an entry that is neither a put nor a take
@@ -76,6 +77,7 @@ finds_begun start control shape current found sight j old = record {
   controls = old.controls;
   currents = old.currents;
   sights = λ k s. put_all sight j None (λ k o. k < start.layout.workers → o ≡ Some s → Fits start control shape s.table × (s.table.moving ≡ false)) (λ _ e. absurd (none_sight s e)) (λ k _. old.sights k s) k;
+  views = λ k s x. put_all sight j None (λ k o. k < start.layout.workers → o ≡ Some s → s.current ≡ Some x → NotAfter x current) (λ _ e _. absurd (none_sight s e)) (λ k _. old.views k s x) k;
 }
 
 nothing : {e : Event} → Contains [] e → ⊥

@@ -25,6 +25,7 @@ pub mod Lawfuls
 pub mod SweepLaws
 pub mod SearchLaws
 pub mod CallLaws
+pub mod CurrentLaws
 pub mod ListOpening
 pub mod Frames
 pub mod GuardLaws
@@ -36,6 +37,7 @@ pub mod GuardSteps
 pub mod Counting
 pub mod RowSteps
 pub mod ListSteps
+pub mod CurrentSteps
 pub mod Openings
 pub mod Stating
 pub mod StatingLists

@@ -240,7 +240,7 @@ module _ (key : Start) (p : Caller) where
   -- the row at which a walk stands is of the table that the take read
   walk_generation : (c : Core) → Inv c → (x : Control) {r : ℕ} {e : Event} → j < c.start.layout.workers → MayMark x r e (caller_of c j) → (c.words.link r).generation ≡ x.generation
   walk_generation c inv x {r} b may = let w = may.walks in let t = inv.walkers.walked j w.0 b w.1 in
-      let table = ap (λ (s : Sight). s.table.generation) (same_Some t.0 (record { table = x }) (sym t.1 ∙ may.sight)) in
+      let table = ap (λ (s : Sight). s.table.generation) (same_Some t.0 (record { table = x; current = may.sight.0 }) (sym t.1 ∙ may.sight.1)) in
       let some = (inv.lanes.is_row r (subst (IsGuarded (ground_of c)) may.on.2 (guarded_by j (stand_covered c j may.on.0 b may.on.1 inv)))).0 in
       ⊎_elim (λ z. let same = w.2 in absurd (omega arith)) (λ h. subst (λ r. (c.words.link r).generation ≡ x.generation) w.2 (h.1 ∙ table)) t.2.at_stand
 
@@ -249,7 +249,7 @@ module _ (key : Start) (p : Caller) where
   mark_moves x r e l bits val may c ws inv words b is = let new : Link = record l { mark = Del } in let w = index key.layout (link r) in
       let may' : MayMark x r e (caller_of c j) = subst (MayMark x r e) is may in
       let now : (c.words.link r).generation ≡ x.generation = walk_generation c inv x b may' in
-      let named : cut_debt x r e ≡ name_in c.shape (c.words.link r).generation r e = (λ i. record { generation = x.generation; head = sym (fitting_list c.start c.words.control c.shape x (inv.finds.sights j (record { table = x }) b may'.sight).0 e) i; event = e; row = r; front = false })
+      let named : cut_debt x r e ≡ name_in c.shape (c.words.link r).generation r e = (λ i. record { generation = x.generation; head = sym (fitting_list c.start c.words.control c.shape x (inv.finds.sights j (record { table = x; current = may'.sight.0 }) b may'.sight.1).0 e) i; event = e; row = r; front = false })
       ∙ ap (λ g. name_in c.shape g r e) (sym now) in
       let on : MayWalk (c.rows j) (at_row r) = (e, may'.on) in
       let place = cell_is (at_row r) c ws b inv words on in let at = words.shows.each (link r) place in

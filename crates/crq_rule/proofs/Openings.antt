@@ -151,7 +151,7 @@ opening_inv s first = let top = first.upto in let low = first.epoch in record {
     scanned = λ j k a _ i. absurd i;
     tags = λ j t x _ is _. absurd (none_some x is);
   };
-  finds = record { controls = λ j x _ is. absurd (none_control x is); currents = λ j x _ is. absurd (none_current x is); sights = λ j x _ is. absurd (no_sight x is) };
+  finds = record { controls = λ j x _ is. absurd (none_control x is); currents = λ j x _ is. absurd (none_current x is); sights = λ j x _ is. absurd (no_sight x is); views = λ j s x _ is _. absurd (no_sight s is) };
   guards = record { each = λ _ _. refl; passed = λ k j a _ _ i _. tt };
   holders = opening_holders s;
   cutting = record { on = λ j x _ is. absurd (none_some x is); tags = λ j t g x _ is _ _. absurd (none_some x is) };

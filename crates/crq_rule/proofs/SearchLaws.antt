@@ -18,6 +18,7 @@ use Rattle.crq_rule.specs.Core.{Core}
 use Rattle.crq_rule.specs.Parts.{ground_of, IsEvent, IsPath, Covers, rows_of}
 use Rattle.crq_rule.specs.ListParts.{ranks}
 use Rattle.crq_rule.specs.Ranks.{rank, head_for, bucket, head_of, IsOpen}
+use Rattle.crq_rule.specs.ListKinds.{HasSeen}
 use Rattle.crq_rule.specs.Invariant.{Inv}
 use Rattle.crq_rule.proofs.CoverLaws.{row_footing, names_covered, footing_covered}
 use Rattle.std.proofs.lemmas.Option.{same_Some}
@@ -83,11 +84,11 @@ pub record IsBeyond (c : Core) (at : ℕ) (f : Event) : Type 0 where
   pub holds : c.words.event row ≡ f
   pub later : ranks c.words.event at ≤ ranks c.words.event row
 
-pub left_beyond : (c : Core) → Inv c → (j : ℕ) (w : Walk) (x : Control) (front back : List Entry) (f : Event) → j < c.start.layout.workers → c.walk j ≡ Some w → c.sight j ≡ Some (record { table = x }) → x.log ≡ 0
+pub left_beyond : (c : Core) → Inv c → (j : ℕ) (w : Walk) (x : Control) (front back : List Entry) (f : Event) → j < c.start.layout.workers → c.walk j ≡ Some w → HasSeen x (c.sight j) → x.log ≡ 0
     → c.history ≡ front ++ back → length front ≡ c.begun j → Contains (settleds front) f → (Contains (outs c.history) f → ⊥) → IsBeyond c w.at f
 left_beyond c inv j w x front back f b is sees one parts long settled kept =
     let walked = inv.walkers.walked j w b is in let t = walked.2 in
-    let table : walked.0.table ≡ x = ap (λ (s : Sight). s.table) (same_Some walked.0 (record { table = x }) (sym walked.1 ∙ sees)) in
+    let table : walked.0.table ≡ x = ap (λ (s : Sight). s.table) (same_Some walked.0 (record { table = x; current = sees.0 }) (sym walked.1 ∙ sees.1)) in
     let legal : IsLegal front = legal_front [] front back (subst IsLegal parts inv.told.legal) in
     let early : Contains (puts (take (length front) front)) f = take_all put_of front f (settled_put front legal f settled) in
     let read : Contains (puts (take (c.read j) c.history)) f = take_more put_of (length front) (c.read j) c.history f (let low = (inv.walkers.seen j walked.0 b walked.1).after.0 in omega arith)

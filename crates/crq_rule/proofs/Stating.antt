@@ -48,6 +48,7 @@ module _ (c : Core) (inv : Inv c) where
     ticks = inv.reading.loaded;
     tags = inv.reading.tags;
     currents = inv.finds.currents;
+    views = inv.finds.views;
     generations = λ j x b is. (inv.finds.controls j x b is).low;
   }
 

@@ -133,7 +133,7 @@ module _ (c : Core) (inv : Inv c) where
 
   stands_from : (k : ℕ) (w : Walk) (x : Control) (front : List Entry) (e : Event) → IsWalking c k w x front → head_of x e ≡ w.head → Contains (puts front) e → (Contains (outs c.history) e → ⊥) → StandsFrom c.words.link c.words.event x.generation w.at e
   stands_from k w x front e walks head was kept = let from = inv.told.began k walks.inside walks.last in let t = inv.walkers.walked k w walks.inside walks.walks in
-      let same : t.0.table ≡ x = ap (λ (s : Sight). s.table) (same_Some t.0 (record { table = x }) (sym t.1 ∙ walks.sees)) in
+      let same : t.0.table ≡ x = ap (λ (s : Sight). s.table) (same_Some t.0 (record { table = x; current = walks.sees.0 }) (sym t.1 ∙ walks.sees.1)) in
       let long = ap length (began_one k c.history front from.0 walks.began from.2) ∙ from.1 in let low = (inv.walkers.seen k t.0 walks.inside t.1).after.0 in
       let read = take_more put_of (length front) (c.read k) c.history e (omega arith)
       (subst (λ h. Contains (puts (take (length front) h)) e) (sym walks.began.parts) (take_in put_of (length front) front (Begin k ∷ walks.began.back) e (le_refl _) (take_all put_of front e was))) in

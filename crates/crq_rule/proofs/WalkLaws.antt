@@ -13,6 +13,7 @@ use Rattle.crq_base.specs.declared.words.Link.{Link}
 use Rattle.crq_base.specs.declared.words.Mark.{Mark}
 use Rattle.crq_base.specs.declared.words.Mark.TheVariants.{Val, Inv as Invalid, Mov, Del}
 use Rattle.crq_base.specs.declared.words.Control.{Control}
+use Rattle.crq_base.specs.declared.words.Current.{Current}
 use Rattle.crq_base.specs.Lists.{In}
 use Rattle.crq_rule.specs.declared.debts.CutDebt.{CutDebt}
 use Rattle.crq_rule.specs.declared.view.Guard.{Guard}
@@ -24,12 +25,12 @@ use Rattle.crq_rule.specs.declared.view.Walk.{Walk}
 use Rattle.crq_rule.specs.Lists.{put}
 use Rattle.crq_rule.specs.Places.{IsHead}
 use Rattle.crq_rule.specs.Core.{Core, IsOutside, DeadNames, HasName, in_hand, retired}
-use Rattle.crq_rule.specs.Parts.{ground_of, Covers, IsGuarded, HasTag, IsOn, Names, IsPath, Reaches, rows_of, rows_of_old, rows_of_copy, Leads, Follows, Fits}
+use Rattle.crq_rule.specs.Parts.{ground_of, Covers, IsGuarded, HasTag, IsOn, Names, IsPath, Reaches, rows_of, rows_of_old, rows_of_copy, Leads, Follows, Fits, NotAfter}
 use Rattle.crq_rule.specs.ListParts.{ranks, StandFits, IsFinal, IsNamed}
-use Rattle.crq_rule.specs.HistoryParts.{Walks, Sees}
+use Rattle.crq_rule.specs.HistoryParts.{Walks, Sees, EndsInBegin}
 use Rattle.crq_rule.specs.Invariant.{Inv, takes_of}
 use Rattle.crq_rule.specs.Ranks.{rank, list_in, head_of, Cell, at_head, at_row, link_at, first_head_of}
-use Rattle.crq_rule.specs.ListKinds.{is_final, is_passed, is_val, stands_after, walk_after, walked, is_cell, is_beyond, is_past, is_other_front, relieved, front_of, new_stand, next_stand, noted_stand, is_mov, is_inv, walked_from, MayWalk, MaySeek, sight_after, read_after, begins_walk, table_seen, relieved_names}
+use Rattle.crq_rule.specs.ListKinds.{is_final, is_passed, is_val, stands_after, walk_after, walked, is_cell, is_beyond, is_past, is_other_front, relieved, front_of, new_stand, next_stand, noted_stand, is_mov, is_inv, walked_from, MayWalk, MaySeek, sight_after, read_after, begins_walk, table_seen, current_seen, is_loaded, relieved_names}
 use Rattle.crq_rule.proofs.SweepLaws.{val_is, swept_walked}
 use Rattle.crq_rule.proofs.Puts.{put_here, put_else, put_all}
 use Rattle.crq_rule.proofs.PartLaws.{sort}
@@ -64,7 +65,7 @@ abbrev new_sight : Core → ℕ → Cell → Bool → Option Sight
 new_sight c j cell seeks = sight_after cell seeks (c.found j).control (cell_link c cell) (c.sight j)
 
 abbrev new_read : Core → ℕ → Cell → Bool → ℕ
-new_read c j cell seeks = read_after cell seeks (c.found j).control (cell_link c cell) (length c.history) (c.read j)
+new_read c j cell seeks = read_after cell seeks (c.found j).control (cell_link c cell) (c.sight j) (length c.history) (c.read j)
 
 module _ (c : Core) (inv : Inv c) where
   listed_some : (q : ℕ) → IsHead q → (r : ℕ) → In r (c.chain q) → 0 < r
@@ -278,19 +279,27 @@ record Begins (x : Option Control) (l : Link) : Type 0 where
   val : l.mark ≡ Val
   generation : l.generation ≡ control.generation
 
+no_current : (x : Current) → None ≡ Some x → ⊥
+no_current x e = cc
+
+-- current is seen so in the sight
+kept_current : (x : Option Control) (y : Option Current) (s : Sight) → table_seen x y ≡ Some s → y ≡ s.current
+kept_current None y s is = absurd (none-some s is)
+kept_current (Some x) y s is = ap (λ (s : Sight). s.current) (same_Some (record { table = x; current = y }) s is)
+
 begins_is : (x : Option Control) (l : Link) → begins_walk x l ≡ true → Begins x l
 begins_is None l t = absurd (false≢true t)
 begins_is (Some y) l t = let p = and_parts (is_val l.mark) (eqb l.generation y.generation) t in record { control = y; found = refl; val = val_is l.mark p.0; generation = eqb-true l.generation y.generation p.1 }
 
 module _ (c : Core) (j g : ℕ) (b : j < c.start.layout.workers) (on : c.guard j ≡ On g) (inv : Inv c) where
   -- a walk that begins at the first head of the table of the control word that was found
-  at_first : (q : ℕ) (x : Control) → IsHead q → Fits c.start c.words.control c.shape x → (c.words.head q).generation ≡ x.generation → q ≡ first_head_of x.generation
-      → Walks c.history c.words.link c.words.event (record { table = x; read = length c.history; walk = record { head = q; at = (c.words.head q).row }; rows = next_stand (at_head q) (c.words.head q) (c.words.event (c.words.head q).row) })
-  at_first q x h fits same first = record {
+  at_first : (q : ℕ) (x : Control) (read : ℕ) → IsHead q → Fits c.start c.words.control c.shape x → (c.words.head q).generation ≡ x.generation → q ≡ first_head_of x.generation
+      → Walks c.history c.words.link c.words.event (record { table = x; read = read; walk = record { head = q; at = (c.words.head q).row }; rows = next_stand (at_head q) (c.words.head q) (c.words.event (c.words.head q).row) })
+  at_first q x read h fits same first = record {
     sees = (h, (omega arith, let some = pow_pos x.log in omega arith));
     at_stand = ⊎_elim inl (λ i. inr (i, next_generation i)) (next_in (at_head q) (c.words.head q) (c.words.event (c.words.head q).row));
     left = λ e put kept at.
-        let y = list_carries c inv x q e fits h same (record { put = of_take put_of (length c.history) c.history e put; kept = kept }) at in
+        let y = list_carries c inv x q e fits h same (record { put = of_take put_of read c.history e put; kept = kept }) at in
         let to = followed c.words.link (c.words.head q).row y.0 (c.chain q) (listed_some c inv q h) (inv.chains.leads q h) y.1 in
         record { row = y.0; some_row = to.0; kept = y.3; of = inv.sorted.generation q y.0 h y.1 ∙ same; holds = y.2; follows = to.1 };
   }
@@ -375,6 +384,26 @@ IsSteady c s = Fits c.start c.words.control c.shape s.table × (s.table.moving �
 abbrev Walked : Core → Sight → ℕ → List Stand → Walk → Type 0
 Walked c s read rows w = Walks c.history c.words.link c.words.event (record { table = s.table; read = read; walk = w; rows = rows })
 
+-- when a take that begins to walk has read its table: now, or as it loaded current
+abbrev read_from : Core → ℕ → ℕ
+read_from c j = cond (is_loaded (current_seen (c.sight j))) (c.read j) (length c.history)
+
+-- that is after the Begin of a take
+abbrev IsSince : Core → ℕ → ℕ → Type 0
+IsSince c j m = (c.begun j < m) × (m ≤ length c.history)
+
+pub read_now : (c : Core) (j : ℕ) → j < c.start.layout.workers → EndsInBegin (c.own j) → Inv c → IsSince c j (length c.history)
+read_now c j b ends inv = let began = inv.told.began j b ends in (let wide = ap length began.2.parts ∙ length-append began.0 (Begin j ∷ began.2.back) in let long = began.1 in omega arith, le_refl _)
+
+read_fits : (c : Core) (j : ℕ) → j < c.start.layout.workers → Inv c → IsSince c j (length c.history) → (o : Option Sight) → c.sight j ≡ o → IsSince c j (cond (is_loaded (current_seen o)) (c.read j) (length c.history))
+read_fits c j b inv now None is = now
+read_fits c j b inv now (Some s) is = cond_both (is_loaded s.current) (c.read j) (length c.history) (IsSince c j) (λ _. (inv.walkers.seen j s b is).after) (λ _. now)
+
+-- what a take saw of current isn't after it
+saw : (c : Core) (j : ℕ) → j < c.start.layout.workers → Inv c → (x : Current) (o : Option Sight) → c.sight j ≡ o → current_seen o ≡ Some x → NotAfter x c.words.current
+saw c j b inv x None is seen = absurd (no_current x seen)
+saw c j b inv x (Some s) is seen = inv.finds.views j s x b is seen
+
 -- A walk keeps the invariant
 pub walk_keeps : (c : Core) (j : ℕ) (cell : Cell) (seeks : Bool) → j < c.start.layout.workers → IsOn (c.guard j) → MayWalk (c.rows j) cell → MaySeek (c.own j) (c.found j).control (c.walk j) cell seeks → Inv c → Inv (walked_from c j cell seeks)
 walk_keeps c j cell seeks b is_on may seek inv = record {
@@ -384,6 +413,7 @@ walk_keeps c j cell seeks b is_on may seek inv = record {
     controls = inv.finds.controls;
     currents = inv.finds.currents;
     sights = λ k s. put_all c.sight j (new_sight c j cell seeks) (λ k o. k < c.start.layout.workers → o ≡ Some s → Fits c.start c.words.control c.shape s.table × (s.table.moving ≡ false)) (λ _ is. steady_after cell seek s is) (λ k _. inv.finds.sights k s) k;
+    views = λ k s x. put_all c.sight j (new_sight c j cell seeks) (λ k o. k < c.start.layout.workers → o ≡ Some s → s.current ≡ Some x → NotAfter x c.words.current) (λ _ is seen. view_after cell s x is seen) (λ k _. inv.finds.views k s x) k;
   };
   guards = inv.guards;
   holders = inv.holders;
@@ -474,19 +504,29 @@ walk_keeps c j cell seeks b is_on may seek inv = record {
     steady_after (at_row r) seek s is = inv.finds.sights j s b is
     steady_after (at_head q) seek s is = by (begins c j seeks q) refl is
       where
-        by : (t : Bool) → begins c j seeks q ≡ t → cond t (table_seen (c.found j).control) (c.sight j) ≡ Some s → IsSteady c s
+        by : (t : Bool) → begins c j seeks q ≡ t → cond t (table_seen (c.found j).control (current_seen (c.sight j))) (c.sight j) ≡ Some s → IsSteady c s
         by false t is = inv.finds.sights j s b is
-        by true t is = let y = (seeks_so q seek t).0.1 in subst (IsSteady c) (same_Some (record { table = y.0 }) s (sym (ap table_seen y.1) ∙ is)) (inv.finds.controls j y.0 b y.1, y.2)
+        by true t is = let y = (seeks_so q seek t).0.1 in
+            subst (IsSteady c) (same_Some (record { table = y.0; current = current_seen (c.sight j) }) s (sym (ap (λ x. table_seen x (current_seen (c.sight j))) y.1) ∙ is)) (inv.finds.controls j y.0 b y.1, y.2)
+
+    -- current stays as the take saw it
+    view_after : (cell : Cell) (s : Sight) (x : Current) → new_sight c j cell seeks ≡ Some s → s.current ≡ Some x → NotAfter x c.words.current
+    view_after (at_row r) s x is seen = inv.finds.views j s x b is seen
+    view_after (at_head q) s x is seen = by (begins c j seeks q) is
+      where
+        by : (t : Bool) → cond t (table_seen (c.found j).control (current_seen (c.sight j))) (c.sight j) ≡ Some s → NotAfter x c.words.current
+        by false is = inv.finds.views j s x b is seen
+        by true is = saw c j b inv x (c.sight j) refl (kept_current (c.found j).control (current_seen (c.sight j)) s is ∙ seen)
 
     -- a take that begins to walk has read the table after its Begin
     sees_after : (cell : Cell) → MaySeek (c.own j) (c.found j).control (c.walk j) cell seeks → (s : Sight) → new_sight c j cell seeks ≡ Some s → Sees c.start.layout.workers c.history c.settling (c.begun j) (new_read c j cell seeks) s
     sees_after (at_row r) seek s is = inv.walkers.seen j s b is
     sees_after (at_head q) seek s is = by (begins c j seeks q) refl is
       where
-        by : (t : Bool) → begins c j seeks q ≡ t → cond t (table_seen (c.found j).control) (c.sight j) ≡ Some s → Sees c.start.layout.workers c.history c.settling (c.begun j) (cond t (length c.history) (c.read j)) s
+        by : (t : Bool) → begins c j seeks q ≡ t → cond t (table_seen (c.found j).control (current_seen (c.sight j))) (c.sight j) ≡ Some s → Sees c.start.layout.workers c.history c.settling (c.begun j) (cond t (read_from c j) (c.read j)) s
         by false t is = inv.walkers.seen j s b is
-        by true t is = let began = inv.told.began j b (seeks_so q seek t).0.0 in record {
-          after = (let wide = ap length began.2.parts ∙ length-append began.0 (Begin j ∷ began.2.back) in let long = began.1 in omega arith, le_refl _);
+        by true t is = record {
+          after = read_fits c j b inv (read_now c j b (seeks_so q seek t).0.0 inv) (c.sight j) refl;
           owed = λ i d e owes _. absurd (none_owed c inv i d e owes);
         }
 
@@ -495,14 +535,14 @@ walk_keeps c j cell seeks b is_on may seek inv = record {
     walks_after (at_head q) may seek w is = by (begins c j seeks q) refl is
       where
         by : (t : Bool) → begins c j seeks q ≡ t → cond t (Some (record { head = q; at = (c.words.head q).row })) None ≡ Some w
-            → (s : Sight) × (cond t (table_seen (c.found j).control) (c.sight j) ≡ Some s) × Walked c s (cond t (length c.history) (c.read j)) (new_rows c j (at_head q) seeks) w
+            → (s : Sight) × (cond t (table_seen (c.found j).control (current_seen (c.sight j))) (c.sight j) ≡ Some s) × Walked c s (cond t (read_from c j) (c.read j)) (new_rows c j (at_head q) seeks) w
         by false t is = absurd (none-some w is)
         by true t is = let so = seeks_so q seek t in let y = so.0.1 in
             let same : so.1.control ≡ y.0 = same_Some so.1.control y.0 (sym so.1.found ∙ y.1) in (
-              record { table = y.0 },
-              ap table_seen y.1,
-              subst (Walked c (record { table = y.0 }) (length c.history) (new_rows c j (at_head q) seeks)) (same_Some (record { head = q; at = (c.words.head q).row }) w is)
-                  (at_first c j on.0 b on.1 inv q y.0 may (inv.finds.controls j y.0 b y.1) (so.1.generation ∙ ap (λ (z : Control). z.generation) same) y.3),
+              record { table = y.0; current = current_seen (c.sight j) },
+              ap (λ x. table_seen x (current_seen (c.sight j))) y.1,
+              subst (Walked c (record { table = y.0; current = current_seen (c.sight j) }) (read_from c j) (new_rows c j (at_head q) seeks)) (same_Some (record { head = q; at = (c.words.head q).row }) w is)
+                  (at_first c j on.0 b on.1 inv q y.0 (read_from c j) may (inv.finds.controls j y.0 b y.1) (so.1.generation ∙ ap (λ (z : Control). z.generation) same) y.3),
             )
     walks_after (at_row r) may seek w is = by seeks seek is
       where

@@ -7,6 +7,7 @@ pub mod Ranks
 pub mod Core
 pub mod Kinds
 pub mod ListKinds
+pub mod CurrentKinds
 pub mod Steps
 pub mod Rule
 pub mod Opening

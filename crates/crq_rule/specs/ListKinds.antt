@@ -7,6 +7,7 @@ use Rattle.crq_base.specs.declared.words.Link.{Link}
 use Rattle.crq_base.specs.declared.words.Mark.{Mark}
 use Rattle.crq_base.specs.declared.words.Mark.TheVariants.{Val, Inv, Mov, Del}
 use Rattle.crq_base.specs.declared.words.Control.{Control}
+use Rattle.crq_base.specs.declared.words.Current.{Current}
 use Rattle.crq_base.specs.Words.{IsLink, link_word}
 use Rattle.crq_base.specs.Lists.{In}
 use Rattle.crq_base.specs.Sources.{IsFresh}
@@ -199,18 +200,30 @@ abbrev pub walk_after : Cell → Bool → Option Control → Link → Option Wal
 walk_after (at_head q) seeks x l w = cond (seeks && begins_walk x l) (Some (record { head = q; at = l.row })) None
 walk_after (at_row r) seeks x l w = cond seeks (walked l w) None
 
--- and then it has read that table, when the history had m entries
-abbrev pub table_seen : Option Control → Option Sight
-table_seen None = None
-table_seen (Some x) = Some (record { table = x })
+-- and then it has read that table, when the history had m entries, or when it loaded current for it
+abbrev pub table_seen : Option Control → Option Current → Option Sight
+table_seen None y = None
+table_seen (Some x) y = Some (record { table = x; current = y })
+
+abbrev pub current_seen : Option Sight → Option Current
+current_seen None = None
+current_seen (Some s) = s.current
+
+abbrev pub is_loaded : Option Current → Bool
+is_loaded None = false
+is_loaded (Some y) = true
 
 abbrev pub sight_after : Cell → Bool → Option Control → Link → Option Sight → Option Sight
-sight_after (at_head q) seeks x l s = cond (seeks && begins_walk x l) (table_seen x) s
+sight_after (at_head q) seeks x l s = cond (seeks && begins_walk x l) (table_seen x (current_seen s)) s
 sight_after (at_row r) seeks x l s = s
 
-abbrev pub read_after : Cell → Bool → Option Control → Link → ℕ → ℕ → ℕ
-read_after (at_head q) seeks x l m read = cond (seeks && begins_walk x l) m read
-read_after (at_row r) seeks x l m read = read
+abbrev pub read_after : Cell → Bool → Option Control → Link → Option Sight → ℕ → ℕ → ℕ
+read_after (at_head q) seeks x l s m read = cond (seeks && begins_walk x l) (cond (is_loaded (current_seen s)) read m) read
+read_after (at_row r) seeks x l s m read = read
+
+-- the take has read the table of the control word x
+abbrev pub HasSeen : Control → Option Sight → Type 0
+HasSeen x s = (y : Option Current) × (s ≡ Some (record { table = x; current = y }))
 
 -- the dead row d is of the cell's list, and stands after the cell, or at it
 abbrev pub is_beyond : Option Control → Cell → List Stand → CutDebt → Bool
@@ -274,7 +287,7 @@ walks cell seeks l e p = record p {
 abbrev pub walked_from : Core → ℕ → Cell → Bool → Core
 walked_from c j cell seeks = let l = link_at c.words.head c.words.link cell in let e = c.words.event l.row in record c {
   rows = put c.rows j (stands_after cell seeks l e (c.rows j));
-  read = put c.read j (read_after cell seeks (c.found j).control l (length c.history) (c.read j));
+  read = put c.read j (read_after cell seeks (c.found j).control l (c.sight j) (length c.history) (c.read j));
   sight = put c.sight j (sight_after cell seeks (c.found j).control l (c.sight j));
   walk = put c.walk j (walk_after cell seeks (c.found j).control l (c.walk j));
   sweep = put c.sweep j (sweep_on (taken_on seeks (c.found j).control cell (c.rows j) (c.sweep j)) l e (c.sweep j));
@@ -453,7 +466,7 @@ pub record MayLink (n : ℕ) (x : Control) (cell : Cell) (l : Link) (r : ℕ) (e
 -- a take that began may mark the row at which its walk stands. Over one list, each event is of that list
 pub record MayMark (x : Control) (r : ℕ) (e : Event) (p : Caller) : Type 0 where
   pub began : EndsInBegin p.own
-  pub sight : p.sight ≡ Some (record { table = x })
+  pub sight : HasSeen x p.sight
   pub one_list : x.log ≡ 0
   pub on : StandsOn p.position.rows r e
   pub walks : (w : Walk) × (p.walk ≡ Some w) × (w.at ≡ r)
@@ -469,6 +482,6 @@ pub record MayCut (cell : Cell) (x : ℕ) (l : Link) (p : Caller) : Type 0 where
 -- the walk of a take came to its list's end, or to a row that isn't below the limit
 pub record MayMiss (x : Control) (limit : ℕ) (p : Caller) : Type 0 where
   pub began : EndsInBegin p.own
-  pub sight : p.sight ≡ Some (record { table = x })
+  pub sight : HasSeen x p.sight
   pub one_list : x.log ≡ 0
   pub walks : (w : Walk) × (p.walk ≡ Some w) × ((w.at ≡ 0) ⊎ ((e : Event) × StandsOn p.position.rows w.at e × (limit ≤ e.time)))

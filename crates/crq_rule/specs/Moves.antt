@@ -5,8 +5,9 @@ use Rattle.crq_rule.specs.declared.layout.Start.{Start}
 use Rattle.crq_base.specs.declared.words.Link.{Link}
 use Rattle.crq_base.specs.declared.event.Event.{Event}
 use Rattle.crq_base.specs.declared.words.Control.{Control}
+use Rattle.crq_base.specs.declared.words.Current.{Current}
 use Rattle.crq_base.specs.declared.words.Mark.TheVariants.{Val, Del}
-use Rattle.crq_base.specs.Words.{IsLink, IsControl, link_word, control_word}
+use Rattle.crq_base.specs.Words.{IsLink, IsControl, IsCurrent, link_word, control_word, current_word}
 use Rattle.crq_base.specs.Lists.{In}
 use Rattle.crq_rule.specs.declared.view.Sight.{Sight}
 use Rattle.crq_rule.specs.declared.view.Stand.{Stand}
@@ -17,12 +18,13 @@ use Rattle.crq_rule.specs.declared.view.Made.{Made}
 use Rattle.crq_rule.specs.declared.view.Caller.{Caller}
 use Rattle.crq_rule.specs.declared.view.View.{View}
 use Rattle.crq_rule.specs.Places.{IsRow, IsHomeRow}
-use Rattle.crq_rule.specs.Parts.{IsEvent, IsOn}
+use Rattle.crq_rule.specs.Parts.{NotAfter, IsEvent, IsOn}
 use Rattle.crq_rule.specs.Core.{Core, caller_of}
 use Rattle.crq_rule.specs.Invariant.{Inv}
 use Rattle.crq_rule.specs.Kinds.{FoundNoRow, makes, new_base, loads_based}
 use Rattle.crq_rule.specs.Ranks.{rank, head_of, IsOpen, Cell, at_head, at_row}
 use Rattle.crq_rule.specs.ListKinds.{StandsOn, walks}
+use Rattle.crq_rule.specs.CurrentKinds.{loads_current}
 use Rattle.crq_rule.specs.Steps.{Kind, May, After, kind_of}
 use Rattle.crq_rule.specs.Rule.{IsWords}
 
@@ -96,6 +98,15 @@ pub record FoundControl (f : Control → Caller → Caller) (found : ℕ) (p q :
   pub after : f control p ≡ q
   pub steady : control.moving ≡ false
   pub one : control.log ≡ 0
+
+-- current was found, which isn't before any that the caller found, or saw as its take began
+pub record FoundCurrent (walks : Bool) (found : ℕ) (p q : Caller) : Type 0 where
+  pub current : Current
+  pub is_current : IsCurrent current
+  pub word : current_word current ≡ found
+  pub after : loads_current walks current p ≡ q
+  pub later : (x : Current) → p.found.current ≡ Some x → NotAfter x current
+  pub seen : (s : Sight) (x : Current) → p.sight ≡ Some s → s.current ≡ Some x → NotAfter x current
 
 -- the epoch r was found: it isn't below any that the caller read, nor below an announcement that it scanned
 pub record TellsEpoch (r : ℕ) (p : Caller) : Type 0 where

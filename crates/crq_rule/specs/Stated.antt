@@ -28,6 +28,7 @@ use Rattle.crq_rule.specs.Core.{Core, DeadNames, Holding, in_hand, listed, cut_b
 use Rattle.crq_rule.specs.Parts.{ground_of, NotAfter, IsOn, LetsRise, Leads, Names, Reaches, Covers, HasTag}
 use Rattle.crq_rule.specs.Ranks.{shape_of, list_in, head_of, IsOpen}
 use Rattle.crq_rule.specs.HistoryParts.{IsLive, EndsInBegin}
+use Rattle.crq_rule.specs.ListKinds.{HasSeen}
 use Rattle.crq_rule.specs.ScarceParts.{IsLate, pending}
 
 -- 1. Words
@@ -59,6 +60,7 @@ pub record WordsHold (c : Core) : Type 0 where
   pub ticks : (j : ℕ) → j < c.start.layout.workers → (c.tick j).loaded ≤ c.words.epoch
   pub tags : (j t : ℕ) (x : CutRow) → j < c.start.layout.workers → c.cut j ≡ Some x → In t x.tags → t ≤ c.words.epoch
   pub currents : (j : ℕ) (x : Current) → j < c.start.layout.workers → (c.found j).current ≡ Some x → NotAfter x c.words.current
+  pub views : (j : ℕ) (s : Sight) (x : Current) → j < c.start.layout.workers → c.sight j ≡ Some s → s.current ≡ Some x → NotAfter x c.words.current
   pub generations : (j : ℕ) (x : Control) → j < c.start.layout.workers → (c.found j).control ≡ Some x → x.generation ≤ c.words.control.generation
 
 -- 2. Holders
@@ -195,7 +197,7 @@ pub record IsWalking (c : Core) (k : ℕ) (w : Walk) (x : Control) (front : List
   pub inside : k < c.start.layout.workers
   pub last : EndsInBegin (c.own k)
   pub walks : c.walk k ≡ Some w
-  pub sees : c.sight k ≡ Some (record { table = x })
+  pub sees : HasSeen x (c.sight k)
   pub began : Began k c.history front
 
 -- A walk is of a head of the table that its take read, and at its list's end or at a row that its caller's guard covers. Each event of that list that was put before the caller's last Begin and is pending

@@ -1,7 +1,7 @@
 -- One step of any kind, on core states: when it may come, and what it leaves.
 use Rattle.std.specs.Prelude.{◌≡◌, true, ℕ, ◌<◌, ◌^◌, Bool, List, [], ◌∷◌, None}
 use Rattle.crq_base.specs.declared.kinds.StepKind.{StepKind}
-use Rattle.crq_base.specs.declared.kinds.StepKind.TheVariants.{Split, Join, EpochLoad, Enter, Confirm, Leave, Scan, Tick, Retire, Look, Claim, Write, Read, ControlLoad, Begin, Walk, Link as LinkKind, Mark, Cut, Miss}
+use Rattle.crq_base.specs.declared.kinds.StepKind.TheVariants.{Split, Join, EpochLoad, Enter, Confirm, Leave, Scan, Tick, Retire, Look, Claim, Write, Read, ControlLoad, CurrentLoad, Begin, Walk, Link as LinkKind, Mark, Cut, Miss}
 use Rattle.crq_base.specs.declared.event.Event.{Event}
 use Rattle.crq_base.specs.declared.words.Link.{Link}
 use Rattle.crq_base.specs.declared.words.Control.{Control}
@@ -10,11 +10,12 @@ use Rattle.crq_base.specs.declared.entry.Entry.TheVariants.{Begin as BeginEntry,
 use Rattle.crq_rule.specs.declared.view.Guard.TheVariants.{Off}
 use Rattle.crq_base.specs.declared.words.Mark.TheVariants.{Val}
 use Rattle.crq_base.specs.Lists.{In}
-use Rattle.crq_rule.specs.Places.{IsHomeRow, Place, spare, epoch, announced, control, stamp, link as link_place}
+use Rattle.crq_rule.specs.Places.{IsHomeRow, Place, spare, epoch, announced, control, current, stamp, link as link_place}
 use Rattle.crq_rule.specs.Parts.{IsOn}
 use Rattle.crq_rule.specs.Ranks.{Cell, cell_place, link_at}
 use Rattle.crq_rule.specs.Core.{Core, caller_of}
 use Rattle.crq_rule.specs.Kinds.{epoch_loaded, recovery_begun, entered, confirmed, left, scanned, ticked, tick_failed, retired_at, looked, claimed, HasScanned, IsEntering, MayRetire, IsRipe}
+use Rattle.crq_rule.specs.CurrentKinds.{current_loaded, MayView}
 use Rattle.crq_rule.specs.ListKinds.{is_cell, Content, IsContent, content_number, row_place, written_at, walked_from, linked, put_entries, control_loaded, begun_by, marked, cut_from, missed, StandsOn, MayWalk, MaySeek, MayLink, MayMark, MayCut, MayMiss}
 
 -- the kinds of step with their operands; an exchange that fails is a case of its own. Splitting and joining move parts of views from seat to seat, and leave the core state
@@ -38,6 +39,7 @@ pub data Kind : Type 0 where
   link : Cell → Link → ℕ → Event → Kind
   link_fails : Cell → Kind
   control_load : Kind
+  current_load : Bool → Kind
   begin : Kind
   mark : ℕ → Event → Kind
   mark_fails : ℕ → Kind
@@ -66,6 +68,7 @@ May (walk cell seeks) c j = IsOn (c.guard j) × MayWalk (c.rows j) cell × MaySe
 May (link cell l r e) c j = ((x : Control) × MayLink c.start.layout.workers x cell l r e (caller_of c j)) × (link_at c.words.head c.words.link cell ≡ l)
 May (link_fails cell) c j = Unit {0}
 May control_load c j = Unit {0}
+May (current_load walks) c j = MayView (c.own j) (c.found j).control walks
 May begin c j = Unit {0}
 May (mark r e) c j = ((x : Control) × MayMark x r e (caller_of c j)) × ((c.words.link r).mark ≡ Val)
 May (mark_fails r) c j = Unit {0}
@@ -94,6 +97,7 @@ After (walk cell seeks) c j = walked_from c j cell seeks
 After (link cell l r e) c j = linked c j cell l r e
 After (link_fails cell) c j = c
 After control_load c j = control_loaded c j
+After (current_load walks) c j = current_loaded c j walks
 After begin c j = begun_by c j
 After (mark r e) c j = marked c j r e
 After (mark_fails r) c j = c
@@ -122,6 +126,7 @@ place_of (walk cell seeks) j = cell_place cell
 place_of (link cell l r e) j = cell_place cell
 place_of (link_fails cell) j = cell_place cell
 place_of control_load j = control
+place_of (current_load walks) j = current
 place_of begin j = control
 place_of (mark r e) j = link_place r
 place_of (mark_fails r) j = link_place r
@@ -150,6 +155,7 @@ kind_of (walk cell seeks) = Walk
 kind_of (link cell l r e) = LinkKind
 kind_of (link_fails cell) = LinkKind
 kind_of control_load = ControlLoad
+kind_of (current_load walks) = CurrentLoad
 kind_of begin = Begin
 kind_of (mark r e) = Mark
 kind_of (mark_fails r) = Mark

@@ -81,10 +81,12 @@ pub struct Base {
     pub looked: u64,
 }
 
-/// What a take knows of the table in which it walks.
+/// What a take knows of the table in which it walks, and where it began.
 pub struct Sight {
-    /// The control word that it had found when it read the first head; the table didn't move.
+    /// The control word that it had found when it read the table; the table didn't move.
     pub table: Control,
+    /// Current, as the take loaded it for that table. None for a take that began with a head, and loaded no current.
+    pub current: Option<Current>,
 }
 
 /// How far a take walked the list of a head: to the row `at`, or to the end where that is 0. What it passed was dead.

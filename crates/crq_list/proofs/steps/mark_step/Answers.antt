@@ -24,7 +24,7 @@ exchange_seated-found-requires-clause-moves c = let key = c.args.table.now.start
     (moves_flat Mark key p _ (λ n. either (n == link_word l) (link_word (record l { mark = Del })) n) f quiet (mark_moves key p x c.args.row e l c.requires.bits c.requires.present c.requires.may))
 
 pub head_of-requires : goal.head_of-requires
-head_of-requires c = (c.requires.of.lawful.sighted (record { table = c.args.control.now }) c.requires.may.sight).0
+head_of-requires c = (c.requires.of.lawful.sighted (record { table = c.args.control.now; current = c.requires.may.sight.0 }) c.requires.may.sight.1).0
 
 pub returns-then-won : goal.returns-then-won
 returns-then-won c = let found = c.exchange_seated-found.result in let from = c.pack-old.result in let mid = c.exchange_seated-found.new.pass in let x = c.args.control.now in let r = c.args.row in let e = c.args.event.now in

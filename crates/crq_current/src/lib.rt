@@ -1,0 +1,8 @@
+//! Current, the position at which takes begin: each atomic step on it as a function of its own.
+//!
+//! No call makes these steps yet.
+#![tactic(auto)]
+
+mod steps;
+
+pub use steps::current_step;
