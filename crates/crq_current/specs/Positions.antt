@@ -1,6 +1,7 @@
 -- What single steps on current do to a pass.
-use Rattle.std.specs.Prelude.{◌≡◌, Bool, Some}
-use Rattle.crq_base.specs.declared.kinds.StepKind.TheVariants.{CurrentLoad}
+use Rattle.std.specs.Prelude.{◌≡◌, ◌==◌, cond, ℕ, Bool, Some}
+use Rattle.crq_base.specs.declared.kinds.StepKind.TheVariants.{CurrentLoad, Raise}
+use Rattle.crq_base.specs.declared.words.Control.{Control}
 use Rattle.crq_base.specs.declared.words.Current.{Current}
 use Rattle.crq_base.specs.Words.{IsCurrent, current_word}
 use Rattle.crq_rule.specs.declared.pass.Pass.{Pass}
@@ -9,8 +10,8 @@ use Rattle.crq_rule.specs.declared.view.Sight.{Sight}
 use Rattle.crq_rule.specs.Parts.{NotAfter}
 use Rattle.crq_rule.specs.Places.{index, current}
 use Rattle.crq_rule.specs.Kinds.{makes}
-use Rattle.crq_rule.specs.CurrentKinds.{loads_current}
-use Rattle.crq_rows.specs.Passes.{caller, IsPassOf, load_made}
+use Rattle.crq_rule.specs.CurrentKinds.{loads_current, next_position, raises}
+use Rattle.crq_rows.specs.Passes.{caller, IsPassOf, load_made, step_made, counted}
 
 -- current was found to be y, which isn't before any that the caller found, or saw as its take began
 pub record Viewed (table : Table) (old new : Pass) (walks : Bool) (y : Current) : Type 0 where
@@ -20,3 +21,12 @@ pub record Viewed (table : Table) (old new : Pass) (walks : Bool) (y : Current) 
   pub part : caller table new ≡ makes (load_made CurrentLoad (index table.start.layout current) (current_word y)) (loads_current walks y (caller table old))
   pub later : (x : Current) → (caller table old).found.current ≡ Some x → NotAfter x y
   pub seen : (s : Sight) (x : Current) → (caller table old).sight ≡ Some s → s.current ≡ Some x → NotAfter x y
+
+-- an exchange of current from y to the next bucket of the table was made; it won, or found another word
+pub record Raised (table : Table) (old new : Pass) (x : Control) (y : Current) (won : Bool) : Type 0 where
+  pub is : IsPassOf table new
+  pub same : new ≡ record old { seat = new.seat; turns = new.turns }
+  pub turns : new.turns ≡ counted old.turns
+  pub found : ℕ
+  pub won_is : (found == current_word y) ≡ won
+  pub part : caller table new ≡ makes (step_made Raise (index table.start.layout current) (current_word y) (current_word (next_position x y)) found) (cond won (raises (caller table old)) (caller table old))

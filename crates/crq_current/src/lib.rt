@@ -5,4 +5,4 @@
 
 mod steps;
 
-pub use steps::current_step;
+pub use steps::{current_step, next_position, raise_step};

@@ -1,6 +1,7 @@
 -- The frame laws. A step that changes only the components of one concern keeps all parts that read none of them as they stand.
 use Rattle.std.proofs.Common.{ℕ, List, Option}
 use Rattle.crq_base.specs.declared.event.Event.{Event}
+use Rattle.crq_base.specs.declared.words.Current.{Current}
 use Rattle.crq_rule.specs.declared.view.Guard.{Guard}
 use Rattle.crq_rule.specs.declared.view.Tick.{Tick}
 use Rattle.crq_rule.specs.declared.view.CutRow.{CutRow}
@@ -9,7 +10,7 @@ use Rattle.crq_rule.specs.declared.view.Stand.{Stand}
 use Rattle.crq_rule.specs.declared.view.Made.{Made}
 use Rattle.crq_rule.specs.declared.view.Walk.{Walk}
 use Rattle.crq_rule.specs.Core.{Core, Holding}
-use Rattle.crq_rule.specs.Parts.{ground_of, footings, Reading, Finds, Guards, Holders, Cutting, Stamps, Cover}
+use Rattle.crq_rule.specs.Parts.{ground_of, footings, Spelled, Reading, Finds, Guards, Holders, Cutting, Stamps, Cover}
 use Rattle.crq_rule.specs.ListParts.{Sizes, Dues, Marks, Standing, Copying, Lanes, Writing, Naming}
 use Rattle.crq_rule.specs.Steady.{Steady}
 use Rattle.crq_rule.specs.HistoryParts.{Carriers, Told, Settling, Walkers}
@@ -181,6 +182,42 @@ pub frame_found : (c d : Core) → Inv c
     → Walkers c.start.layout.workers c.history c.settling (takes_of (with_found c d)) c.words.link c.words.event
     → Inv (with_found c d)
 frame_found c d inv finds walkers = frame_entry c (with_found c d) inv finds inv.dues inv.steady inv.carriers inv.told inv.settling walkers inv.scarce inv.refusals inv.swept
+
+-- current, and the walks of takes
+pub frame_current : (c : Core) (current : Current) (walk : ℕ → Option Walk) → Inv c
+    → Spelled c.start.layout c.words.control current c.words.pin c.words.head c.words.link c.words.twin c.words.event
+    → Finds c.start c.words.control c.shape current c.found c.sight
+    → Walkers c.start.layout.workers c.history c.settling (record (takes_of c) { walk = walk }) c.words.link c.words.event
+    → Inv (record c { words = record c.words { current = current }; walk = walk })
+frame_current c current walk inv spelled finds walkers = record {
+  spelled = spelled;
+  reading = inv.reading;
+  finds = finds;
+  guards = inv.guards;
+  holders = inv.holders;
+  cutting = inv.cutting;
+  stamps = inv.stamps;
+  chains = inv.chains;
+  cover = inv.cover;
+  sizes = inv.sizes;
+  dues = inv.dues;
+  steady = inv.steady;
+  heads = inv.heads;
+  sorted = inv.sorted;
+  marks = inv.marks;
+  standing = inv.standing;
+  copying = inv.copying;
+  lanes = inv.lanes;
+  writing = inv.writing;
+  naming = inv.naming;
+  carriers = inv.carriers;
+  told = inv.told;
+  settling = inv.settling;
+  walkers = walkers;
+  scarce = inv.scarce;
+  refusals = inv.refusals;
+  swept = inv.swept;
+}
 
 -- the list of steps made, which no part reads
 pub frame_made : (c : Core) (j : ℕ) (m : Made) → Inv c → Inv (after_made c j m)

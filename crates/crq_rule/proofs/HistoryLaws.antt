@@ -35,7 +35,7 @@ some_some : (x y : Event) → Some x ≡ Some y → x ≡ y
 some_some x y e = cc
 
 -- the member of a list of one
-only : (x y : Event) → Contains (x ∷ []) y → y ≡ x
+pub only : (x y : Event) → Contains (x ∷ []) y → y ≡ x
 only x y h = sym (some_some x y (alone (Some x) y h))
 
 -- a member of two lists one after the other

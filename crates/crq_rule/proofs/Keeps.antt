@@ -12,14 +12,14 @@ use Rattle.crq_rule.specs.declared.view.Walk.{Walk}
 use Rattle.crq_rule.specs.declared.view.Sweep.{Sweep}
 use Rattle.crq_rule.specs.declared.view.Caller.{Caller}
 use Rattle.crq_rule.specs.Lists.{put, without}
-use Rattle.crq_rule.specs.Places.{Words, Place, epoch, announced, head, link as link_place, stamp, twin, time, source, sequence, load, word_of}
+use Rattle.crq_rule.specs.Places.{Words, Place, epoch, announced, current, head, link as link_place, stamp, twin, time, source, sequence, load, word_of}
 use Rattle.crq_rule.specs.Core.{Core, DeadNames, caller_of, owed_by}
 use Rattle.crq_rule.specs.Invariant.{Inv}
 use Rattle.crq_rule.specs.ScarceParts.{pending}
 use Rattle.crq_rule.specs.Kinds.{tagged, new_base, new_tick, seen_stamp, base_looked, refused_after}
 use Rattle.crq_rule.specs.Ranks.{Cell, at_head, at_row, cell_place, link_at, heads_set, links_set}
 use Rattle.crq_rule.specs.ListKinds.{Content, new_link, no_twin, new_time, new_source, new_sequence, new_load, content_number, content_word, row_place, wrote, link_after, twin_after, event_after, put_entries, name_in, unhanded, forgotten, without_stand, stands_after, walk_after, sight_after, taken_on, sweep_on, clean_on, relieved_names, unnamed_row}
-use Rattle.crq_rule.specs.Steps.{Kind, split, join, epoch_load, recovery_load, enter, confirm, leave, scan, tick, tick_fails, retire, look, claim, write, read, walk, link, link_fails, control_load, current_load, begin, mark, mark_fails, cut, cut_fails, miss, May, After, place_of, entries_of}
+use Rattle.crq_rule.specs.Steps.{Kind, split, join, epoch_load, recovery_load, enter, confirm, leave, scan, tick, tick_fails, retire, look, claim, write, read, walk, link, link_fails, control_load, current_load, raise, raise_fails, begin, mark, mark_fails, cut, cut_fails, miss, May, After, place_of, entries_of}
 use Rattle.crq_rule.proofs.Puts.{put_else, put_through}
 use Rattle.crq_rule.proofs.GuardLaws.{load_keeps, recovery_keeps, enter_keeps, confirm_keeps, leave_keeps, scan_keeps, tick_keeps, tick_fails_keeps}
 use Rattle.crq_rule.proofs.RowLaws.{retire_keeps, look_keeps, claim_keeps}
@@ -30,6 +30,7 @@ use Rattle.crq_rule.proofs.CutLaws.{cut_keeps}
 use Rattle.crq_rule.proofs.MarkLaws.{mark_keeps}
 use Rattle.crq_rule.specs.CurrentKinds.{sight_on}
 use Rattle.crq_rule.proofs.CurrentLaws.{current_keeps}
+use Rattle.crq_rule.proofs.RaiseLaws.{raise_keeps}
 use Rattle.crq_rule.proofs.CallLaws.{control_keeps, begin_keeps, miss_keeps}
 
 pub keeps : (k : Kind) (c : Core) (j : ℕ) → j < c.start.layout.workers → May k c j → Inv c → Inv (After k c j)
@@ -53,6 +54,8 @@ keeps (link cell l r e) c j b may inv = link_keeps c j cell l r e b may.0 may.1 
 keeps (link_fails cell) c j b may inv = inv
 keeps control_load c j b may inv = control_keeps c j b inv
 keeps (current_load walks) c j b may inv = current_keeps c j b inv walks may
+keeps (raise x y) c j b may inv = raise_keeps c j x y may.0 may.1 inv
+keeps raise_fails c j b may inv = inv
 keeps begin c j b may inv = begin_keeps c j b inv
 keeps (mark r e) c j b may inv = mark_keeps c j r e b may.0 may.1 inv
 keeps (mark_fails r) c j b may inv = inv
@@ -130,6 +133,8 @@ others_stay (current_load walks) c j i ne = λ x. record (caller_of c i) {
   sight = put_else c.sight j (sight_on walks (c.found j).control c.words.current) i ne x;
   walk = put_else c.walk j None i ne x;
 }
+others_stay (raise x y) c j i ne = λ z. record (caller_of c i) { walk = put_else c.walk j None i ne z }
+others_stay raise_fails c j i ne = refl
 others_stay begin c j i ne = λ x. record (caller_of c i) {
   own = put_else c.own j (c.own j ++ Begin j ∷ []) i ne x;
   base = put_else c.base j None i ne x;
@@ -233,6 +238,7 @@ words_stay (tick x) c j epoch ne = absurd (ne refl)
 words_stay (retire r t) c j (stamp s) ne = put_else c.words.stamp r (t + 1) s (λ q. ne (ap stamp q))
 words_stay (claim r e) c j (stamp s) ne = put_else c.words.stamp r 0 s (λ q. ne (ap stamp q))
 words_stay (write r x) c j p ne = content_stays c.words r x p ne
+words_stay (raise x y) c j current ne = absurd (ne refl)
 words_stay (link cell l r e) c j p ne = cell_stays c.words cell (record l { row = r }) p ne
 words_stay (mark r e) c j (link_place s) ne = ap link_word (put_else c.words.link r (record (c.words.link r) { mark = Del }) s (λ q. ne (ap link_place q)))
 words_stay (cut cell x l) c j p ne = cell_stays c.words cell (record (link_at c.words.head c.words.link cell) { row = l.row }) p ne

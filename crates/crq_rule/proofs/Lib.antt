@@ -25,7 +25,10 @@ pub mod Lawfuls
 pub mod SweepLaws
 pub mod SearchLaws
 pub mod CallLaws
+pub mod BucketLaws
 pub mod CurrentLaws
+pub mod RaiseLaws
+pub mod AheadLaws
 pub mod ListOpening
 pub mod Frames
 pub mod GuardLaws

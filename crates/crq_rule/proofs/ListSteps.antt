@@ -39,7 +39,7 @@ use Rattle.crq_rule.proofs.Lawfuls.{stand_covered}
 use Rattle.crq_rule.proofs.Keeps.{words_stay, rest_stays}
 
 -- the word at the place of a step of this kind becomes a, and no other does
-words_after : (key : Start) (k : Kind) (c : Core) (j : ℕ) (ws : List ℕ) (a : ℕ) → IsPlace key.layout (place_of k j) → word_of (After k c j).words (place_of k j) ≡ a → IsWords key c ws
+pub words_after : (key : Start) (k : Kind) (c : Core) (j : ℕ) (ws : List ℕ) (a : ℕ) → IsPlace key.layout (place_of k j) → word_of (After k c j).words (place_of k j) ≡ a → IsWords key c ws
     → IsWords key (After k c j) (set ws (index key.layout (place_of k j)) a)
 words_after key k c j ws a place new old = record {
   start = (rest_stays k c j).0 ∙ old.start;
@@ -172,7 +172,7 @@ module _ (key : Start) (p : Caller) where
       next_of (at_row r) c b inv may = λ f is some. (named (at_row r) c b inv may some).1 f is some
 
   -- an exchange that found another word than it expected
-  lost : (name : StepKind) (k : Kind) (w old new : ℕ) (f : Caller → Caller) → kind_of k ≡ name → ((c : Core) → May k c j) → ((c : Core) → After k c j ≡ c) → (c : Core) (ws : List ℕ) → IsWords key c ws → p ≡ caller_of c j → get_or ws w 0 ≢ old
+  pub lost : (name : StepKind) (k : Kind) (w old new : ℕ) (f : Caller → Caller) → kind_of k ≡ name → ((c : Core) → May k c j) → ((c : Core) → After k c j ≡ c) → (c : Core) (ws : List ℕ) → IsWords key c ws → p ≡ caller_of c j → get_or ws w 0 ≢ old
       → (k : Kind) × (kind_of k ≡ name) × May k c j × IsWords key (After k c j) (set ws w (either (eqb (get_or ws w 0) old) new (get_or ws w 0))) × By (wins old f) quiet (get_or ws w 0) p (caller_of (After k c j) j)
   lost name k w old new f is may same c ws words mine apart = let b = ne_eqb (get_or ws w 0) old apart in (
     k,
@@ -183,7 +183,7 @@ module _ (key : Start) (p : Caller) where
   )
 
   -- one that found what it expected
-  won : (name : StepKind) (k : Kind) (w old new : ℕ) (f : Caller → Caller) → kind_of k ≡ name → (c : Core) (ws : List ℕ) → May k c j → p ≡ caller_of c j → get_or ws w 0 ≡ old → IsWords key (After k c j) (set ws w new) → f (caller_of c j) ≡ caller_of (After k c j) j
+  pub won : (name : StepKind) (k : Kind) (w old new : ℕ) (f : Caller → Caller) → kind_of k ≡ name → (c : Core) (ws : List ℕ) → May k c j → p ≡ caller_of c j → get_or ws w 0 ≡ old → IsWords key (After k c j) (set ws w new) → f (caller_of c j) ≡ caller_of (After k c j) j
       → (k : Kind) × (kind_of k ≡ name) × May k c j × IsWords key (After k c j) (set ws w (either (eqb (get_or ws w 0) old) new (get_or ws w 0))) × By (wins old f) quiet (get_or ws w 0) p (caller_of (After k c j) j)
   won name k w old new f is c ws may mine hit words after = let b = eq-eqb (get_or ws w 0) old hit in (
     k,

@@ -84,16 +84,13 @@ pub record IsBeyond (c : Core) (at : ℕ) (f : Event) : Type 0 where
   pub holds : c.words.event row ≡ f
   pub later : ranks c.words.event at ≤ ranks c.words.event row
 
-pub left_beyond : (c : Core) → Inv c → (j : ℕ) (w : Walk) (x : Control) (front back : List Entry) (f : Event) → j < c.start.layout.workers → c.walk j ≡ Some w → HasSeen x (c.sight j) → x.log ≡ 0
-    → c.history ≡ front ++ back → length front ≡ c.begun j → Contains (settleds front) f → (Contains (outs c.history) f → ⊥) → IsBeyond c w.at f
-left_beyond c inv j w x front back f b is sees one parts long settled kept =
+-- an event that was put before the take read its table, isn't out and is of the list walked stands there
+pub walk_beyond : (c : Core) → Inv c → (j : ℕ) (w : Walk) (x : Control) (f : Event) → j < c.start.layout.workers → c.walk j ≡ Some w → HasSeen x (c.sight j) → head_of x f ≡ w.head
+    → Contains (puts (take (c.read j) c.history)) f → (Contains (outs c.history) f → ⊥) → IsBeyond c w.at f
+walk_beyond c inv j w x f b is sees at read kept =
     let walked = inv.walkers.walked j w b is in let t = walked.2 in
     let table : walked.0.table ≡ x = ap (λ (s : Sight). s.table) (same_Some walked.0 (record { table = x; current = sees.0 }) (sym walked.1 ∙ sees.1)) in
-    let legal : IsLegal front = legal_front [] front back (subst IsLegal parts inv.told.legal) in
-    let early : Contains (puts (take (length front) front)) f = take_all put_of front f (settled_put front legal f settled) in
-    let read : Contains (puts (take (c.read j) c.history)) f = take_more put_of (length front) (c.read j) c.history f (let low = (inv.walkers.seen j walked.0 b walked.1).after.0 in omega arith)
-    (subst (λ h. Contains (puts (take (length front) h)) f) (sym parts) (take_in put_of (length front) front back f (le_refl _) early)) in
-    let from = t.left f read kept (one_head walked.0.table f w.head (ap (λ (z : Control). z.log) table ∙ one) t.sees.1) in
+    let from = t.left f read kept (ap (λ z. head_of z f) table ∙ at) in
     let v = stand_covered c inv j w.at b (⊎_elim (λ none. let some = from.some_row in absurd (omega arith)) (λ i. i.0) t.at_stand) in
     let to = follow_rises c inv j v.0 w.at from.row from.follows.through v.1 from.follows.path in record {
       row = from.row;
@@ -102,6 +99,17 @@ left_beyond c inv j w x front back f b is sees one parts long settled kept =
       holds = from.holds;
       later = to.0;
     }
+
+pub left_beyond : (c : Core) → Inv c → (j : ℕ) (w : Walk) (x : Control) (front back : List Entry) (f : Event) → j < c.start.layout.workers → c.walk j ≡ Some w → HasSeen x (c.sight j) → x.log ≡ 0
+    → c.history ≡ front ++ back → length front ≡ c.begun j → Contains (settleds front) f → (Contains (outs c.history) f → ⊥) → IsBeyond c w.at f
+left_beyond c inv j w x front back f b is sees one parts long settled kept =
+    let walked = inv.walkers.walked j w b is in
+    let table : walked.0.table ≡ x = ap (λ (s : Sight). s.table) (same_Some walked.0 (record { table = x; current = sees.0 }) (sym walked.1 ∙ sees.1)) in
+    let legal : IsLegal front = legal_front [] front back (subst IsLegal parts inv.told.legal) in
+    let early : Contains (puts (take (length front) front)) f = take_all put_of front f (settled_put front legal f settled) in
+    let read : Contains (puts (take (c.read j) c.history)) f = take_more put_of (length front) (c.read j) c.history f (let low = (inv.walkers.seen j walked.0 b walked.1).after.0 in omega arith)
+    (subst (λ h. Contains (puts (take (length front) h)) f) (sym parts) (take_in put_of (length front) front back f (le_refl _) early)) in
+    walk_beyond c inv j w x f b is sees (one_head x f w.head one (subst (λ z. IsOpen z w.head) table walked.2.sees.1)) read kept
 
 beyond_fits : (c : Core) → Inv c → (at : ℕ) (f : Event) (beyond : IsBeyond c at f) → IsEvent f × (beyond.row < 2 ^ 24)
 beyond_fits c inv at f beyond = let low = beyond.is_row.1 in let fit = c.start.layout.all_fit in (subst IsEvent beyond.holds (inv.spelled.events beyond.row beyond.is_row), omega arith)

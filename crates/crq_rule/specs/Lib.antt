@@ -23,5 +23,6 @@ pub mod Steady
 pub mod HistoryParts
 pub mod ScarceParts
 pub mod Invariant
+pub mod Ahead
 -- What only proofs and the crates above cite.
 pub mod Moves

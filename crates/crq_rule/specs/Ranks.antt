@@ -26,6 +26,10 @@ next_of x = record { log = x.new_log; shift = x.new_shift }
 unfoldable pub bucket : Shape → ℕ → ℕ
 bucket s t = t / 2 ^ s.shift
 
+-- and the first tick of a bucket
+unfoldable pub first_tick : Shape → ℕ → ℕ
+first_tick s b = b * 2 ^ s.shift
+
 -- the first of the heads that a table of this generation uses: its bank's
 abbrev pub first_head_of : ℕ → ℕ
 first_head_of g = g % 2 * 32768

@@ -13,9 +13,10 @@ ghost use Rattle.crq_rule.specs.declared.view.View.{View};
 ghost use Rattle.crq_rule.specs.Places.{Place, word_of, Shows};
 ghost use Rattle.crq_rule.specs.Core.{Core, caller_of};
 ghost use Rattle.crq_rule.specs.Invariant.{Inv};
+ghost use Rattle.crq_rule.specs.Ahead.{Ahead, KeepsAhead};
 ghost use Rattle.crq_rule.specs.ScarceParts.{pending};
 ghost use Rattle.crq_rule.specs.Kinds.{after_made, new_base, FoundNoRow, IsRipe};
-ghost use Rattle.crq_rule.specs.Steps.{Kind, recovery_load, look, After, IsStep, place_of, entries_of};
+ghost use Rattle.crq_rule.specs.Steps.{Kind, recovery_load, look, May, After, IsStep, place_of, entries_of};
 ghost use Rattle.crq_rule.specs.Rule.{Stands, first_view, joined, spent, head_view, tail_view, IsFirstApart};
 ghost use Rattle.crq_rule.specs.Deals.{HasAll, LoadsSpare, Gathered, IsSilent, spans};
 ghost use Rattle.crq_rule.specs.Opening.{opening_core, opening_words};
@@ -73,6 +74,14 @@ pub fn parts_law()
     ensures history { (c : Core) → Inv c → HistoryHolds c }
     ensures walkers { (c : Core) → Inv c → WalkersHold c }
     ensures scarcity { (c : Core) → Inv c → ScarcityHolds c }
+{}
+
+/// In a new table no settled event is behind current, and each step keeps that, if an event that is linked isn't before
+/// current, and if no event of a take's bucket or of an earlier one was put and settled since the take loaded current that
+/// it raises.
+pub fn current_law()
+    ensures opening { (start : Start) → Ahead (opening_core start).history (opening_core start).words.current }
+    ensures ahead { (k : Kind) (c : Core) (j : ℕ) → Inv c → j < c.start.layout.workers → May k c j → KeepsAhead k c j → Ahead c.history c.words.current → Ahead (After k c j).history (After k c j).words.current }
 {}
 
 /// A recovery of rows begins with a load of the epoch, and notes where the history is and which events are pending there.
