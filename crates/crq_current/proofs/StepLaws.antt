@@ -1,24 +1,28 @@
 -- What a step on current leaves of a pass.
-use Rattle.std.proofs.Common.{◌≡◌, ℕ, ◌+◌, ◌*◌, ◌/◌, ◌%◌, ◌^◌, ◌<◌, ◌==◌, cond, Bool, true, false, inl, refl, sym, ap, ◌∙◌, subst, arith, le_refl}
+use Rattle.std.proofs.Common.{◌≡◌, ℕ, ◌+◌, ◌*◌, ◌/◌, ◌%◌, ◌^◌, ◌<◌, ◌≤◌, nat_lt, ◌==◌, cond, Bool, true, false, None, inl, refl, sym, ap, ◌∙◌, subst, arith, le_refl}
 use Rattle.std.proofs.Math.Nat.{mod-eq_of_lt}
 use Rattle.std.proofs.lemmas.Nat.{pow_below}
-use Rattle.crq_base.specs.declared.kinds.StepKind.TheVariants.{CurrentLoad, Raise}
+use Rattle.crq_base.specs.declared.kinds.StepKind.TheVariants.{CurrentLoad, SettleLoad, Settle, Raise}
 use Rattle.crq_base.specs.declared.words.Control.{Control}
 use Rattle.crq_base.specs.declared.words.Current.{Current}
 use Rattle.crq_base.specs.Words.{IsControl, IsCurrent, current_word}
 use Rattle.crq_base.proofs.WordLaws.{current_one}
+use Rattle.std.specs.VecDeque.{deque_capacity}
+use Rattle.crq_rule.specs.declared.debts.Debts.{Debts}
+use Rattle.crq_rule.specs.declared.debts.SettleDebt.{SettleDebt}
 use Rattle.crq_rule.specs.declared.pass.Pass.{Pass}
 use Rattle.crq_rule.specs.declared.pass.Table.{Table}
+use Rattle.crq_rule.specs.Parts.{NotAfter}
 use Rattle.crq_rule.specs.Places.{index, current}
 use Rattle.crq_rule.specs.Kinds.{makes}
-use Rattle.crq_rule.specs.CurrentKinds.{loads_current, next_position, raises}
-use Rattle.crq_rule.specs.Moves.{FoundCurrent, Lawful, wins}
+use Rattle.crq_rule.specs.CurrentKinds.{next_position, raises, lies_ahead, settles, loads_current, loads_owed, owed_position, owed_shape}
+use Rattle.crq_rule.specs.Moves.{FoundCurrent, FoundOwed, Lawful, wins}
 use Rattle.crq_rule.specs.declared.view.Caller.{Caller}
 use Rattle.crq_rule.specs.Ranks.{bucket, first_tick, shape_of}
 use Rattle.crq_rule.proofs.BucketLaws.{tick_low}
 use Rattle.crq_rule.proofs.Placing.{within}
-use Rattle.crq_rows.specs.Passes.{caller, StaysAside, Turned, Exchanged, load_made, step_made}
-use Rattle.crq_current.specs.Positions.{Viewed, Raised}
+use Rattle.crq_rows.specs.Passes.{caller, IsSeated, IsOwed, IsPassOf, StaysAside, Turned, Turns, Exchanged, Exchanges, load_made, step_made}
+use Rattle.crq_current.specs.Positions.{Viewed, Raised, ViewedOwed, SettledBack}
 
 -- current is a word of the table
 pub current_below : (table : Table) (w : ℕ) → w ≡ index table.start.layout current → w < table.inner.shared.table_id.words
@@ -60,3 +64,77 @@ raised table old new x y word from to found at is_from is_to step = record {
 pub next_number : (x : Control) (y : Current) → IsControl x → y.tick < 2 ^ 32 → (y.tick / 2 ^ x.shift + 1) * 2 ^ x.shift % 2 ^ 64 ≡ (next_position x y).tick
 unfolding bucket first_tick
 next_number x y bits low = let start = tick_low (shape_of x) (y.tick / 2 ^ x.shift) y.tick (le_refl _) in let wide = pow_below x.shift 32 (let s = bits.shift in omega arith) in mod-eq_of_lt (omega arith)
+
+-- a pass that settled its event, or did not, agrees with what is known of its caller
+
+settled_owed : (b : Bool) (d : SettleDebt) (run : Debts) (p : Caller) → IsOwed run p.debts → IsOwed (cond b (record run { settle = None }) run) (cond b (settles d p) p).debts
+settled_owed true d run p o = record { settle = refl; copy = o.copy; cut = o.cut; second_cut = o.second_cut }
+settled_owed false d run p o = o
+
+settled_hand : (b : Bool) (d : SettleDebt) (p : Caller) → (cond b (settles d p) p).hand ≡ p.hand
+settled_hand true d p = refl
+settled_hand false d p = refl
+
+-- the same where the load left nothing but current known
+loaded_owed : (b : Bool) (d : SettleDebt) (y : Current) (run : Debts) (p : Caller) → IsOwed run p.debts → IsOwed (cond b (record run { settle = None }) run) (cond b (settles d p) (loads_current false y p)).debts
+loaded_owed true d y run p o = record { settle = refl; copy = o.copy; cut = o.cut; second_cut = o.second_cut }
+loaded_owed false d y run p o = o
+
+loaded_hand : (b : Bool) (d : SettleDebt) (y : Current) (p : Caller) → (cond b (settles d p) (loads_current false y p)).hand ≡ p.hand
+loaded_hand true d y p = refl
+loaded_hand false d y p = refl
+
+-- a pass whose debts follow what is known of its caller
+follows : (table : Table) (old mid new : Pass) → IsPassOf table old → IsSeated table mid → Lawful (caller table mid) → mid.free ≡ old.free → new ≡ record mid { debts = new.debts } → (caller table new).hand ≡ (caller table old).hand
+    → IsOwed new.debts (caller table new).debts → IsPassOf table new
+follows table old mid new of sits law free same hand owed = record {
+  sits = subst (IsSeated table) (sym same) record { seated = sits.seated; bare = sits.bare; one = sits.one; numbered = sits.numbered; inside = sits.inside; started = sits.started };
+  lawful = subst Lawful (sym (ap (caller table) same)) law;
+  free = ap (λ (q : Pass). q.free.items) same ∙ (ap (λ z. z.items) free ∙ (of.free ∙ sym hand));
+  room = subst (λ z. table.start.layout.home ≤ deque_capacity z) (sym (ap (λ (q : Pass). q.free) same ∙ free)) of.room;
+  debts = owed;
+}
+
+module _ (table : Table) (old mid new : Pass) (d : SettleDebt) (y : Current) (word found : ℕ) (won : Bool) where
+  pub viewed_owed : IsPassOf table old → word ≡ index table.start.layout current → IsCurrent y → current_word y ≡ found → won ≡ lies_ahead d y
+      → Turns table old mid (load_made SettleLoad word found) (FoundOwed d found) → new ≡ record mid { debts = new.debts } → new.debts ≡ cond won (record mid.debts { settle = None }) mid.debts → ViewedOwed table old new d y won
+  viewed_owed of at bits spells is t same debts = let p : Caller = caller table old in let w = t.after.1 in
+      let here : w.current ≡ y = current_one w.current y w.is_current bits (w.word ∙ sym spells) in
+      let part : caller table new ≡ makes (load_made SettleLoad (index table.start.layout current) (current_word y)) (loads_owed d y p) = ap (caller table) same
+      ∙ (t.after.2 ∙ (λ i. makes (load_made SettleLoad (at i) (sym spells i)) ((sym w.after ∙ ap (λ z. loads_owed d z p) here) i))) in
+      let debts' : new.debts ≡ cond won (record old.debts { settle = None }) old.debts = debts ∙ ap (λ (q : Pass). cond won (record q.debts { settle = None }) q.debts) t.same in record {
+        is = follows table old mid new of t.sits t.lawful (ap (λ (q : Pass). q.free) t.same) same (ap (λ (q : Caller). q.hand) part ∙ loaded_hand (lies_ahead d y) d y p)
+            (subst (λ (z : Debts × Debts). IsOwed z.0 z.1) (λ i. ((ap (λ b. cond b (record old.debts { settle = None }) old.debts) (sym is) ∙ sym debts') i, sym (ap (λ (q : Caller). q.debts) part) i)) (loaded_owed (lies_ahead d y) d y old.debts p of.debts));
+        same = same ∙ ap (λ (q : Pass). record q { debts = new.debts }) t.same ∙ (λ i. record old { seat = sym (ap (λ (q : Pass). q.seat) same) i; debts = new.debts });
+        debts = debts';
+        is_current = bits;
+        ahead_is = is;
+        part = part;
+        later = λ x found. subst (NotAfter x) here (w.later x found);
+      }
+
+  pub settled_back : (from to : ℕ) → IsPassOf table old → word ≡ index table.start.layout current → from ≡ current_word y → to ≡ current_word (owed_position d y) → (found == from) ≡ won
+      → Exchanges table old mid (step_made Settle word from to found) (wins (current_word y) (settles d) found) → new ≡ record mid { debts = new.debts } → new.debts ≡ cond won (record mid.debts { settle = None }) mid.debts → SettledBack table old new d y won
+  settled_back from to of at is_from is_to how step same debts = let p : Caller = caller table old in let how' : (found == current_word y) ≡ won = ap (λ z. found == z) (sym is_from) ∙ how in
+      let part : caller table new ≡ makes (step_made Settle (index table.start.layout current) (current_word y) (current_word (owed_position d y)) found) (cond won (settles d p) p) = ap (caller table) same
+      ∙ (step.part ∙ (λ i. makes (step_made Settle (at i) (is_from i) (is_to i) found) (cond (how' i) (settles d p) p))) in
+      let debts' : new.debts ≡ cond won (record old.debts { settle = None }) old.debts = debts ∙ ap (λ (q : Pass). cond won (record q.debts { settle = None }) q.debts) step.same in record {
+        is = follows table old mid new of step.sits step.lawful (ap (λ (q : Pass). q.free) step.same) same (ap (λ (q : Caller). q.hand) part ∙ settled_hand won d p)
+            (subst (λ (z : Debts × Debts). IsOwed z.0 z.1) (λ i. (sym debts' i, sym (ap (λ (q : Caller). q.debts) part) i)) (settled_owed won d old.debts p of.debts));
+        same = same ∙ ap (λ (q : Pass). record q { debts = new.debts }) step.same ∙ (λ i. record old { seat = sym (ap (λ (q : Pass). q.seat) same) i; turns = sym (ap (λ (q : Pass). q.turns) same) i; debts = new.debts });
+        turns = ap (λ (q : Pass). q.turns) same ∙ step.turns;
+        debts = debts';
+        found = found;
+        won_is = how';
+        part = part;
+      }
+
+-- buckets and their first ticks, as shifts of 32 bits give them
+
+pub ahead_number : (d : SettleDebt) (y : Current) → nat_lt (y.tick / 2 ^ d.shift) (d.event.time / 2 ^ d.shift) ≡ lies_ahead d y
+unfolding bucket
+ahead_number d y = refl
+
+pub owed_number : (d : SettleDebt) (y : Current) → d.event.time < 2 ^ 32 → d.event.time / 2 ^ d.shift * 2 ^ d.shift % 2 ^ 32 ≡ (owed_position d y).tick
+unfolding bucket first_tick
+owed_number d y low = let start = tick_low (owed_shape d) (d.event.time / 2 ^ d.shift) d.event.time (le_refl _) in mod-eq_of_lt (omega arith)

@@ -5,4 +5,4 @@
 
 mod steps;
 
-pub use steps::{current_step, next_position, raise_step};
+pub use steps::{current_step, next_position, owed_position, owed_step, raise_step, settle_step};

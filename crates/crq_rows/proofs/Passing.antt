@@ -14,7 +14,7 @@ use Rattle.crq_rule.specs.Kinds.{makes}
 use Rattle.crq_rule.specs.Rule.{Stands}
 use Rattle.crq_rule.specs.Moves.{Moves, MovesBy, By, Lawful, FirstTurns}
 use Rattle.crq_rule.proofs.Glue.{allows, moves_by}
-use Rattle.crq_rows.specs.Passes.{caller, first_part, IsOwed, IsSeated, IsPassOf, StaysAside, Steps, Stepped, Turned, Exchanged, Exchanges, counted}
+use Rattle.crq_rows.specs.Passes.{caller, first_part, IsOwed, IsSeated, IsPassOf, StaysAside, Steps, Stepped, Turned, Turns, Exchanged, Exchanges, counted}
 
 -- the seat after a step
 record Sat (table : Table) (old : Pass) (seat : Seat (Unit {0}) View) (m : Made) (R : Caller → Caller → Type 0) : Type 0 where
@@ -44,6 +44,9 @@ module _ (table : Table) (old : Pass) (seat : Seat (Unit {0}) View) (m : Made) (
         };
         part = part;
       }
+
+  pub turns : IsSeated table old → seat.table_id ≡ old.seat.table_id → seat.id ≡ old.seat.id → FirstTurns R m old.seat.me.0.parts seat.me.0 → seat.me.1 ≡ old.seat.me.1 → Turns table old (record old { seat = seat }) m R
+  turns of table_id id moved bare = let s = sat of table_id moved bare in record { sits = s.sits; lawful = subst Lawful (sym s.part) s.lawful; same = refl; id = id; after = (s.after, s.turns, s.part) }
 
   still_owed : (d e : Debts) (run : Debts) → IsOwed run d → (e ≡ d) ⊎ (e ≡ record d { cut = None }) → IsOwed run e
   still_owed d e run owed how = ⊎_elim (λ q. subst (IsOwed run) (sym q) owed) (λ q. subst (IsOwed run) (sym q) record { settle = owed.settle; copy = owed.copy; cut = inl refl; second_cut = owed.second_cut }) how

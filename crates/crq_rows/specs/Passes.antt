@@ -79,6 +79,14 @@ pub record Turned (table : Table) (old new : Pass) (m : Made) (R : Caller → Ca
   pub id : new.seat.id ≡ old.seat.id
   pub after : (q : Caller) × R (caller table old) q × (caller table new ≡ makes m q)
 
+-- the same, where what the pass has at run time has yet to follow
+pub record Turns (table : Table) (old new : Pass) (m : Made) (R : Caller → Caller → Type 0) : Type 0 where
+  pub sits : IsSeated table new
+  pub lawful : Lawful (caller table new)
+  pub same : new ≡ record old { seat = new.seat }
+  pub id : new.seat.id ≡ old.seat.id
+  pub after : (q : Caller) × R (caller table old) q × (caller table new ≡ makes m q)
+
 -- one more exchange, up to the type's end
 abbrev pub counted : ℕ → ℕ
 counted n = min (n + 1) (2 ^ 32 - 1)

@@ -9,7 +9,7 @@ ghost use Rattle.crq_base.specs.declared.kinds.StepKind.TheVariants.{EpochLoad};
 ghost use Rattle.crq_rule.specs.declared.layout.Start.{Start};
 ghost use Rattle.crq_rule.specs.declared.view.Caller.{Caller};
 ghost use Rattle.crq_rule.specs.Moves.{Lawful, Moves, MovesBy, By, FirstTurns, quiet};
-ghost use Rattle.crq_rows.specs.Passes.{caller, StaysAside, IsAside, IsPassOf, IsSeated, Steps, Stepped, Turned, Exchanged, Exchanges, load_made, store_made, step_made};
+ghost use Rattle.crq_rows.specs.Passes.{caller, StaysAside, IsAside, IsPassOf, IsSeated, Steps, Stepped, Turned, Turns, Exchanged, Exchanges, load_made, store_made, step_made};
 
 use atomic_table::Play;
 use crq_rule::{Pass, Table, View};
@@ -83,6 +83,16 @@ pub fn load_turning<F: Turn, T>(table: &Table, pass: &mut Pass, word: usize, _sa
     requires aside { (r : ℕ) (p q : Caller) → Lawful p → F.turns r p q → StaysAside p q }
     requires moves { MovesBy F.kind table.now.start (caller table.now pass.old) word (λ n. n) F.turns }
     ensures { Turned table.now pass.old pass.new (load_made F.kind word result) (F.turns result) }
+{
+    table.inner.shared.load::<TurnsBy<F>>(&mut pass.seat, word)
+}
+
+/// Loads a word as `load_turning` does, where what the pass has at run time has yet to follow.
+pub fn load_seated<F: Turn, T>(table: &Table, pass: &mut Pass, word: usize, _said: &T) -> u64
+    requires of { IsSeated table.now pass.old }
+    requires word { word < table.now.inner.shared.table_id.words }
+    requires moves { MovesBy F.kind table.now.start (caller table.now pass.old) word (λ n. n) F.turns }
+    ensures { Turns table.now pass.old pass.new (load_made F.kind word result) (F.turns result) }
 {
     table.inner.shared.load::<TurnsBy<F>>(&mut pass.seat, word)
 }

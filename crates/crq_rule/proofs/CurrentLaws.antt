@@ -1,12 +1,9 @@
 -- Steps on current keep the invariant.
-use Rattle.std.proofs.Common.{cond, ◌≡◌, ◌≢◌, ⊎_elim, inl, inr, Bool, true, false, ℕ, ◌<◌, ◌≤◌, List, ◌∷◌, ◌++◌, length, Option, Some, None, sym, refl, ap, ◌∙◌, subst, arith, le_refl}
+use Rattle.std.proofs.Common.{cond, ◌≡◌, inr, Bool, true, false, ℕ, ◌<◌, length, Option, Some, None, sym, refl, ap, ◌∙◌, subst, le_refl}
 use Rattle.std.proofs.lemmas.Option.{same_Some, none-some}
-use Rattle.crq_base.specs.declared.words.Control.{Control}
 use Rattle.crq_base.specs.declared.words.Current.{Current}
-use Rattle.crq_rule.specs.declared.layout.Start.{Start}
 use Rattle.crq_rule.specs.declared.view.Found.{Found}
 use Rattle.crq_rule.specs.declared.view.Sight.{Sight}
-use Rattle.crq_rule.specs.declared.view.Stand.{Stand}
 use Rattle.crq_rule.specs.declared.view.Walk.{Walk}
 use Rattle.crq_rule.specs.Lists.{put}
 use Rattle.crq_rule.specs.Core.{Core}

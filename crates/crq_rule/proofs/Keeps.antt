@@ -1,7 +1,7 @@
 -- Each step of each kind keeps the invariant, changes what its own caller knows alone, and one word at most.
-use Rattle.std.proofs.Common.{◌≡◌, ◌≢◌, ℕ, ◌+◌, ◌*◌, ◌^◌, ◌<◌, Bool, List, [], ◌∷◌, ◌++◌, length, Option, None, Some, sym, refl, ap, append-nil}
+use Rattle.std.proofs.Common.{◌≡◌, ◌≢◌, ℕ, ◌+◌, ◌*◌, ◌^◌, ◌<◌, false, Bool, List, [], ◌∷◌, ◌++◌, length, Option, None, Some, sym, refl, ap, append-nil}
 use Rattle.crq_base.specs.declared.event.Event.{Event}
-use Rattle.crq_base.specs.declared.entry.Entry.TheVariants.{Begin, Take, Miss}
+use Rattle.crq_base.specs.declared.entry.Entry.TheVariants.{Begin, Settled, Take, Miss}
 use Rattle.crq_base.specs.declared.words.Link.{Link}
 use Rattle.crq_base.specs.declared.words.Mark.TheVariants.{Del}
 use Rattle.crq_base.specs.Words.{link_word}
@@ -19,7 +19,7 @@ use Rattle.crq_rule.specs.ScarceParts.{pending}
 use Rattle.crq_rule.specs.Kinds.{tagged, new_base, new_tick, seen_stamp, base_looked, refused_after}
 use Rattle.crq_rule.specs.Ranks.{Cell, at_head, at_row, cell_place, link_at, heads_set, links_set}
 use Rattle.crq_rule.specs.ListKinds.{Content, new_link, no_twin, new_time, new_source, new_sequence, new_load, content_number, content_word, row_place, wrote, link_after, twin_after, event_after, put_entries, name_in, unhanded, forgotten, without_stand, stands_after, walk_after, sight_after, taken_on, sweep_on, clean_on, relieved_names, unnamed_row}
-use Rattle.crq_rule.specs.Steps.{Kind, split, join, epoch_load, recovery_load, enter, confirm, leave, scan, tick, tick_fails, retire, look, claim, write, read, walk, link, link_fails, control_load, current_load, raise, raise_fails, begin, mark, mark_fails, cut, cut_fails, miss, May, After, place_of, entries_of}
+use Rattle.crq_rule.specs.Steps.{Kind, split, join, epoch_load, recovery_load, enter, confirm, leave, scan, tick, tick_fails, retire, look, claim, write, read, walk, link, link_fails, control_load, current_load, raise, raise_fails, settle_now, settle_later, settle, settle_fails, begin, mark, mark_fails, cut, cut_fails, miss, May, After, place_of, entries_of}
 use Rattle.crq_rule.proofs.Puts.{put_else, put_through}
 use Rattle.crq_rule.proofs.GuardLaws.{load_keeps, recovery_keeps, enter_keeps, confirm_keeps, leave_keeps, scan_keeps, tick_keeps, tick_fails_keeps}
 use Rattle.crq_rule.proofs.RowLaws.{retire_keeps, look_keeps, claim_keeps}
@@ -28,9 +28,10 @@ use Rattle.crq_rule.proofs.WalkLaws.{walk_keeps}
 use Rattle.crq_rule.proofs.LinkLaws.{link_keeps}
 use Rattle.crq_rule.proofs.CutLaws.{cut_keeps}
 use Rattle.crq_rule.proofs.MarkLaws.{mark_keeps}
-use Rattle.crq_rule.specs.CurrentKinds.{sight_on}
+use Rattle.crq_rule.specs.CurrentKinds.{sight_on, current_loaded}
 use Rattle.crq_rule.proofs.CurrentLaws.{current_keeps}
 use Rattle.crq_rule.proofs.RaiseLaws.{raise_keeps}
+use Rattle.crq_rule.proofs.SettleLaws.{settled_keeps, settle_keeps}
 use Rattle.crq_rule.proofs.CallLaws.{control_keeps, begin_keeps, miss_keeps}
 
 pub keeps : (k : Kind) (c : Core) (j : ℕ) → j < c.start.layout.workers → May k c j → Inv c → Inv (After k c j)
@@ -56,6 +57,10 @@ keeps control_load c j b may inv = control_keeps c j b inv
 keeps (current_load walks) c j b may inv = current_keeps c j b inv walks may
 keeps (raise x y) c j b may inv = raise_keeps c j x y may.0 may.1 inv
 keeps raise_fails c j b may inv = inv
+keeps (settle_now d) c j b may inv = settled_keeps c j d b may.0 inv
+keeps (settle_later d) c j b may inv = current_keeps c j b inv false tt
+keeps (settle d y) c j b may inv = settle_keeps c j d y b may.0 may.1 inv
+keeps settle_fails c j b may inv = inv
 keeps begin c j b may inv = begin_keeps c j b inv
 keeps (mark r e) c j b may inv = mark_keeps c j r e b may.0 may.1 inv
 keeps (mark_fails r) c j b may inv = inv
@@ -83,6 +88,14 @@ abbrev new_names : Core → ℕ → Cell → DeadNames
 new_names c j cell = let l = link_at c.words.head c.words.link cell in relieved_names (c.found j).control cell (c.rows j) l (c.words.event l.row) (c.named j)
 
 -- what the other callers know stays
+
+others_loaded : (walks : Bool) (c : Core) (j i : ℕ) → i ≢ j → caller_of (current_loaded c j walks) i ≡ caller_of c i
+others_loaded walks c j i ne = λ x. record (caller_of c i) {
+  found = put_else c.found j (record (c.found j) { current = Some c.words.current }) i ne x;
+  sight = put_else c.sight j (sight_on walks (c.found j).control c.words.current) i ne x;
+  walk = put_else c.walk j None i ne x;
+}
+
 pub others_stay : (k : Kind) (c : Core) (j i : ℕ) → i ≢ j → caller_of (After k c j) i ≡ caller_of c i
 others_stay split c j i ne = refl
 others_stay join c j i ne = refl
@@ -128,13 +141,13 @@ others_stay (link cell l r e) c j i ne = λ x. record (caller_of c i) {
 }
 others_stay (link_fails cell) c j i ne = refl
 others_stay control_load c j i ne = λ x. record (caller_of c i) { found = put_else c.found j (record (c.found j) { control = Some c.words.control }) i ne x }
-others_stay (current_load walks) c j i ne = λ x. record (caller_of c i) {
-  found = put_else c.found j (record (c.found j) { current = Some c.words.current }) i ne x;
-  sight = put_else c.sight j (sight_on walks (c.found j).control c.words.current) i ne x;
-  walk = put_else c.walk j None i ne x;
-}
+others_stay (current_load walks) c j i ne = others_loaded walks c j i ne
 others_stay (raise x y) c j i ne = λ z. record (caller_of c i) { walk = put_else c.walk j None i ne z }
 others_stay raise_fails c j i ne = refl
+others_stay (settle_now d) c j i ne = λ z. record (caller_of c i) { own = put_else c.own j (c.own j ++ Settled j d.event ∷ []) i ne z; debts = owed_by (put_else c.settling j None i ne z) (c.copying i) (c.named i) }
+others_stay (settle_later d) c j i ne = others_loaded false c j i ne
+others_stay (settle d y) c j i ne = λ z. record (caller_of c i) { own = put_else c.own j (c.own j ++ Settled j d.event ∷ []) i ne z; debts = owed_by (put_else c.settling j None i ne z) (c.copying i) (c.named i) }
+others_stay settle_fails c j i ne = refl
 others_stay begin c j i ne = λ x. record (caller_of c i) {
   own = put_else c.own j (c.own j ++ Begin j ∷ []) i ne x;
   base = put_else c.base j None i ne x;
@@ -239,6 +252,7 @@ words_stay (retire r t) c j (stamp s) ne = put_else c.words.stamp r (t + 1) s (�
 words_stay (claim r e) c j (stamp s) ne = put_else c.words.stamp r 0 s (λ q. ne (ap stamp q))
 words_stay (write r x) c j p ne = content_stays c.words r x p ne
 words_stay (raise x y) c j current ne = absurd (ne refl)
+words_stay (settle d y) c j current ne = absurd (ne refl)
 words_stay (link cell l r e) c j p ne = cell_stays c.words cell (record l { row = r }) p ne
 words_stay (mark r e) c j (link_place s) ne = ap link_word (put_else c.words.link r (record (c.words.link r) { mark = Del }) s (λ q. ne (ap link_place q)))
 words_stay (cut cell x l) c j p ne = cell_stays c.words cell (record (link_at c.words.head c.words.link cell) { row = l.row }) p ne
@@ -248,6 +262,8 @@ words_stay k c j p ne = refl
 pub history_grows : (k : Kind) (c : Core) (j : ℕ) → (After k c j).history ≡ c.history ++ entries_of k j
 history_grows (link cell l r e) c j = refl
 history_grows begin c j = refl
+history_grows (settle_now d) c j = refl
+history_grows (settle d y) c j = refl
 history_grows (mark r e) c j = refl
 history_grows (miss limit) c j = refl
 history_grows (enter e) c j = sym (append-nil c.history)

@@ -28,6 +28,7 @@ pub mod CallLaws
 pub mod BucketLaws
 pub mod CurrentLaws
 pub mod RaiseLaws
+pub mod SettleLaws
 pub mod AheadLaws
 pub mod ListOpening
 pub mod Frames

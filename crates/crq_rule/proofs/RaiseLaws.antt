@@ -1,11 +1,11 @@
 -- A take that moves current on to the next bucket keeps the invariant, and passes no settled event.
-use Rattle.std.proofs.Common.{◌≡◌, ⊎_elim, inl, inr, ℕ, ◌+◌, ◌<◌, ◌≤◌, List, take, drop, Some, None, sym, ap, ◌∙◌, subst, arith, le_refl}
+use Rattle.std.proofs.Common.{◌≡◌, ⊎_elim, inl, inr, ℕ, ◌+◌, ◌<◌, ◌≤◌, take, drop, Some, None, sym, ap, ◌∙◌, subst, arith}
 use Rattle.std.proofs.lemmas.List.{take-append-drop}
 use Rattle.std.specs.List.{Contains}
 use Rattle.crq_base.specs.declared.event.Event.{Event}
 use Rattle.crq_base.specs.declared.words.Control.{Control}
 use Rattle.crq_base.specs.declared.words.Current.{Current}
-use Rattle.crq_base.specs.Histories.{put_of, puts, settleds, outs}
+use Rattle.crq_base.specs.Histories.{put_of, puts, outs}
 use Rattle.crq_rule.specs.Lists.{put}
 use Rattle.crq_rule.specs.Core.{Core, caller_of}
 use Rattle.crq_rule.specs.Parts.{NotAfter}

@@ -19,6 +19,8 @@ use Rattle.crq_rule.specs.Ranks.{Shape, list_in, head_of, IsHeadIn, IsOpen}
 use Rattle.crq_rule.specs.ListParts.{IsShut, IsOldMark, IsOldHead, IsNewHead}
 use Rattle.crq_rule.specs.Steady.{Steady}
 use Rattle.crq_rule.specs.Invariant.{Inv}
+use Rattle.crq_rule.specs.Lists.{put}
+use Rattle.crq_rule.proofs.Puts.{put_all}
 use Rattle.crq_rule.proofs.HeadLaws.{carries_kept}
 use Rattle.crq_rule.proofs.SizeLaws.{fitting_list}
 
@@ -63,6 +65,19 @@ module _ (start : Start) (control : Control) (link : ℕ → Link) (holding : �
     named = λ k d b has. ⊎_elim (old.named k d b) (λ of. of.3 ∙ old.rows of.0 of.1 of.2) (was k d b has);
     single = λ k b. alone k b (old.single k b);
     settled = old.settled;
+  }
+
+  -- an event isn't owed any more
+  pub steady_settled : (j : ℕ) → Steady start control link holding names settling → Steady start control link holding names (put settling j None)
+  steady_settled j old = record {
+    still = old.still;
+    first = old.first;
+    one = old.one;
+    rows = old.rows;
+    marks = old.marks;
+    named = old.named;
+    single = old.single;
+    settled = put_all settling j None (λ k o. k < start.layout.workers → o ≡ None) (λ _. refl) (λ k _. old.settled k);
   }
 
 module _ (c : Core) (inv : Inv c) where

@@ -48,6 +48,13 @@ module _ (n : ℕ) (history : List Entry) (settling : ℕ → Option SettleDebt)
     );
   }
 
+  -- fewer events are owed
+  pub walkers_owing : (settling' : ℕ → Option SettleDebt) → ((i : ℕ) (d : SettleDebt) → settling' i ≡ Some d → settling i ≡ Some d) → Walkers n history settling takes link event → Walkers n history settling' takes link event
+  walkers_owing settling' was old = record {
+    seen = λ k s b is. let v = old.seen k s b is in record { after = v.after; owed = λ i d c owes less. v.owed i d c (was i d owes) less };
+    walked = old.walked;
+  }
+
   -- links and events change. What stands from a row on which a caller stands does so still, unless it is out
   pub walkers_links : (link' : ℕ → Link) (event' : ℕ → Event) → ((k r : ℕ) → k < n → In r (rows_of (takes.rows k)) → (link' r).generation ≡ (link r).generation)
       → ((k g at : ℕ) (e : Event) → k < n → In at (rows_of (takes.rows k)) → (Contains (outs history) e → ⊥) → StandsFrom link event g at e → StandsFrom link' event' g at e)

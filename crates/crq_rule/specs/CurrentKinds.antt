@@ -1,16 +1,18 @@
 -- What each kind of step on current does to what its caller knows, and to the core state.
-use Rattle.std.specs.Prelude.{cond, ◌≡◌, ◌⊎◌, Bool, true, false, ℕ, ◌+◌, ◌^◌, ◌<◌, List, length, Option, Some, None}
+use Rattle.std.specs.Prelude.{cond, ◌≡◌, ◌⊎◌, Bool, true, false, ℕ, ◌+◌, ◌^◌, ◌<◌, nat_lt, List, [], ◌∷◌, ◌++◌, length, Option, Some, None}
 use Rattle.crq_base.specs.declared.event.Event.{Event}
 use Rattle.crq_base.specs.declared.entry.Entry.{Entry}
+use Rattle.crq_base.specs.declared.entry.Entry.TheVariants.{Settled}
 use Rattle.crq_base.specs.declared.words.Control.{Control}
 use Rattle.crq_base.specs.declared.words.Current.{Current}
+use Rattle.crq_rule.specs.declared.debts.SettleDebt.{SettleDebt}
 use Rattle.crq_rule.specs.declared.view.Sight.{Sight}
 use Rattle.crq_rule.specs.declared.view.Walk.{Walk}
 use Rattle.crq_rule.specs.declared.view.Caller.{Caller}
 use Rattle.crq_rule.specs.Lists.{put}
 use Rattle.crq_rule.specs.Core.{Core}
 use Rattle.crq_rule.specs.HistoryParts.{EndsInBegin}
-use Rattle.crq_rule.specs.Ranks.{bucket, first_tick, head_for, shape_of}
+use Rattle.crq_rule.specs.Ranks.{Shape, bucket, first_tick, head_for, shape_of}
 use Rattle.crq_rule.specs.ListKinds.{StandsOn, table_seen}
 
 -- CurrentLoad: current was found to be y. A take that is to walk loads it for the table whose control word it found, and has read that table since; any other load leaves what was read of a table behind
@@ -50,3 +52,39 @@ pub record MayRaise (x : Control) (y : Current) (p : Caller) : Type 0 where
   pub sight : p.sight ≡ Some (record { table = x; current = Some y })
   pub walks : (w : Walk) × (p.walk ≡ Some w) × (w.head ≡ head_for x.generation (shape_of x) (bucket (shape_of x) y.tick)) × ((w.at ≡ 0) ⊎ ((e : Event) × StandsOn p.position.rows w.at e × (bucket (shape_of x) y.tick < bucket (shape_of x) e.time)))
   pub room : (next_position x y).tick < 2 ^ 32
+
+-- An event that is owed is settled once current isn't behind it
+
+-- the shape by which the table of a debt has its buckets. Of that table the debt knows their width alone
+abbrev pub owed_shape : SettleDebt → Shape
+owed_shape d = record { log = 0; shift = d.shift }
+
+-- the event lies in a later bucket than current
+abbrev pub lies_ahead : SettleDebt → Current → Bool
+lies_ahead d y = nat_lt (bucket (owed_shape d) y.tick) (bucket (owed_shape d) d.event.time)
+
+abbrev pub settles : SettleDebt → Caller → Caller
+settles d p = record p { own = p.own ++ Settled p.number d.event ∷ []; debts = record p.debts { settle = None } }
+
+abbrev pub event_settled : Core → ℕ → SettleDebt → Core
+event_settled c j d = record c { history = c.history ++ Settled j d.event ∷ []; own = put c.own j (c.own j ++ Settled j d.event ∷ []); settling = put c.settling j None }
+
+-- SettleLoad: current was found to be y. An event that lies ahead of it is settled with that, and else the load is one of current alone
+
+abbrev pub loads_owed : SettleDebt → Current → Caller → Caller
+loads_owed d y p = cond (lies_ahead d y) (settles d p) (loads_current false y p)
+
+-- Settle: current goes from y back to the event's bucket, or to the beginning of its own, under the next epoch
+
+abbrev pub owed_position : SettleDebt → Current → Current
+owed_position d y = record { epoch = y.epoch + 1; tick = first_tick (owed_shape d) (bucket (owed_shape d) d.event.time) }
+
+abbrev pub settled_back : Core → ℕ → SettleDebt → Current → Core
+settled_back c j d y = record (event_settled c j d) { words = record c.words { current = owed_position d y } }
+
+-- a caller that owes the event moves current back, where the event doesn't lie ahead of it, and current has an epoch left
+pub record MaySettle (d : SettleDebt) (y : Current) (p : Caller) : Type 0 where
+  pub owes : p.debts.settle ≡ Some d
+  pub behind : lies_ahead d y ≡ false
+  pub time : d.event.time < 2 ^ 32
+  pub room : y.epoch + 1 < 2 ^ 32

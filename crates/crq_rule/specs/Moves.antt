@@ -12,6 +12,7 @@ use Rattle.crq_base.specs.Lists.{In}
 use Rattle.crq_rule.specs.declared.view.Sight.{Sight}
 use Rattle.crq_rule.specs.declared.view.Stand.{Stand}
 use Rattle.crq_rule.specs.declared.debts.CutDebt.{CutDebt}
+use Rattle.crq_rule.specs.declared.debts.SettleDebt.{SettleDebt}
 use Rattle.crq_rule.specs.declared.view.CutRow.{CutRow}
 use Rattle.crq_rule.specs.declared.view.Base.{Base}
 use Rattle.crq_rule.specs.declared.view.Made.{Made}
@@ -24,7 +25,7 @@ use Rattle.crq_rule.specs.Invariant.{Inv}
 use Rattle.crq_rule.specs.Kinds.{FoundNoRow, makes, new_base, loads_based}
 use Rattle.crq_rule.specs.Ranks.{rank, head_of, IsOpen, Cell, at_head, at_row}
 use Rattle.crq_rule.specs.ListKinds.{StandsOn, walks}
-use Rattle.crq_rule.specs.CurrentKinds.{loads_current}
+use Rattle.crq_rule.specs.CurrentKinds.{loads_current, loads_owed}
 use Rattle.crq_rule.specs.Steps.{Kind, May, After, kind_of}
 use Rattle.crq_rule.specs.Rule.{IsWords}
 
@@ -107,6 +108,14 @@ pub record FoundCurrent (walks : Bool) (found : ℕ) (p q : Caller) : Type 0 whe
   pub after : loads_current walks current p ≡ q
   pub later : (x : Current) → p.found.current ≡ Some x → NotAfter x current
   pub seen : (s : Sight) (x : Current) → p.sight ≡ Some s → s.current ≡ Some x → NotAfter x current
+
+-- current was found by a caller that owes an event, which is settled with that, or else isn't ahead of current
+pub record FoundOwed (d : SettleDebt) (found : ℕ) (p q : Caller) : Type 0 where
+  pub current : Current
+  pub is_current : IsCurrent current
+  pub word : current_word current ≡ found
+  pub after : loads_owed d current p ≡ q
+  pub later : (x : Current) → p.found.current ≡ Some x → NotAfter x current
 
 -- the epoch r was found: it isn't below any that the caller read, nor below an announcement that it scanned
 pub record TellsEpoch (r : ℕ) (p : Caller) : Type 0 where

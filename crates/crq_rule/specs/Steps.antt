@@ -1,13 +1,14 @@
 -- One step of any kind, on core states: when it may come, and what it leaves.
-use Rattle.std.specs.Prelude.{◌≡◌, true, ℕ, ◌<◌, ◌^◌, Bool, List, [], ◌∷◌, None}
+use Rattle.std.specs.Prelude.{◌≡◌, true, false, ℕ, ◌<◌, ◌^◌, Bool, List, [], ◌∷◌, Some, None}
 use Rattle.crq_base.specs.declared.kinds.StepKind.{StepKind}
-use Rattle.crq_base.specs.declared.kinds.StepKind.TheVariants.{Split, Join, EpochLoad, Enter, Confirm, Leave, Scan, Tick, Retire, Look, Claim, Write, Read, ControlLoad, CurrentLoad, Raise, Begin, Walk, Link as LinkKind, Mark, Cut, Miss}
+use Rattle.crq_base.specs.declared.kinds.StepKind.TheVariants.{Split, Join, EpochLoad, Enter, Confirm, Leave, Scan, Tick, Retire, Look, Claim, Write, Read, ControlLoad, CurrentLoad, SettleLoad, Settle, Raise, Begin, Walk, Link as LinkKind, Mark, Cut, Miss}
 use Rattle.crq_base.specs.declared.event.Event.{Event}
 use Rattle.crq_base.specs.declared.words.Link.{Link}
 use Rattle.crq_base.specs.declared.words.Control.{Control}
 use Rattle.crq_base.specs.declared.words.Current.{Current}
 use Rattle.crq_base.specs.declared.entry.Entry.{Entry}
-use Rattle.crq_base.specs.declared.entry.Entry.TheVariants.{Begin as BeginEntry, Take as TakeEntry, Miss as MissEntry}
+use Rattle.crq_base.specs.declared.entry.Entry.TheVariants.{Begin as BeginEntry, Settled as SettledEntry, Take as TakeEntry, Miss as MissEntry}
+use Rattle.crq_rule.specs.declared.debts.SettleDebt.{SettleDebt}
 use Rattle.crq_rule.specs.declared.view.Guard.TheVariants.{Off}
 use Rattle.crq_base.specs.declared.words.Mark.TheVariants.{Val}
 use Rattle.crq_base.specs.Lists.{In}
@@ -16,7 +17,7 @@ use Rattle.crq_rule.specs.Parts.{IsOn}
 use Rattle.crq_rule.specs.Ranks.{Cell, cell_place, link_at}
 use Rattle.crq_rule.specs.Core.{Core, caller_of}
 use Rattle.crq_rule.specs.Kinds.{epoch_loaded, recovery_begun, entered, confirmed, left, scanned, ticked, tick_failed, retired_at, looked, claimed, HasScanned, IsEntering, MayRetire, IsRipe}
-use Rattle.crq_rule.specs.CurrentKinds.{current_loaded, raised, MayView, MayRaise}
+use Rattle.crq_rule.specs.CurrentKinds.{current_loaded, raised, lies_ahead, event_settled, settled_back, MayView, MayRaise, MaySettle}
 use Rattle.crq_rule.specs.ListKinds.{is_cell, Content, IsContent, content_number, row_place, written_at, walked_from, linked, put_entries, control_loaded, begun_by, marked, cut_from, missed, StandsOn, MayWalk, MaySeek, MayLink, MayMark, MayCut, MayMiss}
 
 -- the kinds of step with their operands; an exchange that fails is a case of its own. Splitting and joining move parts of views from seat to seat, and leave the core state
@@ -43,6 +44,10 @@ pub data Kind : Type 0 where
   current_load : Bool → Kind
   raise : Control → Current → Kind
   raise_fails : Kind
+  settle_now : SettleDebt → Kind
+  settle_later : SettleDebt → Kind
+  settle : SettleDebt → Current → Kind
+  settle_fails : Kind
   begin : Kind
   mark : ℕ → Event → Kind
   mark_fails : ℕ → Kind
@@ -74,6 +79,10 @@ May control_load c j = Unit {0}
 May (current_load walks) c j = MayView (c.own j) (c.found j).control walks
 May (raise x y) c j = MayRaise x y (caller_of c j) × (c.words.current ≡ y)
 May raise_fails c j = Unit {0}
+May (settle_now d) c j = (c.settling j ≡ Some d) × (lies_ahead d c.words.current ≡ true)
+May (settle_later d) c j = (c.settling j ≡ Some d) × (lies_ahead d c.words.current ≡ false)
+May (settle d y) c j = MaySettle d y (caller_of c j) × (c.words.current ≡ y)
+May settle_fails c j = Unit {0}
 May begin c j = Unit {0}
 May (mark r e) c j = ((x : Control) × MayMark x r e (caller_of c j)) × ((c.words.link r).mark ≡ Val)
 May (mark_fails r) c j = Unit {0}
@@ -105,6 +114,10 @@ After control_load c j = control_loaded c j
 After (current_load walks) c j = current_loaded c j walks
 After (raise x y) c j = raised c j x y
 After raise_fails c j = c
+After (settle_now d) c j = event_settled c j d
+After (settle_later d) c j = current_loaded c j false
+After (settle d y) c j = settled_back c j d y
+After settle_fails c j = c
 After begin c j = begun_by c j
 After (mark r e) c j = marked c j r e
 After (mark_fails r) c j = c
@@ -136,6 +149,10 @@ place_of control_load j = control
 place_of (current_load walks) j = current
 place_of (raise x y) j = current
 place_of raise_fails j = current
+place_of (settle_now d) j = current
+place_of (settle_later d) j = current
+place_of (settle d y) j = current
+place_of settle_fails j = current
 place_of begin j = control
 place_of (mark r e) j = link_place r
 place_of (mark_fails r) j = link_place r
@@ -167,6 +184,10 @@ kind_of control_load = ControlLoad
 kind_of (current_load walks) = CurrentLoad
 kind_of (raise x y) = Raise
 kind_of raise_fails = Raise
+kind_of (settle_now d) = SettleLoad
+kind_of (settle_later d) = SettleLoad
+kind_of (settle d y) = Settle
+kind_of settle_fails = Settle
 kind_of begin = Begin
 kind_of (mark r e) = Mark
 kind_of (mark_fails r) = Mark
@@ -178,6 +199,8 @@ kind_of (miss limit) = Miss
 abbrev pub entries_of : Kind → ℕ → List Entry
 entries_of (link cell l r e) j = put_entries j e
 entries_of begin j = BeginEntry j ∷ []
+entries_of (settle_now d) j = SettledEntry j d.event ∷ []
+entries_of (settle d y) j = SettledEntry j d.event ∷ []
 entries_of (mark r e) j = TakeEntry j e ∷ []
 entries_of (miss limit) j = MissEntry j limit ∷ []
 entries_of _ j = []

@@ -1,4 +1,4 @@
-use Rattle.std.proofs.Common.{◌≡◌, ℕ, ◌+◌, ◌*◌, ◌/◌, ◌%◌, ◌^◌, ◌≤◌, ap, ◌∙◌, arith}
+use Rattle.std.proofs.Common.{◌≡◌, ◌+◌, ◌*◌, ◌/◌, ◌%◌, ◌^◌, ap, ◌∙◌, arith}
 use Rattle.crq_rule.specs.CurrentKinds.{next_position}
 use Rattle.crq_current.proofs.StepLaws.{next_number}
 use Rattle.crq_current.proofs.steps.next_position.Goals as goal
