@@ -15,7 +15,7 @@ use Rattle.crq_rule.specs.declared.pass.Table.{Table}
 use Rattle.crq_rule.specs.Parts.{NotAfter}
 use Rattle.crq_rule.specs.Places.{index, current}
 use Rattle.crq_rule.specs.Kinds.{makes}
-use Rattle.crq_rule.specs.CurrentKinds.{next_position, raises, lies_ahead, settles, loads_current, loads_owed, owed_position, owed_shape}
+use Rattle.crq_rule.specs.CurrentKinds.{next_position, raises, lies_ahead, settles, settles_back, loads_current, loads_owed, owed_position, owed_shape}
 use Rattle.crq_rule.specs.Moves.{FoundCurrent, FoundOwed, Lawful, wins}
 use Rattle.crq_rule.specs.declared.view.Caller.{Caller}
 use Rattle.crq_rule.specs.Ranks.{bucket, first_tick, shape_of}
@@ -67,11 +67,11 @@ next_number x y bits low = let start = tick_low (shape_of x) (y.tick / 2 ^ x.shi
 
 -- a pass that settled its event, or did not, agrees with what is known of its caller
 
-settled_owed : (b : Bool) (d : SettleDebt) (run : Debts) (p : Caller) → IsOwed run p.debts → IsOwed (cond b (record run { settle = None }) run) (cond b (settles d p) p).debts
+settled_owed : (b : Bool) (d : SettleDebt) (run : Debts) (p : Caller) → IsOwed run p.debts → IsOwed (cond b (record run { settle = None }) run) (cond b (settles_back d p) p).debts
 settled_owed true d run p o = record { settle = refl; copy = o.copy; cut = o.cut; second_cut = o.second_cut }
 settled_owed false d run p o = o
 
-settled_hand : (b : Bool) (d : SettleDebt) (p : Caller) → (cond b (settles d p) p).hand ≡ p.hand
+settled_hand : (b : Bool) (d : SettleDebt) (p : Caller) → (cond b (settles_back d p) p).hand ≡ p.hand
 settled_hand true d p = refl
 settled_hand false d p = refl
 
@@ -114,10 +114,10 @@ module _ (table : Table) (old mid new : Pass) (d : SettleDebt) (y : Current) (wo
       }
 
   pub settled_back : (from to : ℕ) → IsPassOf table old → word ≡ index table.start.layout current → from ≡ current_word y → to ≡ current_word (owed_position d y) → (found == from) ≡ won
-      → Exchanges table old mid (step_made Settle word from to found) (wins (current_word y) (settles d) found) → new ≡ record mid { debts = new.debts } → new.debts ≡ cond won (record mid.debts { settle = None }) mid.debts → SettledBack table old new d y won
+      → Exchanges table old mid (step_made Settle word from to found) (wins (current_word y) (settles_back d) found) → new ≡ record mid { debts = new.debts } → new.debts ≡ cond won (record mid.debts { settle = None }) mid.debts → SettledBack table old new d y won
   settled_back from to of at is_from is_to how step same debts = let p : Caller = caller table old in let how' : (found == current_word y) ≡ won = ap (λ z. found == z) (sym is_from) ∙ how in
-      let part : caller table new ≡ makes (step_made Settle (index table.start.layout current) (current_word y) (current_word (owed_position d y)) found) (cond won (settles d p) p) = ap (caller table) same
-      ∙ (step.part ∙ (λ i. makes (step_made Settle (at i) (is_from i) (is_to i) found) (cond (how' i) (settles d p) p))) in
+      let part : caller table new ≡ makes (step_made Settle (index table.start.layout current) (current_word y) (current_word (owed_position d y)) found) (cond won (settles_back d p) p) = ap (caller table) same
+      ∙ (step.part ∙ (λ i. makes (step_made Settle (at i) (is_from i) (is_to i) found) (cond (how' i) (settles_back d p) p))) in
       let debts' : new.debts ≡ cond won (record old.debts { settle = None }) old.debts = debts ∙ ap (λ (q : Pass). cond won (record q.debts { settle = None }) q.debts) step.same in record {
         is = follows table old mid new of step.sits step.lawful (ap (λ (q : Pass). q.free) step.same) same (ap (λ (q : Caller). q.hand) part ∙ settled_hand won d p)
             (subst (λ (z : Debts × Debts). IsOwed z.0 z.1) (λ i. (sym debts' i, sym (ap (λ (q : Caller). q.debts) part) i)) (settled_owed won d old.debts p of.debts));

@@ -11,7 +11,7 @@ use Rattle.crq_rule.specs.declared.view.Sight.{Sight}
 use Rattle.crq_rule.specs.Parts.{NotAfter}
 use Rattle.crq_rule.specs.Places.{index, current}
 use Rattle.crq_rule.specs.Kinds.{makes}
-use Rattle.crq_rule.specs.CurrentKinds.{loads_current, next_position, raises, lies_ahead, settles, loads_owed, owed_position}
+use Rattle.crq_rule.specs.CurrentKinds.{loads_current, next_position, raises, lies_ahead, settles_back, loads_owed, owed_position}
 use Rattle.crq_rows.specs.Passes.{caller, IsPassOf, load_made, step_made, counted}
 
 -- current was found to be y, which isn't before any that the caller found, or saw as its take began
@@ -42,7 +42,7 @@ pub record ViewedOwed (table : Table) (old new : Pass) (d : SettleDebt) (y : Cur
   pub part : caller table new ≡ makes (load_made SettleLoad (index table.start.layout current) (current_word y)) (loads_owed d y (caller table old))
   pub later : (x : Current) → (caller table old).found.current ≡ Some x → NotAfter x y
 
--- an exchange of current from y to the bucket of the event that is owed was made; it won, and the event is settled, or it found another word
+-- an exchange of current from y to the bucket of the event that is owed was made; it won, and the event is settled and the permit gone, or it found another word
 pub record SettledBack (table : Table) (old new : Pass) (d : SettleDebt) (y : Current) (won : Bool) : Type 0 where
   pub is : IsPassOf table new
   pub same : new ≡ record old { seat = new.seat; turns = new.turns; debts = new.debts }
@@ -50,4 +50,4 @@ pub record SettledBack (table : Table) (old new : Pass) (d : SettleDebt) (y : Cu
   pub debts : new.debts ≡ cond won (record old.debts { settle = None }) old.debts
   pub found : ℕ
   pub won_is : (found == current_word y) ≡ won
-  pub part : caller table new ≡ makes (step_made Settle (index table.start.layout current) (current_word y) (current_word (owed_position d y)) found) (cond won (settles d (caller table old)) (caller table old))
+  pub part : caller table new ≡ makes (step_made Settle (index table.start.layout current) (current_word y) (current_word (owed_position d y)) found) (cond won (settles_back d (caller table old)) (caller table old))

@@ -46,6 +46,7 @@ lawful_spanned n p l = record {
   scarce = l.scarce;
   one_name = l.one_name;
   sighted = l.sighted;
+  permitted = l.permitted;
   controlled = l.controlled;
 }
 

@@ -112,6 +112,7 @@ lawful_settled h p l = record {
   scarce = l.scarce;
   one_name = l.one_name;
   sighted = l.sighted;
+  permitted = l.permitted;
   controlled = l.controlled;
 }
 

@@ -1,4 +1,5 @@
 -- The passes of a new table.
+use Rattle.std.proofs.lemmas.Bool.{false≢true}
 use Rattle.std.proofs.Common.{◌≡◌, inl, ℕ, zero, suc, ◌+◌, ◌*◌, ◌<◌, List, [], ◌∷◌, length, None, Some, sym, refl, ap, ◌∙◌, subst, arith}
 use lib.ListN.{get_elem?}
 use Rattle.atomic_table.specs.declared.shared.Seat.{Seat}
@@ -45,6 +46,7 @@ fresh_lawful start n b = record {
   one_name = refl;
   scarce = λ b vain. absurd (none_base b vain.0);
   sighted = λ s is. absurd (no_sight s is);
+  permitted = λ x has _. absurd (false≢true has);
   controlled = λ x is. absurd (none_control x is);
 }
 

@@ -68,7 +68,7 @@ carriers_same l history x link twin event holding none kept old = record {
 
 -- the control word was loaded
 pub control_keeps : (c : Core) (j : ℕ) → j < c.start.layout.workers → Inv c → Inv (control_loaded c j)
-control_keeps c j b inv = frame_found c (control_loaded c j) inv (finds_control _ _ _ _ _ _ j inv.sizes.now inv.finds) inv.walkers
+control_keeps c j b inv = frame_found c (control_loaded c j) inv (finds_control _ _ _ _ _ _ j inv.sizes.now inv.finds) inv.walkers inv.bounds
 
 -- a caller that begins anew has read no table
 finds_begun : (start : Start) (control : Control) (shape : ℕ → Shape) (current : Current) (found : ℕ → Found) (sight : ℕ → Option Sight) (j : ℕ)
@@ -95,6 +95,7 @@ begin_keeps c j b inv = frame_entry c (begun_by c j) inv
     (scarce_drop _ _ _ _ _ _ _ _ j (λ k x _ ne. base_grown _ _ _ _ _ _ k x (other_begin j k ne)) inv.scarce)
     (refusals_put _ _ _ _ j [] (λ _. none_counted (c.history ++ Begin j ∷ []) j) (λ k ne. counted_grown _ _ k (c.refused k) (other_begin j k ne)) inv.refusals)
     (swept_begun _ _ _ _ _ _ j (λ k ne. other_begin j k ne) inv.swept)
+    inv.bounds
 
 -- what a search that comes to its end or to the limit left is taken
 miss_legal : (c : Core) (j limit : ℕ) → j < c.start.layout.workers → ((x : Control) × MayMiss x limit (caller_of c j)) → Inv c → MayFollow c.history (Miss j limit)
@@ -121,3 +122,4 @@ miss_keeps c j limit b may inv = frame_entry c (missed c j limit) inv
     (scarce_grown _ _ _ _ _ _ _ (λ k. no_begin j limit k) inv.scarce)
     (refusals_grown _ _ _ _ (λ k. no_begin j limit k) inv.refusals)
     (swept_grown _ _ _ _ _ _ _ (λ k. no_begin j limit k) inv.swept)
+    inv.bounds

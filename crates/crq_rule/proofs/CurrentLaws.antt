@@ -13,6 +13,7 @@ use Rattle.crq_rule.specs.ListKinds.{table_seen}
 use Rattle.crq_rule.specs.CurrentKinds.{sight_on, current_loaded, MayView}
 use Rattle.crq_rule.specs.Invariant.{takes_of, Inv}
 use Rattle.crq_rule.proofs.Puts.{put_here, put_else, put_all}
+use Rattle.crq_rule.proofs.BoundLaws.{bounds_loaded}
 use Rattle.crq_rule.proofs.Frames.{frame_found}
 use Rattle.crq_rule.proofs.SteadyLaws.{none_owed}
 use Rattle.crq_rule.proofs.WalkerLaws.{walkers_at}
@@ -58,3 +59,4 @@ module _ (c : Core) (j : ℕ) (b : j < c.start.layout.workers) (inv : Inv c) whe
       (λ k ne i. (c.begun k, put_else c.read j read k ne i, put_else c.sight j sight k ne i, put_else c.walk j None k ne i, c.rows k))
       (λ s _ is. subst (λ r. Sees c.start.layout.workers c.history c.settling (c.begun j) r s) (sym (put_here c.read j read)) (sees_since walks may s (sym (put_here c.sight j sight) ∙ is)))
       (λ w _ is. absurd (none_walk w (sym (put_here c.walk j None) ∙ is))) inv.walkers)
+      (bounds_loaded c.start.layout.workers c.words.current c.permit j (let few = c.start.layout.few in few.1) inv.bounds)

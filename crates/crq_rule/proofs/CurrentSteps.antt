@@ -14,7 +14,7 @@ use Rattle.crq_rule.specs.declared.layout.Start.{Start}
 use Rattle.crq_rule.specs.declared.view.Caller.{Caller}
 use Rattle.crq_rule.specs.Places.{index, current}
 use Rattle.crq_rule.specs.Core.{Core, caller_of, owed_by}
-use Rattle.crq_rule.specs.CurrentKinds.{sight_on, next_position, raises, lies_ahead, settles, loads_current, loads_owed, owed_position, MayView, MayRaise, MaySettle}
+use Rattle.crq_rule.specs.CurrentKinds.{sight_on, next_position, raises, lies_ahead, permit_after, settles, settles_back, loads_current, loads_owed, owed_position, MayView, MayRaise, MaySettle}
 use Rattle.crq_rule.specs.Steps.{Kind, current_load, raise, raise_fails, settle_now, settle_later, settle, settle_fails, May, kind_of, After}
 use Rattle.crq_rule.specs.Moves.{MovesBy, By, FoundCurrent, FoundOwed, wins, quiet}
 use Rattle.crq_rule.specs.Rule.{IsWords}
@@ -38,6 +38,7 @@ module _ (key : Start) (p : Caller) where
       word = refl;
       after = λ i. record (caller_of c j) {
         found = sym (put_here c.found j (record (c.found j) { current = Some c.words.current })) i;
+        permit = sym (put_here c.permit j (permit_after c.words.current (c.permit j))) i;
         sight = sym (put_here c.sight j (sight_on walks (c.found j).control c.words.current)) i;
         walk = sym (put_here c.walk j None) i;
       };
@@ -64,6 +65,7 @@ module _ (key : Start) (p : Caller) where
   loaded_so : (c : Core) → loads_current false c.words.current (caller_of c j) ≡ caller_of (After (current_load false) c j) j
   loaded_so c = λ i. record (caller_of c j) {
     found = sym (put_here c.found j (record (c.found j) { current = Some c.words.current })) i;
+    permit = sym (put_here c.permit j (permit_after c.words.current (c.permit j))) i;
     sight = sym (put_here c.sight j None) i;
     walk = sym (put_here c.walk j None) i;
   }
@@ -101,12 +103,12 @@ module _ (key : Start) (p : Caller) where
       )
 
   pub settle_moves : (d : SettleDebt) (y : Current) → IsCurrent y → MaySettle d y p
-      → MovesBy Settle key p (index key.layout current) (λ w. either (eqb w (current_word y)) (current_word (owed_position d y)) w) (By (wins (current_word y) (settles d)) quiet)
+      → MovesBy Settle key p (index key.layout current) (λ w. either (eqb w (current_word y)) (current_word (owed_position d y)) w) (By (wins (current_word y) (settles_back d)) quiet)
   settle_moves d y bits may c ws inv words b is = let w = index key.layout current in let new = current_word (owed_position d y) in
       let may' : MaySettle d y (caller_of c j) = subst (MaySettle d y) is may in let at = words.shows.each current tt in
       dite (ℕ_discrete (get_or ws w 0) (current_word y))
       (λ hit. let found : c.words.current ≡ y = current_one c.words.current y inv.spelled.is_current bits (sym at ∙ hit) in
-      won key p Settle (settle d y) w (current_word y) new (settles d) refl c ws (may', found) is hit
+      won key p Settle (settle d y) w (current_word y) new (settles_back d) refl c ws (may', found) is hit
       (words_after key (settle d y) c j ws new tt refl words)
-      (settled_so c d))
-      (λ apart. lost key p Settle settle_fails w (current_word y) new (settles d) refl (λ _. tt) (λ _. refl) c ws words is apart)
+      (λ i. record (settled_so c d i) { permit = sym (put_here c.permit j false) i }))
+      (λ apart. lost key p Settle settle_fails w (current_word y) new (settles_back d) refl (λ _. tt) (λ _. refl) c ws words is apart)

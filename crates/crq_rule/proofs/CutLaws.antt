@@ -468,6 +468,7 @@ module _ (c : Core) (j : ℕ) (cell : Cell) (x : ℕ) (l : Link) (b : j < c.star
     naming = naming_part;
     carriers = carriers_part;
     told = inv.told;
+    bounds = inv.bounds;
     settling = inv.settling;
     walkers = walkers_part;
     scarce = scarce_lasts _ _ _ _ _ _ _ _ _ (le_refl _) (λ k inside. lasts_held _ _ _ _ x (cut_by j) k (λ g _ _. subst (IsLate c.guard g) (sym was) tt)

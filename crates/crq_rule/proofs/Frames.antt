@@ -1,5 +1,5 @@
 -- The frame laws. A step that changes only the components of one concern keeps all parts that read none of them as they stand.
-use Rattle.std.proofs.Common.{ℕ, List, Option}
+use Rattle.std.proofs.Common.{ℕ, Bool, List, Option}
 use Rattle.crq_base.specs.declared.event.Event.{Event}
 use Rattle.crq_base.specs.declared.words.Current.{Current}
 use Rattle.crq_rule.specs.declared.view.Guard.{Guard}
@@ -14,6 +14,7 @@ use Rattle.crq_rule.specs.Parts.{ground_of, footings, Spelled, Reading, Finds, G
 use Rattle.crq_rule.specs.ListParts.{Sizes, Dues, Marks, Standing, Copying, Lanes, Writing, Naming}
 use Rattle.crq_rule.specs.Steady.{Steady}
 use Rattle.crq_rule.specs.HistoryParts.{Carriers, Told, Settling, Walkers}
+use Rattle.crq_rule.specs.Bounds.{Bounds}
 use Rattle.crq_rule.specs.ScarceParts.{Scarce, Refusals, Swept}
 use Rattle.crq_rule.specs.Invariant.{takes_of, Inv}
 use Rattle.crq_rule.specs.Kinds.{after_made}
@@ -57,6 +58,7 @@ frame_guards c e announced epochs guard tick cut base rows old walk inv reading 
   told = inv.told;
   settling = inv.settling;
   walkers = walkers;
+  bounds = inv.bounds;
   scarce = scarce;
   refusals = inv.refusals;
   swept = inv.swept;
@@ -103,6 +105,7 @@ frame_rows c stamp hand ripening cut base refused holding inv reading holders cu
   told = inv.told;
   settling = inv.settling;
   walkers = inv.walkers;
+  bounds = inv.bounds;
   scarce = scarce;
   refusals = refusals;
   swept = inv.swept;
@@ -141,8 +144,9 @@ pub frame_entry : (c d : Core) → Inv c
     → Scarce c.start.layout c.words.epoch d.history d.base c.guard c.holding
     → Refusals c.start.layout.workers d.history d.refused
     → Swept c.start.layout d.history c.words.event c.chain d.sweep d.clean
+    → Bounds c.start.layout.workers c.words.current d.permit
     → Inv (with_entries c d)
-frame_entry c d inv finds dues steady carriers told settling walkers scarce refusals swept = record {
+frame_entry c d inv finds dues steady carriers told settling walkers scarce refusals swept bounds = record {
   spelled = inv.spelled;
   reading = inv.reading;
   finds = finds;
@@ -167,6 +171,7 @@ frame_entry c d inv finds dues steady carriers told settling walkers scarce refu
   told = told;
   settling = settling;
   walkers = walkers;
+  bounds = bounds;
   scarce = scarce;
   refusals = refusals;
   swept = swept;
@@ -180,16 +185,18 @@ with_found c d = record c { read = d.read; permit = d.permit; found = d.found; s
 pub frame_found : (c d : Core) → Inv c
     → Finds c.start c.words.control c.shape c.words.current d.found d.sight
     → Walkers c.start.layout.workers c.history c.settling (takes_of (with_found c d)) c.words.link c.words.event
+    → Bounds c.start.layout.workers c.words.current d.permit
     → Inv (with_found c d)
-frame_found c d inv finds walkers = frame_entry c (with_found c d) inv finds inv.dues inv.steady inv.carriers inv.told inv.settling walkers inv.scarce inv.refusals inv.swept
+frame_found c d inv finds walkers bounds = frame_entry c (with_found c d) inv finds inv.dues inv.steady inv.carriers inv.told inv.settling walkers inv.scarce inv.refusals inv.swept bounds
 
--- current, and the walks of takes
-pub frame_current : (c : Core) (current : Current) (walk : ℕ → Option Walk) → Inv c
+-- current, permits, and the walks of takes
+pub frame_current : (c : Core) (current : Current) (permit : ℕ → Bool) (walk : ℕ → Option Walk) → Inv c
     → Spelled c.start.layout c.words.control current c.words.pin c.words.head c.words.link c.words.twin c.words.event
     → Finds c.start c.words.control c.shape current c.found c.sight
     → Walkers c.start.layout.workers c.history c.settling (record (takes_of c) { walk = walk }) c.words.link c.words.event
-    → Inv (record c { words = record c.words { current = current }; walk = walk })
-frame_current c current walk inv spelled finds walkers = record {
+    → Bounds c.start.layout.workers current permit
+    → Inv (record c { words = record c.words { current = current }; permit = permit; walk = walk })
+frame_current c current permit walk inv spelled finds walkers bounds = record {
   spelled = spelled;
   reading = inv.reading;
   finds = finds;
@@ -214,6 +221,7 @@ frame_current c current walk inv spelled finds walkers = record {
   told = inv.told;
   settling = inv.settling;
   walkers = walkers;
+  bounds = bounds;
   scarce = inv.scarce;
   refusals = inv.refusals;
   swept = inv.swept;
@@ -246,6 +254,7 @@ frame_made c j m inv = record {
   told = inv.told;
   settling = inv.settling;
   walkers = inv.walkers;
+  bounds = inv.bounds;
   scarce = inv.scarce;
   refusals = inv.refusals;
   swept = inv.swept;

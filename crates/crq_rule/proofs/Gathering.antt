@@ -29,7 +29,7 @@ abbrev redealt : Core → Deal → (ℕ → List Entry) → Core
 redealt c deal own = record c { deal = deal; own = own }
 
 redealt_keeps : (c : Core) (deal : Deal) (own : ℕ → List Entry) → Told c.start.layout.workers c.history deal own c.begun → Inv c → Inv (redealt c deal own)
-redealt_keeps c deal own told inv = frame_entry c (redealt c deal own) inv inv.finds inv.dues inv.steady inv.carriers told inv.settling inv.walkers inv.scarce inv.refusals inv.swept
+redealt_keeps c deal own told inv = frame_entry c (redealt c deal own) inv inv.finds inv.dues inv.steady inv.carriers told inv.settling inv.walkers inv.scarce inv.refusals inv.swept inv.bounds
 
 -- entries don't end in a Begin where there are none
 no_begin : (front : List Entry) (j : ℕ) → [] ≡ front ++ Begin j ∷ [] → ⊥

@@ -28,7 +28,7 @@ use Rattle.crq_rule.proofs.WalkLaws.{walk_keeps}
 use Rattle.crq_rule.proofs.LinkLaws.{link_keeps}
 use Rattle.crq_rule.proofs.CutLaws.{cut_keeps}
 use Rattle.crq_rule.proofs.MarkLaws.{mark_keeps}
-use Rattle.crq_rule.specs.CurrentKinds.{sight_on, current_loaded}
+use Rattle.crq_rule.specs.CurrentKinds.{sight_on, permit_after, current_loaded}
 use Rattle.crq_rule.proofs.CurrentLaws.{current_keeps}
 use Rattle.crq_rule.proofs.RaiseLaws.{raise_keeps}
 use Rattle.crq_rule.proofs.SettleLaws.{settled_keeps, settle_keeps}
@@ -92,6 +92,7 @@ new_names c j cell = let l = link_at c.words.head c.words.link cell in relieved_
 others_loaded : (walks : Bool) (c : Core) (j i : ℕ) → i ≢ j → caller_of (current_loaded c j walks) i ≡ caller_of c i
 others_loaded walks c j i ne = λ x. record (caller_of c i) {
   found = put_else c.found j (record (c.found j) { current = Some c.words.current }) i ne x;
+  permit = put_else c.permit j (permit_after c.words.current (c.permit j)) i ne x;
   sight = put_else c.sight j (sight_on walks (c.found j).control c.words.current) i ne x;
   walk = put_else c.walk j None i ne x;
 }
@@ -146,7 +147,11 @@ others_stay (raise x y) c j i ne = λ z. record (caller_of c i) { walk = put_els
 others_stay raise_fails c j i ne = refl
 others_stay (settle_now d) c j i ne = λ z. record (caller_of c i) { own = put_else c.own j (c.own j ++ Settled j d.event ∷ []) i ne z; debts = owed_by (put_else c.settling j None i ne z) (c.copying i) (c.named i) }
 others_stay (settle_later d) c j i ne = others_loaded false c j i ne
-others_stay (settle d y) c j i ne = λ z. record (caller_of c i) { own = put_else c.own j (c.own j ++ Settled j d.event ∷ []) i ne z; debts = owed_by (put_else c.settling j None i ne z) (c.copying i) (c.named i) }
+others_stay (settle d y) c j i ne = λ z. record (caller_of c i) {
+  own = put_else c.own j (c.own j ++ Settled j d.event ∷ []) i ne z;
+  debts = owed_by (put_else c.settling j None i ne z) (c.copying i) (c.named i);
+  permit = put_else c.permit j false i ne z;
+}
 others_stay settle_fails c j i ne = refl
 others_stay begin c j i ne = λ x. record (caller_of c i) {
   own = put_else c.own j (c.own j ++ Begin j ∷ []) i ne x;

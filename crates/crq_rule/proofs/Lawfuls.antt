@@ -1,5 +1,5 @@
 -- What the invariant says of what one caller knows alone.
-use Rattle.std.proofs.Common.{inl, ◌≡◌, ◌∙◌, false, ℕ, ◌<◌, sym, refl, ap, subst, arith}
+use Rattle.std.proofs.Common.{⊎_elim, inl, ◌≡◌, ◌∙◌, false, ℕ, ◌<◌, sym, refl, ap, subst, arith}
 use Rattle.crq_base.specs.declared.words.Control.{Control}
 use Rattle.crq_base.specs.Words.{IsLink, IsControl}
 use Rattle.crq_base.specs.Lists.{In}
@@ -12,6 +12,7 @@ use Rattle.crq_rule.specs.Core.{Core, caller_of}
 use Rattle.crq_rule.specs.Parts.{ground_of, Covers, IsEvent, IsOn}
 use Rattle.crq_rule.specs.Invariant.{Inv}
 use Rattle.crq_rule.specs.Moves.{Lawful}
+use Rattle.crq_rule.proofs.BoundLaws.{permitted}
 use Rattle.crq_rule.proofs.CoverLaws.{guarded_by, stand_row, row_footing, footing_covered}
 use Rattle.crq_rule.proofs.SteadyLaws.{steady_still, steady_one, found_now, named_now, one_named}
 use Rattle.crq_rule.proofs.ScarceLaws.{rows_counted}
@@ -50,6 +51,7 @@ lawful c j b inv = record {
   scarce = λ x vain. rows_counted c j x b vain inv;
   sighted = λ s is. let f = inv.finds.sights j s b is in (f.0.spelled, f.1);
   controlled = λ x is. subst (λ z. IsControl z × (z.moving ≡ false) × (z.log ≡ 0)) (sym (found_now c inv j x b is)) (inv.spelled.is_control, steady_still c inv, steady_one c inv);
+  permitted = λ x has found. let left = permitted c.start.layout.workers c.words.current c.permit j b has inv.bounds in ⊎_elim (λ low. omega arith) (λ same. let e = same.0 in omega arith) (inv.finds.currents j x b found);
 }
   where
     row_of : (s : Stand) → In s (c.rows j) → IsRow c.start.layout s.row

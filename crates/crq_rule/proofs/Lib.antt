@@ -26,6 +26,7 @@ pub mod SweepLaws
 pub mod SearchLaws
 pub mod CallLaws
 pub mod BucketLaws
+pub mod BoundLaws
 pub mod CurrentLaws
 pub mod RaiseLaws
 pub mod SettleLaws

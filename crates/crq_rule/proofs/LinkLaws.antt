@@ -605,6 +605,7 @@ link_keeps c j cell l r e b (x, may) is inv = let f = known c j x cell l r e b m
   naming = naming_after c j cell l r e f inv;
   carriers = carriers_after c j cell l r e f inv (fresh_put c.start.layout.workers c.history c.deal c.own c.begun j e b may.fresh inv.told);
   told = told_put c.start.layout.workers c.history c.deal c.own c.begun j e b may.fresh inv.told;
+  bounds = inv.bounds;
   settling = settling_put _ _ _ j e (fresh_put c.start.layout.workers c.history c.deal c.own c.begun j e b may.fresh inv.told) inv.settling;
   walkers = walkers_after c j cell l r e f inv;
   scarce = let home = (inv.holders.held j r b may.in_hand_is).0 in scarce_drop _ _ _ _ _ _ _ _ j

@@ -328,6 +328,7 @@ mark_keeps c j r e b may val inv = let l = c.start.layout in let x = c.shape in 
   naming = naming_dead l x k t v h r j e c.named c.words.head b may.1.free is row (subst IsEvent is (inv.spelled.events r row)) inv.naming;
   carriers = carriers_dead l x k t v h r val _ j e is live inv.carriers;
   told = told_other _ _ _ _ _ j (Take j e) b (take_legal c j r e b may pending is inv) refl refl (λ k. take_begin j k e) inv.told;
+  bounds = inv.bounds;
   settling = settling_more _ _ _ (Take j e ∷ []) (λ _ n. absurd (nothing n)) (λ _ _ _ _ n. nothing n) inv.settling;
   walkers = walkers_rest _ _ _ _ _ _ j (walkers_links _ _ _ _ _ _ (dead k r) v (λ _ s _ _. dead_generation k r s) (λ _ g at f _ _. stands_dead l x k t v h r val c.history j e is g at f) (walkers_grown _ _ _ _ _ _ (Take j e ∷ []) inv.walkers));
   scarce = scarce_grown _ _ _ _ _ _ _ (λ k. no_begin j e k) inv.scarce;

@@ -38,6 +38,7 @@ use Rattle.crq_rule.proofs.Counting.{rows_in, in_rows, rows_once}
 use Rattle.crq_rule.proofs.Pendings.{none_counted}
 use Rattle.crq_rule.proofs.ScarceLaws.{none_base}
 use Rattle.crq_rule.proofs.SweepLaws.{none_sweep}
+use Rattle.crq_rule.proofs.BoundLaws.{permits_none}
 use Rattle.crq_rule.proofs.ListOpening.{off_on, opening_control, opening_sizes, opening_dues, opening_steady, opening_heads, opening_sorted, opening_marks, opening_standing, opening_copying, opening_lanes, opening_writing, opening_naming, opening_carriers, opening_told, opening_settling, opening_walkers, no_sight}
 
 -- Words
@@ -172,6 +173,7 @@ opening_inv s first = let top = first.upto in let low = first.epoch in record {
   carriers = opening_carriers s first;
   told = opening_told s first;
   settling = opening_settling s first;
+  bounds = record { left = (let low = first.epoch in let none = permits_none s.layout.workers in omega arith) };
   walkers = opening_walkers s first;
   scarce = record { each = λ k b _ is. absurd (none_base b is) };
   refusals = record { each = λ k _. none_counted [] k };

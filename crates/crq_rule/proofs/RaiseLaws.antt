@@ -10,6 +10,7 @@ use Rattle.crq_rule.specs.Lists.{put}
 use Rattle.crq_rule.specs.Core.{Core, caller_of}
 use Rattle.crq_rule.specs.Parts.{NotAfter}
 use Rattle.crq_rule.specs.Ranks.{bucket, head_for, shape_of}
+use Rattle.crq_rule.specs.Bounds.{Bounds}
 use Rattle.crq_rule.specs.Ahead.{Ahead, NoneSince}
 use Rattle.crq_rule.specs.ListKinds.{StandsOn}
 use Rattle.crq_rule.specs.CurrentKinds.{next_position, raised, MayRaise}
@@ -26,7 +27,7 @@ still_before : (x : Control) (a y : Current) → NotAfter a y → NotAfter a (ne
 still_before x a y low = ⊎_elim inl (λ same. let later = next_tick (shape_of x) y.tick in let high = same.1 in inr (same.0, omega arith)) low
 
 pub raise_keeps : (c : Core) (j : ℕ) (x : Control) (y : Current) → MayRaise x y (caller_of c j) → c.words.current ≡ y → Inv c → Inv (raised c j x y)
-raise_keeps c j x y may is inv = frame_current c (next_position x y) (put c.walk j None) inv
+raise_keeps c j x y may is inv = frame_current c (next_position x y) c.permit (put c.walk j None) inv
     record {
       is_control = inv.spelled.is_control;
       is_current = record { epoch = (let low = inv.spelled.is_current.epoch in let same = ap (λ (z : Current). z.epoch) is in omega arith); tick = may.room };
@@ -43,6 +44,7 @@ raise_keeps c j x y may is inv = frame_current c (next_position x y) (put c.walk
       views = λ k s a b sees seen. still_before x a y (subst (NotAfter a) is (inv.finds.views k s a b sees seen));
     }
     (walkers_rest _ _ _ _ _ _ j inv.walkers)
+    (subst (λ (z : Current). Bounds c.start.layout.workers (next_position x z) c.permit) is record { left = inv.bounds.left })
 
 -- an event that was put before the take read its table, and isn't out, isn't of the bucket that was walked
 none_left : (c : Core) → Inv c → (j : ℕ) (x : Control) (y : Current) → j < c.start.layout.workers → MayRaise x y (caller_of c j) → (e : Event) → Contains (puts (take (c.read j) c.history)) e → (Contains (outs c.history) e → ⊥)

@@ -1,5 +1,5 @@
 -- A caller that settles an event which it owes keeps the invariant. None of this rests on what `Steady` says of such debts.
-use Rattle.std.proofs.Common.{◌≡◌, ◌≢◌, ⊎_elim, inl, true, false, ℕ, ◌<◌, ◌≤◌, List, [], ◌∷◌, ◌++◌, Option, Some, None, sym, refl, ap, ◌∙◌, subst, arith, le_refl}
+use Rattle.std.proofs.Common.{◌≡◌, ◌≢◌, ⊎_elim, inl, true, false, ℕ, ◌+◌, ◌<◌, ◌≤◌, List, [], ◌∷◌, ◌++◌, Option, Some, None, sym, refl, ap, ◌∙◌, subst, arith, le_refl}
 use Rattle.std.proofs.lemmas.Bool.{ltb-true, ltb-false}
 use Rattle.std.proofs.lemmas.Option.{same_Some}
 use Rattle.std.specs.List.{Contains}
@@ -21,6 +21,7 @@ use Rattle.crq_rule.specs.CurrentKinds.{owed_shape, lies_ahead, owed_position, e
 use Rattle.crq_rule.specs.Invariant.{Inv}
 use Rattle.crq_rule.proofs.Puts.{put_else, put_all}
 use Rattle.crq_rule.proofs.Prefixes.{of_front, of_back, of_both}
+use Rattle.crq_rule.proofs.BoundLaws.{bounds_used, permitted}
 use Rattle.crq_rule.proofs.BucketLaws.{tick_low, bucket_rises}
 use Rattle.crq_rule.proofs.Frames.{frame_entry, frame_current}
 use Rattle.crq_rule.proofs.CallLaws.{carriers_same}
@@ -80,16 +81,17 @@ settled_keeps c j d b owes inv = let x : Entry = Settled j d.event in frame_entr
     (scarce_grown _ _ _ _ _ _ _ (λ k. no_begin j k d.event) inv.scarce)
     (refusals_grown _ _ _ _ (λ k. no_begin j k d.event) inv.refusals)
     (swept_grown _ _ _ _ _ _ _ (λ k. no_begin j k d.event) inv.swept)
+    inv.bounds
 
 -- the epoch rises, so what isn't after current isn't after that
 still_before : (d : SettleDebt) (a y : Current) → NotAfter a y → NotAfter a (owed_position d y)
 still_before d a y low = ⊎_elim (λ l. inl (omega arith)) (λ same. let e = same.0 in inl (omega arith)) low
 
 pub settle_keeps : (c : Core) (j : ℕ) (d : SettleDebt) (y : Current) → j < c.start.layout.workers → MaySettle d y (caller_of c j) → c.words.current ≡ y → Inv c → Inv (settled_back c j d y)
-settle_keeps c j d y b may is inv = let done = settled_keeps c j d b may.owes inv in frame_current (event_settled c j d) (owed_position d y) c.walk done
+settle_keeps c j d y b may is inv = let done = settled_keeps c j d b may.owes inv in frame_current (event_settled c j d) (owed_position d y) (put c.permit j false) c.walk done
     record {
       is_control = inv.spelled.is_control;
-      is_current = record { epoch = may.room; tick = (let low = tick_low (owed_shape d) (bucket (owed_shape d) d.event.time) d.event.time (le_refl _) in let top = may.time in omega arith) };
+      is_current = record { epoch = (let left = permitted c.start.layout.workers c.words.current c.permit j b may.permit inv.bounds in let same = ap (λ (z : Current). z.epoch) is in omega arith); tick = (let low = tick_low (owed_shape d) (bucket (owed_shape d) d.event.time) d.event.time (le_refl _) in let top = may.time in omega arith) };
       is_pin = inv.spelled.is_pin;
       heads = inv.spelled.heads;
       links = inv.spelled.links;
@@ -103,6 +105,7 @@ settle_keeps c j d y b may is inv = let done = settled_keeps c j d b may.owes in
       views = λ k s a b sees seen. still_before d a y (subst (NotAfter a) is (inv.finds.views k s a b sees seen));
     }
     done.walkers
+    (bounds_used c.start.layout.workers c.words.current (owed_position d y) c.permit j b may.permit (ap (λ (z : Current). z.epoch + 1) (sym is)) inv.bounds)
 
 -- No settled event is behind current
 

@@ -49,6 +49,7 @@ module _ (c : Core) (inv : Inv c) where
     tags = inv.reading.tags;
     currents = inv.finds.currents;
     views = inv.finds.views;
+    permits = inv.bounds.left;
     generations = λ j x b is. (inv.finds.controls j x b is).low;
   }
 

@@ -470,6 +470,7 @@ walk_keeps c j cell seeks b is_on may seek inv = record {
   scarce = inv.scarce;
   refusals = inv.refusals;
   swept = swept_walked c j b inv cell seeks;
+  bounds = inv.bounds;
   settling = inv.settling;
   walkers = walkers_at _ _ _ _ _ _ j (takes_of (walked_from c j cell seeks))
       (λ k ne i. (c.begun k, put_else c.read j (new_read c j cell seeks) k ne i, put_else c.sight j (new_sight c j cell seeks) k ne i, put_else c.walk j (new_walk c j cell seeks) k ne i, put_else c.rows j (new_rows c j cell seeks) k ne i))

@@ -364,6 +364,7 @@ core_inv = record {
   naming = naming;
   carriers = carriers;
   told = told;
+  bounds = old.bounds;
   settling = record { owed = λ k d b is. absurd (no_settle d is); unsettled = λ _ put left. absurd (left put); lone = λ _ _ d _ _ _ is _ _. absurd (no_settle d is) };
   walkers = record { seen = λ _ x _ is. absurd (no_sight x is); walked = λ _ w _ is. absurd (no_walk w is) };
   scarce = record { each = λ k b _ is. absurd (none_base b is) };

@@ -308,6 +308,7 @@ module _ (c : Core) (j r : ℕ) (x : Content) (b : j < c.start.layout.workers) (
     scarce = inv.scarce;
     refusals = inv.refusals;
     swept = swept_events _ _ _ _ _ _ event (λ q s d i. events_else s (chained_else q s d i)) inv.swept;
+    bounds = inv.bounds;
     settling = inv.settling;
     walkers = walkers_links _ _ _ _ _ _ link event (λ k a d i. let v = on_stand k a d i in ap (λ (l : Link). l.generation) (links_else a (covered_else k v.0 a v.1))) (λ k g a e d i _. from_new k g a e d i) inv.walkers;
   }

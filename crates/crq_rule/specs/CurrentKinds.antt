@@ -1,5 +1,5 @@
 -- What each kind of step on current does to what its caller knows, and to the core state.
-use Rattle.std.specs.Prelude.{cond, ◌≡◌, ◌⊎◌, Bool, true, false, ℕ, ◌+◌, ◌^◌, ◌<◌, nat_lt, List, [], ◌∷◌, ◌++◌, length, Option, Some, None}
+use Rattle.std.specs.Prelude.{cond, ◌≡◌, ◌⊎◌, Bool, true, false, ℕ, ◌+◌, ◌-◌, ◌^◌, ◌<◌, nat_lt, List, [], ◌∷◌, ◌++◌, length, Option, Some, None}
 use Rattle.crq_base.specs.declared.event.Event.{Event}
 use Rattle.crq_base.specs.declared.entry.Entry.{Entry}
 use Rattle.crq_base.specs.declared.entry.Entry.TheVariants.{Settled}
@@ -20,12 +20,17 @@ use Rattle.crq_rule.specs.ListKinds.{StandsOn, table_seen}
 abbrev pub sight_on : Bool → Option Control → Current → Option Sight
 sight_on walks x y = cond walks (table_seen x (Some y)) None
 
+-- it gives a permit to raise current's epoch once, where enough epochs are left for all callers
+abbrev pub permit_after : Current → Bool → Bool
+permit_after y permit = cond (nat_lt y.epoch (2 ^ 32 - 64)) true permit
+
 abbrev pub loads_current : Bool → Current → Caller → Caller
-loads_current walks y p = record p { found = record p.found { current = Some y }; sight = sight_on walks p.found.control y; walk = None }
+loads_current walks y p = record p { found = record p.found { current = Some y }; permit = permit_after y p.permit; sight = sight_on walks p.found.control y; walk = None }
 
 abbrev pub current_loaded : Core → ℕ → Bool → Core
 current_loaded c j walks = record c {
   found = put c.found j (record (c.found j) { current = Some c.words.current });
+  permit = put c.permit j (permit_after c.words.current (c.permit j));
   read = put c.read j (cond walks (length c.history) (c.read j));
   sight = put c.sight j (sight_on walks (c.found j).control c.words.current);
   walk = put c.walk j None;
@@ -80,11 +85,14 @@ abbrev pub owed_position : SettleDebt → Current → Current
 owed_position d y = record { epoch = y.epoch + 1; tick = first_tick (owed_shape d) (bucket (owed_shape d) d.event.time) }
 
 abbrev pub settled_back : Core → ℕ → SettleDebt → Current → Core
-settled_back c j d y = record (event_settled c j d) { words = record c.words { current = owed_position d y } }
+settled_back c j d y = record (event_settled c j d) { words = record c.words { current = owed_position d y }; permit = put c.permit j false }
 
--- a caller that owes the event moves current back, where the event doesn't lie ahead of it, and current has an epoch left
+abbrev pub settles_back : SettleDebt → Caller → Caller
+settles_back d p = record (settles d p) { permit = false }
+
+-- a caller that owes the event moves current back, where the event doesn't lie ahead of it, by the permit that it has
 pub record MaySettle (d : SettleDebt) (y : Current) (p : Caller) : Type 0 where
   pub owes : p.debts.settle ≡ Some d
   pub behind : lies_ahead d y ≡ false
   pub time : d.event.time < 2 ^ 32
-  pub room : y.epoch + 1 < 2 ^ 32
+  pub permit : p.permit ≡ true

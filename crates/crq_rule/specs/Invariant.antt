@@ -4,6 +4,7 @@ use Rattle.crq_rule.specs.Parts.{ground_of, Spelled, Reading, Finds, Guards, Hol
 use Rattle.crq_rule.specs.ListParts.{Sizes, Dues, Heads, Sorted, Marks, Standing, Copying, Lanes, Writing, Naming}
 use Rattle.crq_rule.specs.Steady.{Steady}
 use Rattle.crq_rule.specs.HistoryParts.{Carriers, Told, Settling, Takes, Walkers}
+use Rattle.crq_rule.specs.Bounds.{Bounds}
 use Rattle.crq_rule.specs.ScarceParts.{Scarce, Refusals, Swept}
 
 abbrev pub takes_of : Core → Takes
@@ -34,6 +35,7 @@ pub record Inv (c : Core) : Type 0 where
   pub told : Told c.start.layout.workers c.history c.deal c.own c.begun
   pub settling : Settling c.start.layout.workers c.history c.settling
   pub walkers : Walkers c.start.layout.workers c.history c.settling (takes_of c) c.words.link c.words.event
+  pub bounds : Bounds c.start.layout.workers c.words.current c.permit
   pub scarce : Scarce c.start.layout c.words.epoch c.history c.base c.guard c.holding
   pub refusals : Refusals c.start.layout.workers c.history c.refused
   pub swept : Swept c.start.layout c.history c.words.event c.chain c.sweep c.clean

@@ -22,6 +22,7 @@ pub mod ListParts
 pub mod Steady
 pub mod HistoryParts
 pub mod ScarceParts
+pub mod Bounds
 pub mod Invariant
 pub mod Ahead
 -- What only proofs and the crates above cite.

@@ -1,5 +1,5 @@
 -- What the crates above use of the rule: what a caller may rely on of what it knows alone, when a step is one of the rule, and what a step tells its caller.
-use Rattle.std.specs.Prelude.{◌≡◌, ◌≢◌, ◌⊎◌, ◌==◌, cond, Bool, ℕ, ◌+◌, ◌*◌, ◌^◌, ◌-◌, ◌<◌, ◌≤◌, min, List, [], ◌∷◌, length, Some, false, slice_index, slice_set, None}
+use Rattle.std.specs.Prelude.{◌≡◌, ◌≢◌, ◌⊎◌, ◌==◌, cond, Bool, ℕ, ◌+◌, ◌*◌, ◌^◌, ◌-◌, ◌<◌, ◌≤◌, min, List, [], ◌∷◌, length, Some, true, false, slice_index, slice_set, None}
 use Rattle.crq_base.specs.declared.kinds.StepKind.{StepKind}
 use Rattle.crq_rule.specs.declared.layout.Start.{Start}
 use Rattle.crq_base.specs.declared.words.Link.{Link}
@@ -50,6 +50,8 @@ pub record Lawful (p : Caller) : Type 0 where
   pub scarce : (b : Base) → FoundNoRow p b → p.start.layout.rows ≤ 2 * length b.events
   pub sighted : (s : Sight) → p.sight ≡ Some s → IsControl s.table × (s.table.moving ≡ false)
   pub controlled : (x : Control) → p.found.control ≡ Some x → IsControl x × (x.moving ≡ false) × (x.log ≡ 0)
+  -- a permit leaves an epoch behind the one that was found
+  pub permitted : (x : Current) → p.permit ≡ true → p.found.current ≡ Some x → x.epoch + 1 < 2 ^ 32
 
 -- A step of the caller whose part is p, on the word w, which goes to g of what it was. From each state that meets the invariant it is a step of the named kind that may come there, and R holds of the word found,
 -- of p, and of what the caller knows after it

@@ -1,5 +1,5 @@
 -- What the invariant says in the end, part by part, in the words of the field. The parts that are kept are stronger, and imply each of these.
-use Rattle.std.specs.Prelude.{◌≡◌, ◌⊎◌, ◌↔◌, ℕ, ◌+◌, ◌*◌, ◌^◌, ◌<◌, ◌≤◌, List, [], ◌∷◌, ◌++◌, length, take, Some, Contains}
+use Rattle.std.specs.Prelude.{◌≡◌, ◌⊎◌, ◌↔◌, ℕ, ◌+◌, ◌-◌, ◌*◌, ◌^◌, ◌<◌, ◌≤◌, List, [], ◌∷◌, ◌++◌, length, take, Some, Contains}
 use Rattle.std.specs.declared.cmp.Ordering.TheVariants.{Equal}
 use Rattle.crq_base.specs.declared.event.Event.{Event}
 use Rattle.crq_base.specs.declared.entry.Entry.{Entry}
@@ -29,6 +29,7 @@ use Rattle.crq_rule.specs.Parts.{ground_of, NotAfter, IsOn, LetsRise, Leads, Nam
 use Rattle.crq_rule.specs.Ranks.{shape_of, list_in, head_of, IsOpen}
 use Rattle.crq_rule.specs.HistoryParts.{IsLive, EndsInBegin}
 use Rattle.crq_rule.specs.ListKinds.{HasSeen}
+use Rattle.crq_rule.specs.Bounds.{permits}
 use Rattle.crq_rule.specs.ScarceParts.{IsLate, pending}
 
 -- 1. Words
@@ -51,7 +52,7 @@ IsSpelling l (source r) w = w < 2 ^ 32
 IsSpelling l (sequence r) w = w < 2 ^ 64
 IsSpelling l (load r) w = w < 2 ^ 64
 
--- Each word is a spelling of its kind, and what a caller read of the epoch, of current and of control's generation isn't above what the word has now
+-- Each word is a spelling of its kind, what a caller read of the epoch, of current and of control's generation isn't above what the word has now, and current has an epoch left for each permit
 pub record WordsHold (c : Core) : Type 0 where
   pub spelled : (p : Place) → IsPlace c.start.layout p → IsSpelling c.start.layout p (word_of c.words p)
   pub epochs : (j e : ℕ) → j < c.start.layout.workers → In e (c.epochs j) → e ≤ c.words.epoch
@@ -61,6 +62,7 @@ pub record WordsHold (c : Core) : Type 0 where
   pub tags : (j t : ℕ) (x : CutRow) → j < c.start.layout.workers → c.cut j ≡ Some x → In t x.tags → t ≤ c.words.epoch
   pub currents : (j : ℕ) (x : Current) → j < c.start.layout.workers → (c.found j).current ≡ Some x → NotAfter x c.words.current
   pub views : (j : ℕ) (s : Sight) (x : Current) → j < c.start.layout.workers → c.sight j ≡ Some s → s.current ≡ Some x → NotAfter x c.words.current
+  pub permits : c.words.current.epoch + permits c.permit c.start.layout.workers ≤ 2 ^ 32 - 48
   pub generations : (j : ℕ) (x : Control) → j < c.start.layout.workers → (c.found j).control ≡ Some x → x.generation ≤ c.words.control.generation
 
 -- 2. Holders
