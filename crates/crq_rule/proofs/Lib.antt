@@ -48,3 +48,4 @@ pub mod Stating
 pub mod StatingLists
 pub mod StatingScarcity
 pub mod Witnessing
+pub mod RaiseWitness

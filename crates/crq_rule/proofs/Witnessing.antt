@@ -43,16 +43,16 @@ use Rattle.crq_rule.proofs.ListOpening.{no_sight, no_settle, no_walk}
 use Rattle.crq_rule.proofs.Counting.{rows_in, in_rows, rows_once}
 use Rattle.crq_rule.proofs.Openings.{opening_link, opening_inv}
 
-abbrev layout : Layout
+abbrev pub layout : Layout
 layout = record { workers = 2; rows = 4; home = 8; all = 16; few = (omega arith, omega arith); some_rows = (omega arith, omega arith); home_is = refl; all_is = refl; all_fit = omega arith }
 
-abbrev start : Start
+abbrev pub start : Start
 start = record { layout = layout; first = record { epoch = 0; generation = 1; guard = 0 } }
 
 first : IsFirst start.first
 first = record { epoch = omega arith; from = omega arith; upto = omega arith; guard = omega arith }
 
-old : Inv (opening_core start)
+pub old : Inv (opening_core start)
 old = opening_inv start first
 
 -- the head of row 1

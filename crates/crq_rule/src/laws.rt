@@ -76,11 +76,14 @@ pub fn parts_law()
     ensures scarcity { (c : Core) → Inv c → ScarcityHolds c }
 {}
 
+/// Some state in which current was raised meets the invariant.
+///
 /// In a new table no settled event is behind current, and each step keeps that, if an event that is linked isn't before
 /// current, and if no event of a take's bucket or of an earlier one was put and settled since the take loaded current that
 /// it raises.
 pub fn current_law()
     ensures opening { (start : Start) → Ahead (opening_core start).history (opening_core start).words.current }
+    ensures raised { (c : Core) × Inv c × (0 < c.words.current.tick) }
     ensures ahead { (k : Kind) (c : Core) (j : ℕ) → Inv c → j < c.start.layout.workers → May k c j → KeepsAhead k c j → Ahead c.history c.words.current → Ahead (After k c j).history (After k c j).words.current }
 {}
 
