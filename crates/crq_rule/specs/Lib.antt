@@ -1,5 +1,5 @@
 -- What public contracts cite, directly or through other definitions. Whoever believes them has to read these first: where each word lies, what the core state is, what each kind of step does to it and when it may come, a new table, and a
--- deal. Of Kinds and ListKinds, what changes what a Caller knows is cited by the crates above alone (`scans`, `walks` and the like): the laws speak of the whole state after a step (`After`).
+-- deal. Of Kinds, ListKinds and CurrentKinds, what changes what a Caller knows is cited by the crates above alone (`scans`, `walks` and the like): the laws speak of the whole state after a step (`After`).
 pub mod Widths
 pub mod Places
 pub mod Lists
@@ -24,6 +24,7 @@ pub mod HistoryParts
 pub mod ScarceParts
 pub mod Bounds
 pub mod Invariant
+-- What isn't kept yet, and what each step needs to keep it.
 pub mod Ahead
 -- What only proofs and the crates above cite.
 pub mod Moves
