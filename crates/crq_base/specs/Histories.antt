@@ -1,5 +1,5 @@
 -- Histories of a set of events, oldest entry first, and which of them are legal.
-use Rattle.std.specs.Prelude.{◌≡◌, ℕ, ◌<◌, Option, Some, None, List, [], ◌∷◌, ◌++◌, true, ◌==◌, filter, Contains}
+use Rattle.std.specs.Prelude.{◌≡◌, ℕ, ◌<◌, Option, Some, None, List, [], ◌∷◌, ◌++◌, Bool, true, false, ◌==◌, length, filter, Contains}
 use Rattle.std.specs.List.{filter_map}
 use Rattle.std.specs.Ordering.{is_lt}
 use Rattle.crq_base.specs.declared.event.Event.{Event}
@@ -33,6 +33,22 @@ settleds history = filter_map settled_of history
 
 abbrev pub outs : List Entry → List Event
 outs history = filter_map taken_of history
+
+-- the Table entries of a history, and its Settled and Table entries together, which are those that raise the epoch of current
+abbrev pub is_table : Entry → Bool
+is_table (Table caller log shift) = true
+is_table _ = false
+
+abbrev pub is_raising : Entry → Bool
+is_raising (Settled caller event) = true
+is_raising (Table caller log shift) = true
+is_raising _ = false
+
+abbrev pub table_count : List Entry → ℕ
+table_count history = length (filter is_table history)
+
+abbrev pub raising_count : List Entry → ℕ
+raising_count history = length (filter is_raising history)
 
 -- the entries of one caller
 abbrev pub own : ℕ → List Entry → List Entry

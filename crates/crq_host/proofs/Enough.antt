@@ -5,12 +5,12 @@ use Rattle.std.proofs.lemmas.List.Elements.{Contains-append_left}
 use Rattle.crq_base.specs.declared.event.Event.{Event}
 use Rattle.crq_base.specs.declared.entry.Entry.{Entry}
 use Rattle.crq_base.specs.declared.entry.Entry.TheVariants.{Begin, Put, Settled, Take, Miss, Table}
-use Rattle.crq_base.specs.Histories.{put_of, puts, settleds, IsPending, MayFollow, IsLegalAfter, IsLegal}
+use Rattle.crq_base.specs.Histories.{put_of, puts, settleds, IsPending, MayFollow, IsLegalAfter, IsLegal, table_count, raising_count}
 use Rattle.crq_base.specs.Lists.{In, IsOnce}
 use Rattle.crq_base.proofs.Deeds.{done_at}
 use Rattle.crq_base.proofs.HistoryLaws.{puts-append, settleds-append}
 use Rattle.crq_base.proofs.Elements.{in_cases, contains_in, in_contains}
-use Rattle.crq_set.specs.Views.{Setup, table_count, raising_count}
+use Rattle.crq_set.specs.Views.{Setup}
 use Rattle.crq_sim.specs.declared.model.TheConstants.{MOST_STARTS}
 use Rattle.crq_sim.specs.Models.{ModelData, IsModel}
 use Rattle.crq_sim.specs.Runs.{events_sent, scheduled_starts, beginning}

@@ -6,10 +6,10 @@ use Rattle.crq_base.specs.declared.event.Event.{Event}
 use Rattle.crq_base.specs.declared.entry.Entry.{Entry}
 use Rattle.crq_base.specs.declared.entry.Entry.TheVariants.{Begin, Put, Settled, Take, Miss, Table}
 use Rattle.crq_base.specs.Entries.{caller_of}
-use Rattle.crq_base.specs.Histories.{puts, outs, IsPending, IsLegalAfter, IsLegal}
+use Rattle.crq_base.specs.Histories.{puts, outs, IsPending, IsLegalAfter, IsLegal, table_count, is_table}
 use Rattle.crq_base.specs.Lists.{In}
 use Rattle.crq_base.proofs.HistoryLaws.{puts-append, outs-append, legal_back}
-use Rattle.crq_set.specs.Views.{PassView, Setup, table_count, is_table}
+use Rattle.crq_set.specs.Views.{PassView, Setup}
 use Rattle.crq_set.specs.Gathered.{AreThere, StandsIn, Gathers}
 use Rattle.crq_host.specs.Histories.{IsCalm}
 use Rattle.crq_host.specs.Phases.{LacksRowsFor}

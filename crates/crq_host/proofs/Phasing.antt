@@ -12,11 +12,11 @@ use Rattle.crq_base.specs.declared.answers.Short.TheVariants.{Rows, Epochs, Memo
 use Rattle.crq_base.specs.declared.answers.TakeEnd.{TakeEnd}
 use Rattle.crq_base.specs.declared.answers.TakeEnd.TheVariants.{Taken, Missed}
 use Rattle.crq_base.specs.Entries.{caller_of}
-use Rattle.crq_base.specs.Histories.{outs, own, IsPending, IsEarlier, MayFollow, IsLegalAfter}
+use Rattle.crq_base.specs.Histories.{outs, own, IsPending, IsEarlier, MayFollow, IsLegalAfter, table_count}
 use Rattle.crq_base.specs.Lists.{In}
 use Rattle.crq_base.proofs.HistoryLaws.{outs-append, legal_back}
 use Rattle.crq_base.proofs.Elements.{in_right}
-use Rattle.crq_set.specs.Views.{PassView, Setup, table_count}
+use Rattle.crq_set.specs.Views.{PassView, Setup}
 use Rattle.crq_set.specs.Answers.{Adds, AreBegins, Takes, TakeGaveUp}
 use Rattle.crq_set.specs.Gathered.{AreThere, Gathers, IsDealt, Deals}
 use Rattle.crq_host.specs.Histories.{IsCalm}

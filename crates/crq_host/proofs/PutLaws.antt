@@ -10,11 +10,11 @@ use Rattle.crq_base.specs.declared.entry.Entry.TheVariants.{Begin, Put, Settled,
 use Rattle.crq_base.specs.declared.answers.Short.{Short}
 use Rattle.crq_base.specs.declared.answers.Short.TheVariants.{Rows, Epochs, Memory}
 use Rattle.crq_base.specs.Entries.{caller_of}
-use Rattle.crq_base.specs.Histories.{put_of, puts, IsLegalAfter}
+use Rattle.crq_base.specs.Histories.{put_of, puts, IsLegalAfter, table_count}
 use Rattle.crq_base.specs.Lists.{In, IsOnce}
 use Rattle.crq_base.proofs.HistoryLaws.{puts-append}
 use Rattle.crq_base.proofs.Elements.{in_contains, contains_in, in_left, in_right, in_cases}
-use Rattle.crq_set.specs.Views.{PassView, Setup, table_count}
+use Rattle.crq_set.specs.Views.{PassView, Setup}
 use Rattle.crq_set.specs.Gathered.{AreThere, Gathers, IsDealt}
 use Rattle.crq_host.specs.Phases.{GoesOn, PutsShort, PutsEnd}
 use Rattle.crq_host.specs.Workers.{AllAre, IsPutting, StopsPuts, PutInTurn, TellsShort}

@@ -15,7 +15,7 @@ use Rattle.crq_base.specs.declared.answers.Short.TheVariants.{Rows as OfRows, Ep
 use Rattle.crq_base.specs.declared.event.Event.{Event}
 use Rattle.crq_base.specs.declared.entry.Entry.{Entry}
 use Rattle.crq_base.specs.declared.first.First.{First}
-use Rattle.crq_base.specs.Histories.{puts, outs, IsPending}
+use Rattle.crq_base.specs.Histories.{puts, outs, IsPending, table_count}
 use Rattle.crq_base.specs.Keys.{IsBefore}
 use Rattle.crq_base.specs.Lists.{In, IsOnce}
 use Rattle.crq_base.specs.Sizes.{IsTeam}
@@ -23,7 +23,7 @@ use Rattle.crq_base.specs.Sources.{owner_of}
 use Rattle.crq_base.proofs.HistoryLaws.{puts-append}
 use Rattle.crq_base.proofs.KeyOrder.{before_not_itself}
 use Rattle.crq_base.proofs.Elements.{contains_in, in_contains}
-use Rattle.crq_set.specs.Views.{Setup, IsSetup, table_count}
+use Rattle.crq_set.specs.Views.{Setup, IsSetup}
 use Rattle.crq_sim.specs.declared.model.Object.{Object}
 use Rattle.crq_sim.specs.declared.reaction.ObjectState.{ObjectState}
 use Rattle.crq_sim.specs.declared.traces.Step.{Step}

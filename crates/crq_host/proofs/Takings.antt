@@ -10,12 +10,12 @@ use Rattle.crq_base.specs.declared.answers.Short.TheVariants.{Rows, Epochs, Memo
 use Rattle.crq_base.specs.declared.event.Event.{Event}
 use Rattle.crq_base.specs.declared.entry.Entry.{Entry}
 use Rattle.crq_base.specs.declared.entry.Entry.TheVariants.{Begin, Put, Settled, Take, Miss, Table}
-use Rattle.crq_base.specs.Histories.{taken_of, puts, outs, own, IsPending}
+use Rattle.crq_base.specs.Histories.{taken_of, puts, outs, own, IsPending, table_count}
 use Rattle.crq_base.specs.Lists.{In, IsOnce}
 use Rattle.crq_base.proofs.HistoryLaws.{puts-append, outs-append}
 use Rattle.crq_base.specs.Sizes.{IsTeam}
 use Rattle.crq_base.proofs.Elements.{in_left, in_right, in_cases, contains_in, in_contains}
-use Rattle.crq_set.specs.Views.{Setup, IsSetup, table_count}
+use Rattle.crq_set.specs.Views.{Setup, IsSetup}
 use Rattle.crq_sim.specs.Models.{ModelData, IsModel}
 use Rattle.crq_sim.specs.Runs.{Simulation, beginning, simulation_at}
 use Rattle.crq_sim.specs.Simulations.{IsDue}

@@ -10,13 +10,12 @@ use Rattle.std.proofs.lemmas.Bool.{cases_eq}
 use Rattle.std.proofs.lemmas.Bool.Decides.{nat_tests}
 use Rattle.crq_base.specs.declared.event.Event.{Event}
 use Rattle.crq_base.specs.declared.entry.Entry.{Entry}
-use Rattle.crq_base.specs.Histories.{puts, outs, IsPending, IsEarlier}
+use Rattle.crq_base.specs.Histories.{puts, outs, IsPending, IsEarlier, is_table, table_count}
 use Rattle.crq_base.specs.Keys.{event_cmp, IsBefore}
 use Rattle.crq_base.specs.Lists.{IsOnce}
 use Rattle.crq_base.proofs.HistoryLaws.{puts-append, outs-append}
 use Rattle.crq_base.proofs.KeyOrder.{before_not_itself, same_event}
 use Rattle.crq_base.proofs.Elements.{in_contains}
-use Rattle.crq_set.specs.Views.{is_table, table_count}
 use Rattle.crq_sim.specs.declared.reaction.ObjectState.{ObjectState}
 use Rattle.crq_sim.specs.EventLists.{with_events, IsHead, AreInOrder, HaveOneKey, HaveOneNumber, HaveNumbersApart}
 use Rattle.crq_sim.specs.Models.{ModelData, IsModel}

@@ -4,10 +4,10 @@ use Rattle.crq_base.specs.declared.event.Event.{Event}
 use Rattle.crq_base.specs.declared.entry.Entry.{Entry}
 use Rattle.crq_base.specs.declared.limits.TheConstants.{MOST_ROWS}
 use Rattle.crq_base.specs.declared.memory.Memory.{Memory}
-use Rattle.crq_base.specs.Histories.{puts, outs, IsPending}
+use Rattle.crq_base.specs.Histories.{puts, outs, IsPending, table_count}
 use Rattle.crq_base.specs.Lists.{IsOnce}
 use Rattle.crq_base.specs.Sizes.{IsTeam}
-use Rattle.crq_set.specs.Views.{Setup, IsSetup, table_count}
+use Rattle.crq_set.specs.Views.{Setup, IsSetup}
 use Rattle.crq_sim.specs.declared.reaction.ObjectState.{ObjectState}
 use Rattle.crq_sim.specs.declared.outcome.Outcome.{Outcome}
 use Rattle.crq_sim.specs.declared.run.TheConstants.{MOST_EVENTS}

@@ -2,9 +2,8 @@
 use Rattle.std.specs.Prelude.{◌≡◌, ◌↔◌, ℕ, zero, suc, List, [], ◌++◌, Contains}
 use Rattle.crq_base.specs.declared.event.Event.{Event}
 use Rattle.crq_base.specs.declared.entry.Entry.{Entry}
-use Rattle.crq_base.specs.Histories.{puts, settleds, outs, IsLegal}
+use Rattle.crq_base.specs.Histories.{puts, settleds, outs, IsLegal, table_count}
 use Rattle.crq_base.specs.Lists.{IsOnce}
-use Rattle.crq_set.specs.Views.{table_count}
 use Rattle.crq_sim.specs.Models.{ModelData}
 use Rattle.crq_sim.specs.Runs.{beginning}
 use Rattle.crq_sim.specs.Windows.{WindowData, IsWindow}

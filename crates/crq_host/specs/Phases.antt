@@ -4,9 +4,9 @@ use Rattle.crq_base.specs.declared.event.Event.{Event}
 use Rattle.crq_base.specs.declared.entry.Entry.{Entry}
 use Rattle.crq_base.specs.declared.answers.Short.{Short}
 use Rattle.crq_base.specs.declared.answers.Short.TheVariants.{Rows, Epochs, Memory}
-use Rattle.crq_base.specs.Histories.{puts, outs, IsPending, IsEarlier}
+use Rattle.crq_base.specs.Histories.{puts, outs, IsPending, IsEarlier, table_count, raising_count}
 use Rattle.crq_base.specs.Lists.{In, IsOnce}
-use Rattle.crq_set.specs.Views.{Setup, table_count, raising_count}
+use Rattle.crq_set.specs.Views.{Setup}
 use Rattle.crq_host.specs.Histories.{ArePutsOf, IsCalm}
 
 -- the history went on by these entries and is calm

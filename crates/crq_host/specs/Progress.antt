@@ -2,8 +2,7 @@
 use Rattle.std.specs.Prelude.{◌≡◌, ◌↔◌, ℕ, ◌+◌, ◌≤◌, List, ◌++◌, length, Contains}
 use Rattle.crq_base.specs.declared.event.Event.{Event}
 use Rattle.crq_base.specs.declared.entry.Entry.{Entry}
-use Rattle.crq_base.specs.Histories.{puts, outs, IsPending}
-use Rattle.crq_set.specs.Views.{table_count}
+use Rattle.crq_base.specs.Histories.{puts, outs, IsPending, table_count}
 use Rattle.crq_sim.specs.Models.{ModelData}
 use Rattle.crq_sim.specs.Runs.{events_sent, scheduled_starts, beginning, simulation_at}
 use Rattle.crq_sim.specs.EventLists.{IsHead}

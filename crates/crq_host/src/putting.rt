@@ -3,7 +3,7 @@
 ghost use Rattle.std.specs.Prelude.{◌≡◌, ◌<◌, ◌≤◌, ℕ, length, slice_index_or, slice_get, IsSomeAnd, IfSome, Some, All, flat_map};
 ghost use Rattle.crq_base.specs.declared.limits.TheConstants.{MOST_WORKERS};
 ghost use Rattle.crq_base.specs.Sizes.{IsTeam};
-ghost use Rattle.crq_set.specs.Views.{table_count};
+ghost use Rattle.crq_base.specs.Histories.{table_count};
 ghost use Rattle.crq_host.specs.declared.worker.Worker.{Worker};
 ghost use Rattle.crq_host.specs.Histories.{IsCalm};
 ghost use Rattle.crq_host.specs.Phases.{PutsEnd};

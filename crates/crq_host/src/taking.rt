@@ -4,9 +4,8 @@ ghost use Rattle.std.specs.Prelude.{◌≡◌, ◌<◌, ◌≤◌, ◌^◌, ◌+
 ghost use Rattle.crq_base.specs.declared.event.Event.{Event};
 ghost use Rattle.crq_base.specs.declared.entry.Entry.{Entry};
 ghost use Rattle.crq_base.specs.declared.limits.TheConstants.{MOST_WORKERS};
-ghost use Rattle.crq_base.specs.Histories.{IsPending};
+ghost use Rattle.crq_base.specs.Histories.{IsPending, table_count};
 ghost use Rattle.crq_base.specs.Sizes.{IsTeam};
-ghost use Rattle.crq_set.specs.Views.{table_count};
 ghost use Rattle.crq_host.specs.declared.worker.Worker.{Worker};
 ghost use Rattle.crq_host.specs.Histories.{IsCalm};
 ghost use Rattle.crq_host.specs.Phases.{LeastEnds, DrainEnds};

@@ -1,14 +1,30 @@
--- Permits are counted, and how the part on what is left of current's epochs stays.
-use Rattle.std.proofs.Common.{◌≡◌, ℕ, zero, suc, ◌+◌, ◌-◌, ◌^◌, ◌<◌, ◌≤◌, nat_lt, Bool, true, false, sym, refl, ap, ◌∙◌, subst, arith}
+-- Permits are counted, and how the parts on counts stay: what is left of current's epochs, and what callers were told.
+use Rattle.std.proofs.Common.{◌≡◌, ℕ, zero, suc, ◌+◌, ◌-◌, ◌^◌, ◌<◌, ◌≤◌, nat_lt, Bool, true, false, List, [], ◌∷◌, ◌++◌, length, Option, Some, None, sym, refl, ap, ◌∙◌, subst, arith}
+use Rattle.std.specs.Prelude.{filter}
+use Rattle.std.proofs.Math.Nat.{max-le}
 use Rattle.std.proofs.lemmas.Bool.{cond_both, ltb-true}
+use Rattle.std.proofs.lemmas.List.{length-append}
+use Rattle.std.proofs.lemmas.List.Elements.{filter-append}
 use mathlib.Core.Logic.{dite}
 use native.Mathlib.Decide.{ℕ_discrete}
+use Rattle.crq_base.specs.declared.event.Event.{Event}
+use Rattle.crq_base.specs.declared.entry.Entry.{Entry}
+use Rattle.crq_base.specs.declared.entry.Entry.TheVariants.{Settled}
+use Rattle.crq_base.specs.declared.words.Control.{Control}
 use Rattle.crq_base.specs.declared.words.Current.{Current}
+use Rattle.crq_base.specs.Histories.{is_table, is_raising, table_count, raising_count}
 use Rattle.crq_base.specs.Words.{flag_number}
+use Rattle.crq_rule.specs.declared.debts.SettleDebt.{SettleDebt}
+use Rattle.crq_rule.specs.declared.layout.Start.{Start}
+use Rattle.crq_rule.specs.declared.view.Told.{Told}
 use Rattle.crq_rule.specs.Lists.{put}
 use Rattle.crq_rule.specs.Bounds.{permits, Bounds}
-use Rattle.crq_rule.specs.CurrentKinds.{permit_after}
+use Rattle.crq_rule.specs.HistoryParts.{Numbers}
+use Rattle.crq_rule.specs.CurrentKinds.{permit_after, told_after}
 use Rattle.crq_rule.proofs.Puts.{put_here, put_else, put_all}
+
+none_debt : (d : SettleDebt) → None ≡ Some d → ⊥
+none_debt d e = cc
 
 flag_low : (b : Bool) → flag_number b ≤ 1
 flag_low true = omega arith
@@ -35,16 +51,79 @@ permits_drop f j (suc n) b has = dite (ℕ_discrete n j)
     let rest = permits_same f (put f j false) n (λ k low. put_else f j false k (λ e. absurd (omega arith))) in omega arith)
     (λ ne. let here = ap flag_number (put_else f j false n ne) in let rest = permits_drop f j n (omega arith) has in omega arith)
 
--- current is loaded, which gives a permit where enough epochs are left
-pub bounds_loaded : (n : ℕ) (current : Current) (permit : ℕ → Bool) (j : ℕ) → n ≤ 16 → Bounds n current permit → Bounds n current (put permit j (permit_after current (permit j)))
-bounds_loaded n current permit j few old = cond_both (nat_lt current.epoch (2 ^ 32 - 64)) true (permit j) (λ b. Bounds n current (put permit j b))
-    (λ low. record { left = (let less = ltb-true current.epoch (2 ^ 32 - 64) low in let most = permits_low (put permit j true) n in omega arith) })
-    (λ _. record { left = subst (λ z. current.epoch + z ≤ 2 ^ 32 - 48) (sym (permits_same permit (put permit j (permit j)) n (λ k _. put_all permit j (permit j) (λ k b. b ≡ permit k) refl (λ _ _. refl) k))) old.left })
+-- a permit isn't lost by a load
+permit_kept : (y : Current) (b : Bool) → b ≡ true → permit_after y b ≡ true
+permit_kept y b has = cond_both (nat_lt y.epoch (2 ^ 32 - 64)) true b (λ z. z ≡ true) (λ _. refl) (λ _. has)
 
--- current's epoch rises by a permit
-pub bounds_used : (n : ℕ) (current next : Current) (permit : ℕ → Bool) (j : ℕ) → j < n → permit j ≡ true → next.epoch ≡ current.epoch + 1 → Bounds n current permit → Bounds n next (put permit j false)
-bounds_used n current next permit j b has rises old = record { left = (let low = old.left in let one = permits_drop permit j n b has in omega arith) }
+-- Counts of entries
 
--- an epoch is left for a permit
-pub permitted : (n : ℕ) (current : Current) (permit : ℕ → Bool) (j : ℕ) → j < n → permit j ≡ true → Bounds n current permit → current.epoch < 2 ^ 32 - 48
-permitted n current permit j b has old = let low = old.left in let one = permits_drop permit j n b has in omega arith
+count_more : (test : Entry → Bool) (h more : List Entry) → length (filter test (h ++ more)) ≡ length (filter test h) + length (filter test more)
+count_more test h more = ap length (filter-append test h more) ∙ length-append (filter test h) (filter test more)
+
+-- entries are added
+pub numbers_grown : (n : ℕ) (history : List Entry) (told : ℕ → Told) (more : List Entry) → Numbers n history told → Numbers n (history ++ more) told
+numbers_grown n history told more old = record {
+  tables = λ k b. let low = old.tables k b in let parts = count_more is_table history more in omega arith;
+  raising = λ k b. let low = old.raising k b in let parts = count_more is_raising history more in omega arith;
+}
+
+module _ (start : Start) (control : Control) (current : Current) (history : List Entry) (settling : ℕ → Option SettleDebt) (permit : ℕ → Bool) where
+  -- current is loaded, which tells how far its epoch rose
+  pub numbers_loaded : (j : ℕ) (told : ℕ → Told) → Bounds start control current history settling permit → Numbers start.layout.workers history told
+      → Numbers start.layout.workers history (put told j (told_after start current (told j)))
+  numbers_loaded j told bounds old = record {
+    tables = put_all told j (told_after start current (told j)) (λ k t. k < start.layout.workers → t.tables ≤ table_count history) (old.tables j) (λ k _. old.tables k);
+    raising = put_all told j (told_after start current (told j)) (λ k t. k < start.layout.workers → t.settled ≤ raising_count history)
+        (λ b. max-le {a = current.epoch - start.first.epoch} {b = (told j).settled} {k = raising_count history} (let top = bounds.entries in omega arith) (old.raising j b)) (λ k _. old.raising k);
+  }
+
+  -- and gives a permit where enough epochs are left
+  pub bounds_loaded : (j : ℕ) → Bounds start control current history settling permit → Bounds start control current history settling (put permit j (permit_after current (permit j)))
+  bounds_loaded j old = record {
+    tables = old.tables;
+    opened = old.opened;
+    left = cond_both (nat_lt current.epoch (2 ^ 32 - 64)) true (permit j) (λ b. current.epoch + permits (put permit j b) start.layout.workers ≤ 2 ^ 32 - 48)
+        (λ low. let less = ltb-true current.epoch (2 ^ 32 - 64) low in let most = permits_low (put permit j true) start.layout.workers in let few = start.layout.few.1 in omega arith)
+        (λ _. subst (λ z. current.epoch + z ≤ 2 ^ 32 - 48) (sym (permits_same permit (put permit j (permit j)) start.layout.workers (λ k _. put_all permit j (permit j) (λ k b. b ≡ permit k) refl (λ _ _. refl) k))) old.left);
+    entries = old.entries;
+    owed = λ k d. put_all permit j (permit_after current (permit j)) (λ k b. k < start.layout.workers → settling k ≡ Some d → b ≡ true) (λ b is. permit_kept current (permit j) (old.owed j d b is)) (λ k _. old.owed k d) k;
+  }
+
+  -- entries are added that make no table
+  pub bounds_grown : (more : List Entry) → table_count more ≡ 0 → Bounds start control current history settling permit → Bounds start control current (history ++ more) settling permit
+  bounds_grown more none old = record { tables = old.tables; opened = (let was = old.opened in let parts = count_more is_table history more in omega arith); left = old.left; entries = (let low = old.entries in let parts = count_more is_raising history more in omega arith); owed = old.owed }
+
+  -- an event isn't owed any more
+  pub bounds_less : (j : ℕ) → Bounds start control current history settling permit → Bounds start control current history (put settling j None) permit
+  bounds_less j old = record {
+    tables = old.tables;
+    opened = old.opened;
+    left = old.left;
+    entries = old.entries;
+    owed = λ k d b. put_all settling j None (λ k o. k < start.layout.workers → o ≡ Some d → permit k ≡ true) (λ _ e. absurd (none_debt d e)) (λ k _. old.owed k d) k b;
+  }
+
+  -- one is owed by a caller that has a permit
+  pub bounds_owed : (j : ℕ) (d : SettleDebt) → permit j ≡ true → Bounds start control current history settling permit → Bounds start control current history (put settling j (Some d)) permit
+  bounds_owed j d has old = record {
+    tables = old.tables;
+    opened = old.opened;
+    left = old.left;
+    entries = old.entries;
+    owed = λ k f b. put_all settling j (Some d) (λ k o. k < start.layout.workers → o ≡ Some f → permit k ≡ true) (λ _ _. has) (λ k _. old.owed k f) k b;
+  }
+
+  -- current's epoch rises by a permit, for an event that is settled so
+  pub bounds_used : (j : ℕ) (next : Current) (e : Event) → j < start.layout.workers → permit j ≡ true → next.epoch ≡ current.epoch + 1 → Bounds start control current history settling permit
+      → Bounds start control next (history ++ Settled j e ∷ []) (put settling j None) (put permit j false)
+  bounds_used j next e b has rises old = record {
+    tables = old.tables;
+    opened = (let was = old.opened in let parts : table_count (history ++ Settled j e ∷ []) ≡ table_count history = (let two = count_more is_table history (Settled j e ∷ []) in omega arith) in omega arith);
+    left = (let low = old.left in let one = permits_drop permit j start.layout.workers b has in omega arith);
+    entries = (let low = old.entries in let parts : raising_count (history ++ Settled j e ∷ []) ≡ raising_count history + 1 = count_more is_raising history (Settled j e ∷ []) in omega arith);
+    owed = λ k d. put_all settling j None (λ k o. k < start.layout.workers → o ≡ Some d → put permit j false k ≡ true) (λ _ n. absurd (none_debt d n)) (λ k ne c is. put_else permit j false k ne ∙ old.owed k d c is) k;
+  }
+
+  -- an epoch is left for a permit
+  pub permitted : (j : ℕ) → j < start.layout.workers → permit j ≡ true → Bounds start control current history settling permit → current.epoch < 2 ^ 32 - 48
+  permitted j b has old = let low = old.left in let one = permits_drop permit j start.layout.workers b has in omega arith

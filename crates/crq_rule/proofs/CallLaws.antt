@@ -1,5 +1,5 @@
 -- A take that begins, and one that finds nothing, keep the invariant.
-use Rattle.std.proofs.Common.{◌≡◌, ◌≢◌, ⊎_elim, false, ℕ, ◌<◌, ◌≤◌, List, [], ◌∷◌, ◌++◌, length, Option, Some, None, sym, refl, ap, ◌∙◌, subst, arith}
+use Rattle.std.proofs.Common.{◌≡◌, ◌≢◌, ⊎_elim, false, ℕ, ◌<◌, ◌≤◌, List, [], ◌∷◌, ◌++◌, length, Option, Some, None, sym, refl, subst, arith}
 use Rattle.std.specs.List.{Contains}
 use Rattle.crq_base.specs.declared.event.Event.{Event}
 use Rattle.crq_base.specs.declared.entry.Entry.{Entry}
@@ -14,21 +14,24 @@ use Rattle.crq_rule.specs.declared.layout.Layout.{Layout}
 use Rattle.crq_rule.specs.declared.layout.Start.{Start}
 use Rattle.crq_rule.specs.declared.view.Found.{Found}
 use Rattle.crq_rule.specs.declared.view.Sight.{Sight}
+use Rattle.crq_rule.specs.declared.view.Walk.{Walk}
 use Rattle.crq_rule.specs.Lists.{put}
 use Rattle.crq_rule.specs.Core.{Core, Holding, caller_of}
 use Rattle.crq_rule.specs.Parts.{Finds, Fits, NotAfter}
 use Rattle.crq_rule.specs.HistoryParts.{Carriers}
 use Rattle.crq_rule.specs.Ranks.{Shape}
-use Rattle.crq_rule.specs.Invariant.{Inv}
-use Rattle.crq_rule.specs.ListKinds.{StandsOn, MayMiss, begun_by, control_loaded, missed}
+use Rattle.crq_rule.specs.Invariant.{present_of, takes_of, Inv}
+use Rattle.crq_rule.specs.ListKinds.{EndedWalk, MayMiss, begun_by, control_loaded, missed}
 use Rattle.crq_rule.proofs.Puts.{put_all}
 use Rattle.crq_rule.proofs.Frames.{frame_found, frame_entry}
 use Rattle.crq_rule.proofs.HistoryLaws.{told_other, told_begin, settling_more, pending_same}
-use Rattle.crq_rule.proofs.WalkerLaws.{walkers_grown, walkers_rest, walkers_begin}
+use Rattle.crq_rule.proofs.BoundLaws.{numbers_grown, bounds_grown}
+use Rattle.crq_rule.proofs.WalkerLaws.{silent, walkers_grown, walkers_rest, walkers_begin}
+use Rattle.crq_rule.proofs.AheadLaws.{ahead_grown}
 use Rattle.crq_rule.proofs.Pendings.{counted_grown, none_counted}
 use Rattle.crq_rule.proofs.ScarceLaws.{base_grown, scarce_drop, scarce_grown, refusals_grown, refusals_put}
 use Rattle.crq_rule.proofs.SweepLaws.{swept_grown, swept_begun}
-use Rattle.crq_rule.proofs.SearchLaws.{left_beyond, beyond_time}
+use Rattle.crq_rule.proofs.SearchLaws.{settled_left, ended_left}
 
 none_sight : (s : Sight) → None ≡ Some s → ⊥
 none_sight s e = cc
@@ -68,7 +71,7 @@ carriers_same l history x link twin event holding none kept old = record {
 
 -- the control word was loaded
 pub control_keeps : (c : Core) (j : ℕ) → j < c.start.layout.workers → Inv c → Inv (control_loaded c j)
-control_keeps c j b inv = frame_found c (control_loaded c j) inv (finds_control _ _ _ _ _ _ j inv.sizes.now inv.finds) inv.walkers inv.bounds
+control_keeps c j b inv = frame_found c (control_loaded c j) inv (finds_control _ _ _ _ _ _ j inv.sizes.now inv.finds) inv.numbers inv.walkers inv.bounds
 
 -- a caller that begins anew has read no table
 finds_begun : (start : Start) (control : Control) (shape : ℕ → Shape) (current : Current) (found : ℕ → Found) (sight : ℕ → Option Sight) (j : ℕ)
@@ -77,7 +80,7 @@ finds_begun start control shape current found sight j old = record {
   controls = old.controls;
   currents = old.currents;
   sights = λ k s. put_all sight j None (λ k o. k < start.layout.workers → o ≡ Some s → Fits start control shape s.table × (s.table.moving ≡ false)) (λ _ e. absurd (none_sight s e)) (λ k _. old.sights k s) k;
-  views = λ k s x. put_all sight j None (λ k o. k < start.layout.workers → o ≡ Some s → s.current ≡ Some x → NotAfter x current) (λ _ e _. absurd (none_sight s e)) (λ k _. old.views k s x) k;
+  views = λ k s. put_all sight j None (λ k o. k < start.layout.workers → o ≡ Some s → NotAfter s.current current) (λ _ e. absurd (none_sight s e)) (λ k _. old.views k s) k;
 }
 
 nothing : {e : Event} → Contains [] e → ⊥
@@ -90,36 +93,38 @@ begin_keeps c j b inv = frame_entry c (begun_by c j) inv
     inv.steady
     (carriers_same _ _ (Begin j) _ _ _ _ refl refl inv.carriers)
     (told_begin _ _ _ _ _ j b inv.told)
+    (numbers_grown _ _ _ (Begin j ∷ []) inv.numbers)
     (settling_more _ _ _ (Begin j ∷ []) (λ _ n. absurd (nothing n)) (λ _ _ _ _ n. nothing n) inv.settling)
-    (walkers_begin _ _ _ _ _ _ j (length c.history) (walkers_grown _ _ _ _ _ _ (Begin j ∷ []) inv.walkers))
+    (walkers_begin (present_of (begun_by c j)) (takes_of c) _ _ j (length c.history) (walkers_grown (present_of c) (takes_of c) _ _ (Begin j ∷ []) (silent c.history (Begin j ∷ []) refl refl) inv.walkers))
+    (ahead_grown c.history (Begin j ∷ []) c.words.current refl inv.ahead)
     (scarce_drop _ _ _ _ _ _ _ _ j (λ k x _ ne. base_grown _ _ _ _ _ _ k x (other_begin j k ne)) inv.scarce)
     (refusals_put _ _ _ _ j [] (λ _. none_counted (c.history ++ Begin j ∷ []) j) (λ k ne. counted_grown _ _ k (c.refused k) (other_begin j k ne)) inv.refusals)
     (swept_begun _ _ _ _ _ _ j (λ k ne. other_begin j k ne) inv.swept)
-    inv.bounds
+    (bounds_grown _ _ _ _ _ _ (Begin j ∷ []) refl inv.bounds)
 
--- what a search that comes to its end or to the limit left is taken
-miss_legal : (c : Core) (j limit : ℕ) → j < c.start.layout.workers → ((x : Control) × MayMiss x limit (caller_of c j)) → Inv c → MayFollow c.history (Miss j limit)
-miss_legal c j limit b may inv = let from = inv.told.began j b may.1.began in let front = from.0 in let w = may.1.walks.0 in (
+-- what was settled before the Begin and is below the limit is taken
+miss_legal : (c : Core) (j limit : ℕ) → j < c.start.layout.workers → MayMiss limit (caller_of c j) → Inv c → MayFollow c.history (Miss j limit)
+miss_legal c j limit b may inv = let from = inv.told.began j b may.began in let front = from.0 in (
   front,
   from.2,
-  λ f settled less. ⊎_elim (λ o. o) (λ kept. let beyond = left_beyond c inv j w may.0 front (Begin j ∷ from.2.back) f b may.1.walks.1 may.1.sight may.1.one_list from.2.parts from.1 settled kept in ⊎_elim
-      (λ (none : w.at ≡ 0). let some = beyond.some_row in absurd (omega arith))
-      (λ (h : (e : Event) × StandsOn (c.rows j) w.at e × (limit ≤ e.time)). let e = h.0 in let s = h.1.0 in
-      let holds : c.words.event w.at ≡ e = ap c.words.event (sym h.1.2) ∙ ((inv.standing.each j s b h.1.1).holds ∙ h.1.3) in
-      let late = beyond_time c inv w.at e f holds beyond in let high = h.2 in absurd (omega arith))
-      may.1.walks.2) (contains_or (outs c.history) f),
+  λ f settled less. ⊎_elim (λ o. o) (λ kept. let left = settled_left c inv j may.sight front (Begin j ∷ from.2.back) f b may.sees from.2.parts from.1 settled kept in ⊎_elim
+      (λ (high : limit ≤ may.sight.current.tick). let late = left.late in absurd (omega arith))
+      (λ (h : (w : Walk) × (c.walk j ≡ Some w) × EndedWalk w.bucket may.sight.table (c.rows j) w limit). absurd (ended_left c inv j may.sight h.0 f b may.sees h.1 left limit h.2 less))
+      may.nothing) (contains_or (outs c.history) f),
 )
 
-pub miss_keeps : (c : Core) (j limit : ℕ) → j < c.start.layout.workers → ((x : Control) × MayMiss x limit (caller_of c j)) → Inv c → Inv (missed c j limit)
+pub miss_keeps : (c : Core) (j limit : ℕ) → j < c.start.layout.workers → MayMiss limit (caller_of c j) → Inv c → Inv (missed c j limit)
 miss_keeps c j limit b may inv = frame_entry c (missed c j limit) inv
     (finds_control _ _ _ _ _ _ j inv.sizes.now inv.finds)
     inv.dues
     inv.steady
     (carriers_same _ _ (Miss j limit) _ _ _ _ refl refl inv.carriers)
     (told_other _ _ _ _ _ j (Miss j limit) b (miss_legal c j limit b may inv) refl refl (miss_begin j limit) inv.told)
+    (numbers_grown _ _ _ (Miss j limit ∷ []) inv.numbers)
     (settling_more _ _ _ (Miss j limit ∷ []) (λ _ n. absurd (nothing n)) (λ _ _ _ _ n. nothing n) inv.settling)
-    (walkers_rest _ _ _ _ _ _ j (walkers_grown _ _ _ _ _ _ (Miss j limit ∷ []) inv.walkers))
+    (walkers_rest (present_of (missed c j limit)) (takes_of c) _ _ j (walkers_grown (present_of c) (takes_of c) _ _ (Miss j limit ∷ []) (silent c.history (Miss j limit ∷ []) refl refl) inv.walkers))
+    (ahead_grown c.history (Miss j limit ∷ []) c.words.current refl inv.ahead)
     (scarce_grown _ _ _ _ _ _ _ (λ k. no_begin j limit k) inv.scarce)
     (refusals_grown _ _ _ _ (λ k. no_begin j limit k) inv.refusals)
     (swept_grown _ _ _ _ _ _ _ (λ k. no_begin j limit k) inv.swept)
-    inv.bounds
+    (bounds_grown _ _ _ _ _ _ (Miss j limit ∷ []) refl inv.bounds)

@@ -14,7 +14,7 @@ use Rattle.crq_rule.specs.declared.layout.Start.{Start}
 use Rattle.crq_rule.specs.declared.view.Caller.{Caller}
 use Rattle.crq_rule.specs.Places.{index, current}
 use Rattle.crq_rule.specs.Core.{Core, caller_of, owed_by}
-use Rattle.crq_rule.specs.CurrentKinds.{sight_on, next_position, raises, lies_ahead, permit_after, settles, settles_back, loads_current, loads_owed, owed_position, MayView, MayRaise, MaySettle}
+use Rattle.crq_rule.specs.CurrentKinds.{sight_on, next_position, raises, lies_ahead, permit_after, told_after, settles, settles_back, loads_current, loads_owed, owed_position, MayView, MayRaise, MaySettle}
 use Rattle.crq_rule.specs.Steps.{Kind, current_load, raise, raise_fails, settle_now, settle_later, settle, settle_fails, May, kind_of, After}
 use Rattle.crq_rule.specs.Moves.{MovesBy, By, FoundCurrent, FoundOwed, wins, quiet}
 use Rattle.crq_rule.specs.Rule.{IsWords}
@@ -39,11 +39,12 @@ module _ (key : Start) (p : Caller) where
       after = λ i. record (caller_of c j) {
         found = sym (put_here c.found j (record (c.found j) { current = Some c.words.current })) i;
         permit = sym (put_here c.permit j (permit_after c.words.current (c.permit j))) i;
+        told = sym (put_here c.told j (told_after c.start c.words.current (c.told j))) i;
         sight = sym (put_here c.sight j (sight_on walks (c.found j).control c.words.current)) i;
         walk = sym (put_here c.walk j None) i;
       };
       later = λ x found. inv.finds.currents j x b found;
-      seen = λ s x sees seen. inv.finds.views j s x b sees seen;
+      seen = λ s sees. inv.finds.views j s b sees;
     },
   )
 
@@ -66,6 +67,7 @@ module _ (key : Start) (p : Caller) where
   loaded_so c = λ i. record (caller_of c j) {
     found = sym (put_here c.found j (record (c.found j) { current = Some c.words.current })) i;
     permit = sym (put_here c.permit j (permit_after c.words.current (c.permit j))) i;
+    told = sym (put_here c.told j (told_after c.start c.words.current (c.told j))) i;
     sight = sym (put_here c.sight j None) i;
     walk = sym (put_here c.walk j None) i;
   }

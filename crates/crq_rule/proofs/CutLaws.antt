@@ -21,7 +21,7 @@ use Rattle.crq_rule.specs.Parts.{Spelled, Holders, Stamps, stamp_of, Chains, Lea
 use Rattle.crq_rule.specs.ListParts.{Heads, Sorted, Marks, MarkFits, StandFits, Standing, Copying, IsFinal, Lanes, Writing, row_word, Naming, IsNamed, ranks}
 use Rattle.crq_rule.specs.HistoryParts.{Carriers, IsLive, Walkers, StandsFrom, IsCarrying}
 use Rattle.crq_rule.specs.ScarceParts.{IsLate}
-use Rattle.crq_rule.specs.Invariant.{takes_of, Inv}
+use Rattle.crq_rule.specs.Invariant.{present_of, takes_of, Inv}
 use Rattle.crq_rule.specs.Ranks.{list_in, Rises, Cell, at_head, at_row, link_at, heads_set, links_set, without_row}
 use Rattle.crq_rule.specs.ListKinds.{cut_from, without_stand, unnamed, StandsOn, MayWalk, MayCut, unnamed_row}
 use Rattle.crq_rule.proofs.Puts.{put_here, put_else, put_all}
@@ -426,8 +426,8 @@ module _ (c : Core) (j : ℕ) (cell : Cell) (x : ℕ) (l : Link) (b : j < c.star
     follows = path_pass c.words.link links (λ _. 0) x passes refl at s.row s.follows.through (λ z. dead_kept (c.words.link s.row).mark (ap (λ z. (c.words.link z).mark) z ∙ dead) s.kept) s.follows.path;
   }
 
-  walkers_part : Walkers n c.history c.settling (record (takes_of c) { walk = put c.walk j None; rows = put c.rows j now_rows }) links c.words.event
-  walkers_part = walkers_stop _ _ _ _ _ _ j now_rows (walkers_links _ _ _ _ _ _ links c.words.event (λ _ r _ _. link_generation c.words.head c.words.link l.row cell r) (λ _ g at e _ _ _. from_before g at e) inv.walkers)
+  walkers_part : Walkers (present_of c) (record (takes_of c) { walk = put c.walk j None; rows = put c.rows j now_rows }) links c.words.event
+  walkers_part = walkers_stop (present_of c) (takes_of c) _ _ j now_rows (walkers_links (present_of c) (takes_of c) _ _ links c.words.event (λ _ r _ _. link_generation c.words.head c.words.link l.row cell r) (λ _ g at e _ _ _. from_before g at e) inv.walkers)
 
   low : l.row < 2 ^ 24
   low = subst (λ (z : Link). z.row < 2 ^ 24) at_x (inv.spelled.links x row_x).row
@@ -456,8 +456,8 @@ module _ (c : Core) (j : ℕ) (cell : Cell) (x : ℕ) (l : Link) (b : j < c.star
     cover = cover_part;
     sizes = sizes_rows _ _ _ _ _ _ _ _ _ (λ h _. head_generation c.words.head c.words.link l.row cell h) (λ r _ out. inl (was_outside r out, link_generation c.words.head c.words.link l.row cell r)) inv.sizes;
     dues = dues_named _ _ _ _ _ _ _ (λ k d _ has. inl (names_before k d has)) inv.dues;
-    steady = steady_names _ _ _ _ _ _ _ (λ k d _ has. inl (names_before k d has))
-        (λ k _. put_all c.named j now_names (λ k t. (c.named k).second ≡ None → t.second ≡ None) (λ none. moved_second _ _ (ap (unnamed x) none)) (λ _ _ h. h) k) (steady_rows _ _ _ _ _ _ _ _ (λ r _ out. inl (was_outside r out, link_generation c.words.head c.words.link l.row cell r, inl (same_mark r))) inv.steady);
+    steady = steady_names _ _ _ _ _ _ (λ k d _ has. inl (names_before k d has))
+        (λ k _. put_all c.named j now_names (λ k t. (c.named k).second ≡ None → t.second ≡ None) (λ none. moved_second _ _ (ap (unnamed x) none)) (λ _ _ h. h) k) (steady_rows _ _ _ _ _ _ _ (λ r _ out. inl (was_outside r out, link_generation c.words.head c.words.link l.row cell r, inl (same_mark r))) inv.steady);
     heads = heads_part;
     sorted = sorted_part;
     marks = marks_part;
@@ -468,9 +468,11 @@ module _ (c : Core) (j : ℕ) (cell : Cell) (x : ℕ) (l : Link) (b : j < c.star
     naming = naming_part;
     carriers = carriers_part;
     told = inv.told;
+    numbers = inv.numbers;
     bounds = inv.bounds;
     settling = inv.settling;
     walkers = walkers_part;
+    ahead = inv.ahead;
     scarce = scarce_lasts _ _ _ _ _ _ _ _ _ (le_refl _) (λ k inside. lasts_held _ _ _ _ x (cut_by j) k (λ g _ _. subst (IsLate c.guard g) (sym was) tt)
         (λ g _ low _. inr (since_low c.words.epoch (c.words.announced j) g (c.guard j) (inv.guards.each j b) (omega arith)))) inv.scarce;
     refusals = inv.refusals;

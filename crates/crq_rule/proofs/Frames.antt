@@ -13,10 +13,11 @@ use Rattle.crq_rule.specs.Core.{Core, Holding}
 use Rattle.crq_rule.specs.Parts.{ground_of, footings, Spelled, Reading, Finds, Guards, Holders, Cutting, Stamps, Cover}
 use Rattle.crq_rule.specs.ListParts.{Sizes, Dues, Marks, Standing, Copying, Lanes, Writing, Naming}
 use Rattle.crq_rule.specs.Steady.{Steady}
-use Rattle.crq_rule.specs.HistoryParts.{Carriers, Told, Settling, Walkers}
+use Rattle.crq_rule.specs.HistoryParts.{Carriers, Told, Numbers, Settling, Walkers}
 use Rattle.crq_rule.specs.Bounds.{Bounds}
 use Rattle.crq_rule.specs.ScarceParts.{Scarce, Refusals, Swept}
-use Rattle.crq_rule.specs.Invariant.{takes_of, Inv}
+use Rattle.crq_rule.specs.Ahead.{Ahead}
+use Rattle.crq_rule.specs.Invariant.{present_of, takes_of, Inv}
 use Rattle.crq_rule.specs.Kinds.{after_made}
 
 -- the epoch word, announcements, guards, ticks, epochs read, tags, bases, positions and walks
@@ -30,7 +31,7 @@ pub frame_guards : (c : Core) (e : ℕ) (announced : ℕ → ℕ) (epochs : ℕ 
     → Standing c.start.layout.workers c.words.head c.words.link c.words.twin c.words.event rows
     → Copying c.start.layout.workers c.words.head c.words.link c.words.twin c.words.event old
     → Lanes c.start.layout c.shape (record (ground_of c) { guard = guard; footing = footings rows old c.copying }) c.words.event
-    → Walkers c.start.layout.workers c.history c.settling (record (takes_of c) { walk = walk; rows = rows }) c.words.link c.words.event
+    → Walkers (present_of c) (record (takes_of c) { walk = walk; rows = rows }) c.words.link c.words.event
     → Scarce c.start.layout e c.history base guard c.holding
     → Inv (record c { words = record c.words { epoch = e; announced = announced }; epochs = epochs; guard = guard; tick = tick; cut = cut; base = base; rows = rows; old = old; walk = walk })
 frame_guards c e announced epochs guard tick cut base rows old walk inv reading guards holders cutting stamps cover standing copying lanes walkers scarce = record {
@@ -56,8 +57,10 @@ frame_guards c e announced epochs guard tick cut base rows old walk inv reading 
   naming = inv.naming;
   carriers = inv.carriers;
   told = inv.told;
+  numbers = inv.numbers;
   settling = inv.settling;
   walkers = walkers;
+  ahead = inv.ahead;
   bounds = inv.bounds;
   scarce = scarce;
   refusals = inv.refusals;
@@ -72,7 +75,7 @@ pub frame_rows : (c : Core) (stamp : ℕ → ℕ) (hand : ℕ → List ℕ) (rip
     → Stamps c.start.layout c.words.epoch stamp ripening holding
     → Cover (ground_of c) cut holding
     → Sizes c.start c.words.control c.shape c.words.head c.words.link holding
-    → Steady c.start c.words.control c.words.link holding c.named c.settling
+    → Steady c.start c.words.control c.words.link holding c.named
     → Marks c.start.layout c.words.control c.words.head c.words.link c.words.twin holding
     → Writing c.start.layout.workers c.words.link c.words.twin c.words.event hand c.written
     → Naming c.start.layout c.words.head c.words.link c.words.event c.named holding
@@ -103,8 +106,10 @@ frame_rows c stamp hand ripening cut base refused holding inv reading holders cu
   naming = naming;
   carriers = carriers;
   told = inv.told;
+  numbers = inv.numbers;
   settling = inv.settling;
   walkers = inv.walkers;
+  ahead = inv.ahead;
   bounds = inv.bounds;
   scarce = scarce;
   refusals = refusals;
@@ -132,22 +137,25 @@ with_entries c d = record c {
   told = d.told;
 }
 
--- the history and what is known of it
-pub frame_entry : (c d : Core) → Inv c
-    → Finds c.start c.words.control c.shape c.words.current d.found d.sight
+-- current, the history and what is known of it
+pub frame_moved : (c d : Core) (current : Current) → Inv c
+    → Spelled c.start.layout c.words.control current c.words.pin c.words.head c.words.link c.words.twin c.words.event
+    → Finds c.start c.words.control c.shape current d.found d.sight
     → Dues c.start.layout.workers c.words.control c.shape d.settling c.copying c.named
-    → Steady c.start c.words.control c.words.link c.holding c.named d.settling
+    → Steady c.start c.words.control c.words.link c.holding c.named
     → Carriers c.start.layout d.history c.words.link c.words.twin c.words.event c.holding
     → Told c.start.layout.workers d.history d.deal d.own d.begun
+    → Numbers c.start.layout.workers d.history d.told
     → Settling c.start.layout.workers d.history d.settling
-    → Walkers c.start.layout.workers d.history d.settling (takes_of (with_entries c d)) c.words.link c.words.event
+    → Walkers (record (present_of (with_entries c d)) { current = current }) (takes_of (with_entries c d)) c.words.link c.words.event
+    → Ahead d.history current
     → Scarce c.start.layout c.words.epoch d.history d.base c.guard c.holding
     → Refusals c.start.layout.workers d.history d.refused
     → Swept c.start.layout d.history c.words.event c.chain d.sweep d.clean
-    → Bounds c.start.layout.workers c.words.current d.permit
-    → Inv (with_entries c d)
-frame_entry c d inv finds dues steady carriers told settling walkers scarce refusals swept bounds = record {
-  spelled = inv.spelled;
+    → Bounds c.start c.words.control current d.history d.settling d.permit
+    → Inv (with_entries (record c { words = record c.words { current = current } }) d)
+frame_moved c d current inv spelled finds dues steady carriers told numbers settling walkers ahead scarce refusals swept bounds = record {
+  spelled = spelled;
   reading = inv.reading;
   finds = finds;
   guards = inv.guards;
@@ -169,13 +177,33 @@ frame_entry c d inv finds dues steady carriers told settling walkers scarce refu
   naming = inv.naming;
   carriers = carriers;
   told = told;
+  numbers = numbers;
   settling = settling;
   walkers = walkers;
+  ahead = ahead;
   bounds = bounds;
   scarce = scarce;
   refusals = refusals;
   swept = swept;
 }
+
+-- current stays
+pub frame_entry : (c d : Core) → Inv c
+    → Finds c.start c.words.control c.shape c.words.current d.found d.sight
+    → Dues c.start.layout.workers c.words.control c.shape d.settling c.copying c.named
+    → Steady c.start c.words.control c.words.link c.holding c.named
+    → Carriers c.start.layout d.history c.words.link c.words.twin c.words.event c.holding
+    → Told c.start.layout.workers d.history d.deal d.own d.begun
+    → Numbers c.start.layout.workers d.history d.told
+    → Settling c.start.layout.workers d.history d.settling
+    → Walkers (present_of (with_entries c d)) (takes_of (with_entries c d)) c.words.link c.words.event
+    → Ahead d.history c.words.current
+    → Scarce c.start.layout c.words.epoch d.history d.base c.guard c.holding
+    → Refusals c.start.layout.workers d.history d.refused
+    → Swept c.start.layout d.history c.words.event c.chain d.sweep d.clean
+    → Bounds c.start c.words.control c.words.current d.history d.settling d.permit
+    → Inv (with_entries c d)
+frame_entry c d inv finds dues steady carriers told numbers settling walkers ahead scarce refusals swept bounds = frame_moved c d c.words.current inv inv.spelled finds dues steady carriers told numbers settling walkers ahead scarce refusals swept bounds
 
 -- the state c, with what each caller found, and the takes that walk, as in d
 abbrev with_found : Core → Core → Core
@@ -184,19 +212,21 @@ with_found c d = record c { read = d.read; permit = d.permit; found = d.found; s
 -- what a caller found of the control word and of current
 pub frame_found : (c d : Core) → Inv c
     → Finds c.start c.words.control c.shape c.words.current d.found d.sight
-    → Walkers c.start.layout.workers c.history c.settling (takes_of (with_found c d)) c.words.link c.words.event
-    → Bounds c.start.layout.workers c.words.current d.permit
+    → Numbers c.start.layout.workers c.history d.told
+    → Walkers (present_of c) (takes_of (with_found c d)) c.words.link c.words.event
+    → Bounds c.start c.words.control c.words.current c.history c.settling d.permit
     → Inv (with_found c d)
-frame_found c d inv finds walkers bounds = frame_entry c (with_found c d) inv finds inv.dues inv.steady inv.carriers inv.told inv.settling walkers inv.scarce inv.refusals inv.swept bounds
+frame_found c d inv finds numbers walkers bounds = frame_entry c (with_found c d) inv finds inv.dues inv.steady inv.carriers inv.told numbers inv.settling walkers inv.ahead inv.scarce inv.refusals inv.swept bounds
 
 -- current, permits, and the walks of takes
 pub frame_current : (c : Core) (current : Current) (permit : ℕ → Bool) (walk : ℕ → Option Walk) → Inv c
     → Spelled c.start.layout c.words.control current c.words.pin c.words.head c.words.link c.words.twin c.words.event
     → Finds c.start c.words.control c.shape current c.found c.sight
-    → Walkers c.start.layout.workers c.history c.settling (record (takes_of c) { walk = walk }) c.words.link c.words.event
-    → Bounds c.start.layout.workers current permit
+    → Walkers (record (present_of c) { current = current }) (record (takes_of c) { walk = walk }) c.words.link c.words.event
+    → Ahead c.history current
+    → Bounds c.start c.words.control current c.history c.settling permit
     → Inv (record c { words = record c.words { current = current }; permit = permit; walk = walk })
-frame_current c current permit walk inv spelled finds walkers bounds = record {
+frame_current c current permit walk inv spelled finds walkers ahead bounds = record {
   spelled = spelled;
   reading = inv.reading;
   finds = finds;
@@ -219,8 +249,10 @@ frame_current c current permit walk inv spelled finds walkers bounds = record {
   naming = inv.naming;
   carriers = inv.carriers;
   told = inv.told;
+  numbers = inv.numbers;
   settling = inv.settling;
   walkers = walkers;
+  ahead = ahead;
   bounds = bounds;
   scarce = inv.scarce;
   refusals = inv.refusals;
@@ -252,8 +284,10 @@ frame_made c j m inv = record {
   naming = inv.naming;
   carriers = inv.carriers;
   told = inv.told;
+  numbers = inv.numbers;
   settling = inv.settling;
   walkers = inv.walkers;
+  ahead = inv.ahead;
   bounds = inv.bounds;
   scarce = inv.scarce;
   refusals = inv.refusals;

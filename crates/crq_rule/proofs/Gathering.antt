@@ -1,5 +1,5 @@
 -- The loads of the spare word at which all callers are dealt something new: the history so far, or other sources.
-use Rattle.std.proofs.Common.{◌≡◌, ◌≢◌, ⊎_elim, inl, ℕ, zero, suc, ◌<◌, cond, List, [], ◌∷◌, ◌++◌, map, get_or, set, sym, refl, ap, ◌∙◌, subst, append-nil, eq-eqb}
+use Rattle.std.proofs.Common.{◌≡◌, ◌≢◌, ⊎_elim, inl, ℕ, zero, suc, ◌<◌, ◌≤◌, arith, Some, None, cond, List, [], ◌∷◌, ◌++◌, map, get_or, set, sym, refl, ap, ◌∙◌, subst, append-nil, eq-eqb}
 use mathlib.Core.Option.{some, some-injective, some-ne-none}
 use lib.ListN.{get_elem?}
 use lib.Seq.{set-get_or}
@@ -8,28 +8,33 @@ use Rattle.atomic_table.proofs.Lists.{at_set}
 use Rattle.crq_base.specs.declared.entry.Entry.{Entry}
 use Rattle.crq_base.specs.declared.entry.Entry.TheVariants.{Begin, Put}
 use Rattle.crq_base.specs.Entries.{caller_of as whose}
-use Rattle.crq_base.specs.Histories.{own as own_of}
+use Rattle.crq_base.specs.Histories.{settleds, table_count, raising_count, own as own_of}
 use Rattle.crq_base.specs.Lists.{In}
 use Rattle.crq_base.specs.Refusals.{AreCounted}
+use Rattle.crq_base.proofs.Verdicts.{contains_or}
 use Rattle.crq_rule.specs.declared.layout.Start.{Start}
+use Rattle.crq_rule.specs.declared.debts.SettleDebt.{SettleDebt}
 use Rattle.crq_rule.specs.declared.view.Deal.{Deal}
+use Rattle.crq_rule.specs.declared.view.Told.{Told as ViewTold}
 use Rattle.crq_rule.specs.declared.view.Caller.{Caller}
 use Rattle.crq_rule.specs.declared.view.View.{View}
 use Rattle.crq_rule.specs.Core.{Core, caller_of}
-use Rattle.crq_rule.specs.HistoryParts.{Told}
+use Rattle.crq_rule.specs.HistoryParts.{Told, Numbers}
 use Rattle.crq_rule.specs.Invariant.{Inv}
 use Rattle.crq_rule.specs.Rule.{IsWords, Carries, Stands}
 use Rattle.crq_rule.proofs.Frames.{frame_entry}
-use Rattle.crq_rule.proofs.SteadyLaws.{all_settled}
 use Rattle.crq_rule.specs.Deals.{HasAll, settled_part, dealt_again, Gathered, spanned_part, spans, IsSilent}
+
+none_debt : (d : SettleDebt) → None ≡ Some d → ⊥
+none_debt d e = cc
 
 -- A new deal of the core state, which no part of the invariant but the history reads
 
-abbrev redealt : Core → Deal → (ℕ → List Entry) → Core
-redealt c deal own = record c { deal = deal; own = own }
+abbrev redealt : Core → Deal → (ℕ → List Entry) → (ℕ → ViewTold) → Core
+redealt c deal own known = record c { deal = deal; own = own; told = known }
 
-redealt_keeps : (c : Core) (deal : Deal) (own : ℕ → List Entry) → Told c.start.layout.workers c.history deal own c.begun → Inv c → Inv (redealt c deal own)
-redealt_keeps c deal own told inv = frame_entry c (redealt c deal own) inv inv.finds inv.dues inv.steady inv.carriers told inv.settling inv.walkers inv.scarce inv.refusals inv.swept inv.bounds
+redealt_keeps : (c : Core) (deal : Deal) (own : ℕ → List Entry) (known : ℕ → ViewTold) → Told c.start.layout.workers c.history deal own c.begun → Numbers c.start.layout.workers c.history known → Inv c → Inv (redealt c deal own known)
+redealt_keeps c deal own known told numbers inv = frame_entry c (redealt c deal own known) inv inv.finds inv.dues inv.steady inv.carriers told numbers inv.settling inv.walkers inv.ahead inv.scarce inv.refusals inv.swept inv.bounds
 
 -- entries don't end in a Begin where there are none
 no_begin : (front : List Entry) (j : ℕ) → [] ≡ front ++ Begin j ∷ [] → ⊥
@@ -86,10 +91,10 @@ module _ (key : Start) (id : ℕ) (v : View) (all : HasAll key.layout.workers v)
       sym old.mine ∙ (ap h.seat (sym it.3) ∙ (h.views id it.0 v it.1 at it.2).mine)
 
   -- a new deal of the core state that changes what each caller knows by f
-  stands_dealt : (deal : Deal) (own : ℕ → List Entry) (f : Caller → Caller) → ((j : ℕ) → f (caller_of h.core j) ≡ caller_of (redealt h.core deal own) j) → ((p : Caller) → (f p).number ≡ p.number)
-      → Told h.core.start.layout.workers h.core.history deal own h.core.begun
+  stands_dealt : (deal : Deal) (own : ℕ → List Entry) (known : ℕ → ViewTold) (f : Caller → Caller) → ((j : ℕ) → f (caller_of h.core j) ≡ caller_of (redealt h.core deal own known) j) → ((p : Caller) → (f p).number ≡ p.number)
+      → Told h.core.start.layout.workers h.core.history deal own h.core.begun → Numbers h.core.start.layout.workers h.core.history known
       → Stands key record { words = set s.words 0 (get_or s.words 0 0); homes = s.homes; views = set s.views id (record v { parts = map f v.parts }) }
-  stands_dealt deal own f is same told = let c : Core = h.core in let c' : Core = redealt c deal own in let w : View = record v { parts = map f v.parts } in record {
+  stands_dealt deal own known f is same told numbers = let c : Core = h.core in let c' : Core = redealt c deal own known in let w : View = record v { parts = map f v.parts } in record {
     core = c';
     seat = h.seat;
     words = subst (IsWords key c') (sym (set-get_or s.words 0 0)) (record { start = h.words.start; shows = h.words.shows });
@@ -102,7 +107,7 @@ module _ (key : Start) (id : ℕ) (v : View) (all : HasAll key.layout.workers v)
         }))
         (λ (t : (i ≢ id) × (get_elem? s.views i ≡ some u)). absurd (t.0 (only i k u q t.1 g)))
         (at_set s.views id i w u e);
-    kept = redealt_keeps c deal own told h.kept;
+    kept = redealt_keeps c deal own known told numbers h.kept;
   }
 
 pub gathers : (key : Start) (slots id : ℕ) (me : Me (Unit {0}) View) → HasAll key.layout.workers me.0 → Allows (Stands key) slots id me 0 (λ n. n) (λ r m. Gathered me.0 m.0 × (m.1 ≡ me.1))
@@ -110,16 +115,20 @@ gathers key slots id me all s h _ at _ = let c = h.core in let told = h.kept.tol
   dealt_again c.history me.0,
   keeps,
   tt,
-  stands_dealt key id me.0 all s h at (record { history = c.history; span = c.deal.span }) (λ _. []) (settled_part c.history) (λ j. refl) (λ p. refl) (told_gathered c.start.layout.workers c.history c.deal c.own c.begun told),
+  stands_dealt key id me.0 all s h at (record { history = c.history; span = c.deal.span }) (λ _. []) (λ _. record { tables = 0; settled = 0 }) (settled_part c.history) (λ j. refl) (λ p. refl)
+      (told_gathered c.start.layout.workers c.history c.deal c.own c.begun told) (record { tables = λ _ _. omega arith; raising = λ _ _. omega arith }),
   (
     record {
       history = c.history;
       since = told.since;
       is = refl;
       legal = told.legal;
-      settled = all_settled c h.kept;
+      settled = λ none e put. ⊎_elim (λ s. s) (λ left. let o = h.kept.settling.unsettled e put left in let it = all o.0 (subst (λ (z : Start). o.0 < z.layout.workers) h.words.start o.1) in let old = h.views id it.0 me.0 it.1 at it.2 in
+          absurd (none_debt o.2.0 (sym (none it.0 it.1 it.2) ∙ (ap (λ (p : Caller). p.debts.settle) old.is ∙ (ap c.settling it.3 ∙ o.2.1))))) (contains_or (settleds c.history) e);
       each = λ k p f. let old = h.views id k me.0 p at f in (told.extends ∙ ap (λ (p : Caller). p.deal.history ++ told.since) (sym old.is), told.each p.number old.inside ∙ ap (λ (p : Caller). p.own) (sym old.is));
       counted = λ k p f. let old = h.views id k me.0 p at f in subst (AreCounted c.history p.number) (ap (λ (p : Caller). p.refused) (sym old.is)) (h.kept.refusals.each p.number old.inside);
+      tables = λ k p f. let old = h.views id k me.0 p at f in subst (λ (p : Caller). p.told.tables ≤ table_count c.history) (sym old.is) (h.kept.numbers.tables p.number old.inside);
+      raising = λ k p f. let old = h.views id k me.0 p at f in subst (λ (p : Caller). p.told.settled ≤ raising_count c.history) (sym old.is) (h.kept.numbers.raising p.number old.inside);
       inside = λ k p e f i. let old = h.views id k me.0 p at f in subst (λ (p : Caller). whose e < p.start.layout.workers) (sym old.is) (told.inside e i);
     },
     refl,
@@ -134,6 +143,6 @@ respans key slots id span me some_span all silent s h _ at _ = let c = h.core in
       spans span me.0,
       keeps,
       tt,
-      stands_dealt key id me.0 all s h at (record { history = c.deal.history; span = span }) c.own (spanned_part span) (λ j. refl) (λ p. refl) (told_spanned c.start.layout.workers c.history c.deal c.own c.begun span some_span told none),
+      stands_dealt key id me.0 all s h at (record { history = c.deal.history; span = span }) c.own c.told (spanned_part span) (λ j. refl) (λ p. refl) (told_spanned c.start.layout.workers c.history c.deal c.own c.begun span some_span told none) h.kept.numbers,
       refl,
     )

@@ -11,7 +11,7 @@ use Rattle.crq_rule.specs.Lists.{put}
 use Rattle.crq_rule.specs.Core.{Core}
 use Rattle.crq_rule.specs.ScarceParts.{pending, IsBase}
 use Rattle.crq_rule.specs.Parts.{Cutting, Reading, Stamps, Guards, GuardIs, OnSince, IsOn, LetsRise, footings, ground_of}
-use Rattle.crq_rule.specs.Invariant.{Inv}
+use Rattle.crq_rule.specs.Invariant.{present_of, takes_of, Inv}
 use Rattle.crq_rule.specs.Kinds.{epoch_loaded, recovery_begun, new_base, entered, confirmed, left, scanned, ticked, tick_failed, tagged, new_tick, HasScanned}
 use Rattle.crq_rule.proofs.Puts.{put_here, put_else}
 use Rattle.crq_rule.proofs.PartLaws.{read_epoch, read_tick, read_cut, read_risen, tagged_some, guard_set, tick_set, guards_risen, found_at, announced_low, cutting_guard, cutting_cut, stamps_risen}
@@ -101,7 +101,7 @@ leave_keeps c j b uncut none inv = frame_guards c _ _ _ _ _ _ _ _ _ _ inv inv.re
     (standing_nowhere _ _ _ _ _ _ j inv.standing)
     (copying_nowhere _ _ _ _ _ _ j inv.copying)
     (lanes_guard _ _ _ _ j Off (λ _. nowhere_now c.rows c.old c.copying j none) (lanes_less _ _ _ _ _ less inv.lanes))
-    (walkers_stop _ _ _ _ _ _ j [] inv.walkers)
+    (walkers_stop (present_of c) (takes_of c) _ _ j [] inv.walkers)
     (scarce_lasts _ _ _ _ _ _ _ _ _ (le_refl _) (λ k inside. lasts_guard _ _ _ _ j Off k inside
     (λ r g row held _. absurd (let o = inv.holders.of_cut j r row held in none_some o.1.0 (sym uncut ∙ o.1.1))) (λ _ _ _. tt)) inv.scarce)
   where

@@ -1,9 +1,8 @@
 -- How the part on the history stays where one caller adds entries, and what is pending after them.
-use Rattle.std.proofs.Common.{◌≡◌, ◌≢◌, ◌⊎◌, ◌↔◌, ⊎_elim, inl, inr, ℕ, ◌<◌, ◌≤◌, Bool, true, false, Option, Some, cond, eqb, List, [], ◌∷◌, ◌++◌, length, sym, refl, ap, ◌∙◌, subst, append_assoc, append-nil, eq-eqb, ne_eqb, arith, le_refl}
+use Rattle.std.proofs.Common.{◌≡◌, ◌≢◌, ◌⊎◌, ◌↔◌, ⊎_elim, inl, inr, ℕ, ◌<◌, ◌≤◌, Bool, true, false, Option, Some, None, cond, eqb, List, [], ◌∷◌, ◌++◌, length, sym, refl, ap, ◌∙◌, subst, append_assoc, append-nil, eq-eqb, ne_eqb, arith, le_refl}
 use mathlib.Core.Logic.{dite}
 use native.Mathlib.Decide.{ℕ_discrete}
 use Rattle.std.proofs.lemmas.List.{length-append}
-use Rattle.std.proofs.Math.Seq.{get_or-append_seam}
 use Rattle.std.specs.List.{Contains}
 use Rattle.std.proofs.lemmas.List.Elements.{Contains-append_left, Contains-append_cases, Contains-push}
 use Rattle.crq_base.specs.declared.event.Event.{Event}
@@ -18,16 +17,16 @@ use Rattle.crq_base.specs.Sources.{owner_of, IsFresh}
 use Rattle.crq_rule.specs.declared.view.Deal.{Deal}
 use Rattle.crq_rule.specs.Lists.{put}
 use Rattle.crq_rule.specs.HistoryParts.{Told, Settling, EndsInBegin}
-use Rattle.crq_rule.specs.ListKinds.{put_entries}
 use Rattle.crq_rule.specs.declared.debts.SettleDebt.{SettleDebt}
+use Rattle.std.proofs.lemmas.Option.{same_Some}
 use Rattle.crq_rule.proofs.Prefixes.{of_front, of_back, of_both}
-use Rattle.crq_rule.proofs.Puts.{put_here, put_else, put_all}
+use Rattle.crq_rule.proofs.Puts.{put_here, put_else, put_all, snoc_in}
 
-put_settled : (j k : ℕ) (e f : Event) → Put j e ≡ Settled k f → ⊥
-put_settled j k e f q = cc
+put_begin : (j k : ℕ) (e : Event) → Put j e ≡ Begin k → ⊥
+put_begin j k e q = cc
 
-settled_begin : (j k : ℕ) (e : Event) → Settled j e ≡ Begin k → ⊥
-settled_begin j k e q = cc
+none_debt : (d : SettleDebt) → None ≡ Some d → ⊥
+none_debt d e = cc
 
 -- Members
 
@@ -165,22 +164,13 @@ module _ (n : ℕ) (history : List Entry) (deal : Deal) (own : ℕ → List Entr
       fresh.1 j e (inr (subst (In (Put j e)) (told.each j b) (in_own j told.since (Put j e) refl (subst (λ k. In (Put k e) told.since) who h)))) refl refl)
       (in_append deal.history told.since (Put by.0 e) (subst (In (Put by.0 e)) told.extends by.1))
 
-  pub told_put : (j : ℕ) (e : Event) → j < n → IsFresh n deal.history (own j) deal.span j e → Told n history deal own begun → Told n (history ++ put_entries j e) deal (put own j (own j ++ put_entries j e)) begun
-  told_put j e b fresh told = let new = fresh_put j e b fresh told in told_more j (put_entries j e) begun b (
-    new,
-    (
-      (
-        (length history, (let wide = length-append history (Put j e ∷ []) in omega arith), get_or-append_seam history (Put j e) [] (Put j e)),
-        λ i. new (settled_put history told.legal e (subst (λ z. Contains z e) (settleds-append history (Put j e ∷ []) ∙ append-nil (settleds history)) i)),
-      ),
-      tt,
-    ),
-  )
-      (λ x i. ⊎_elim (λ q. ap whose q) (λ i. ⊎_elim (λ q. ap whose q) (λ n. absurd n) i) i)
-      (λ k f i. ⊎_elim (λ q. put_source k f q) (λ i. ⊎_elim (λ q. absurd (put_settled k j f e q)) (λ n. absurd n) i) i)
+  pub told_put : (j : ℕ) (e : Event) → j < n → IsFresh n deal.history (own j) deal.span j e → Told n history deal own begun → Told n (history ++ Put j e ∷ []) deal (put own j (own j ++ Put j e ∷ [])) begun
+  told_put j e b fresh told = told_more j (Put j e ∷ []) begun b (fresh_put j e b fresh told, tt)
+      (λ x i. ⊎_elim (λ q. ap whose q) (λ n. absurd n) i)
+      (λ k f i. ⊎_elim (λ q. put_source k f q) (λ n. absurd n) i)
       (λ _ _. refl)
-      (let low = told.begun_low j b in let wide = length-append history (put_entries j e) in omega arith)
-      (λ ends. absurd (settled_begin j ends.1 e (last_one (own j ++ Put j e ∷ []) ends.0 (Settled j e) (Begin ends.1) (append_assoc (own j) (Put j e ∷ []) (Settled j e ∷ []) ∙ ends.2))))
+      (let low = told.begun_low j b in let wide = length-append history (Put j e ∷ []) in omega arith)
+      (λ ends. absurd (put_begin j ends.1 e (last_one (own j) ends.0 (Put j e) (Begin ends.1) ends.2)))
       told
     where
       put_source : (k : ℕ) (f : Event) → Put k f ≡ Put j e → owner_of n deal.span f.src ≡ k
@@ -204,17 +194,17 @@ module _ (n : ℕ) (history : List Entry) (deal : Deal) (own : ℕ → List Entr
   told_begin j b told = told_entry j (Begin j) (put begun j (length history)) b tt refl refl (put_else begun j (length history)) (subst (λ z. z ≤ length history) (sym (put_here begun j (length history))) (le_refl _))
       (λ _. (history, sym (put_here begun j (length history)), began_now j history)) told
 
-pub outs_put : (history : List Entry) (j : ℕ) (e : Event) → outs (history ++ put_entries j e) ≡ outs history
-outs_put history j e = outs-append history (put_entries j e) ∙ append-nil (outs history)
+pub outs_put : (history : List Entry) (j : ℕ) (e : Event) → outs (history ++ Put j e ∷ []) ≡ outs history
+outs_put history j e = outs-append history (Put j e ∷ []) ∙ append-nil (outs history)
 
-puts_put : (history : List Entry) (j : ℕ) (e : Event) → puts (history ++ put_entries j e) ≡ puts history ++ e ∷ []
-puts_put history j e = puts-append history (put_entries j e)
+puts_put : (history : List Entry) (j : ℕ) (e : Event) → puts (history ++ Put j e ∷ []) ≡ puts history ++ e ∷ []
+puts_put history j e = puts-append history (Put j e ∷ [])
 
-pub pending_put : (history : List Entry) (j : ℕ) (e f : Event) → IsPending (history ++ put_entries j e) f → IsPending history f ⊎ (f ≡ e)
+pub pending_put : (history : List Entry) (j : ℕ) (e f : Event) → IsPending (history ++ Put j e ∷ []) f → IsPending history f ⊎ (f ≡ e)
 pending_put history j e f p = ⊎_elim (λ i. inl (record { put = i; kept = λ o. p.kept (subst (λ z. Contains z f) (sym (outs_put history j e)) o) })) (λ i. inr (only e f i))
     (Contains-append_cases (puts history) (e ∷ []) f (subst (λ z. Contains z f) (puts_put history j e) p.put))
 
-pub put_pending : (history : List Entry) (j : ℕ) (e f : Event) → IsPending history f ⊎ ((f ≡ e) × (Contains (outs history) e → ⊥)) → IsPending (history ++ put_entries j e) f
+pub put_pending : (history : List Entry) (j : ℕ) (e f : Event) → IsPending history f ⊎ ((f ≡ e) × (Contains (outs history) e → ⊥)) → IsPending (history ++ Put j e ∷ []) f
 put_pending history j e f p = record {
   put = subst (λ z. Contains z f) (sym (puts_put history j e)) (⊎_elim
       (λ (p : IsPending history f). Contains-append_left (puts history) (e ∷ []) f p.put)
@@ -247,7 +237,7 @@ out_later history x e o = subst (λ z. Contains z e) (sym (outs-append history (
 
 -- Events that are owed
 
-put_in : (k : ℕ) (e : Event) (h : List Entry) → In (Put k e) h → Contains (puts h) e
+pub put_in : (k : ℕ) (e : Event) (h : List Entry) → In (Put k e) h → Contains (puts h) e
 put_in k e (x ∷ h) i = ⊎_elim
     (λ (same : Put k e ≡ x). of_front put_of (x ∷ []) h e (subst (λ z. Contains (puts (z ∷ [])) e) same (0, omega arith, refl)))
     (λ t. of_back put_of (x ∷ []) h e (put_in k e h t)) i
@@ -267,6 +257,36 @@ module _ (n : ℕ) (history : List Entry) (settling : ℕ → Option SettleDebt)
     lone = old.lone;
   }
 
-  pub settling_put : (j : ℕ) (e : Event) → (Contains (puts history) e → ⊥) → Settling n history settling → Settling n (history ++ put_entries j e) settling
-  settling_put j e new old = settling_more (put_entries j e) (λ f i. of_back settled_of history (put_entries j e) f i)
-      (λ k d b is i. let o = old.owed k d b is in new (subst (Contains (puts history)) (only e d.event i) (put_in k d.event history o.0))) old
+  -- an event that was never put is put by a caller that owes none, and owed by it
+  module _ (j : ℕ) (d : SettleDebt) (b : j < n) (free : settling j ≡ None) (new : Contains (puts history) d.event → ⊥) (old : Settling n history settling) where
+    abbrev more : List Entry
+    more = Put j d.event ∷ []
+
+    abbrev owing : ℕ → Option SettleDebt
+    owing = put settling j (Some d)
+
+    was_settled : (e : Event) → Contains (settleds (history ++ more)) e → Contains (settleds history) e
+    was_settled e s = ⊎_elim (λ o. o) (λ n. absurd (nothing e n)) (of_both settled_of history more e s)
+
+    -- what is owed is this event, or was owed
+    is_owed : (k : ℕ) (f : SettleDebt) → owing k ≡ Some f → ((k ≡ j) × (d ≡ f)) ⊎ (settling k ≡ Some f)
+    is_owed k f = put_all settling j (Some d) (λ k o. o ≡ Some f → ((k ≡ j) × (d ≡ f)) ⊎ (settling k ≡ Some f)) (λ e. inl (refl, same_Some d f e)) (λ _ _ e. inr e) k
+
+    -- another one than what was owed
+    other : (k : ℕ) (f g : SettleDebt) → k < n → settling k ≡ Some g → d ≡ f → f.event ≡ g.event → ⊥
+    other k f g c owes here same = new (subst (Contains (puts history)) (sym (ap (λ (x : SettleDebt). x.event) here ∙ same)) (put_in k g.event history (old.owed k g c owes).0))
+
+    pub settling_put : (Contains (settleds history) d.event → ⊥) → Settling n (history ++ more) owing
+    settling_put loose = record {
+      owed = λ k f c is. ⊎_elim
+          (λ (h : (k ≡ j) × (d ≡ f)). subst (λ (z : ℕ × SettleDebt). In (Put z.0 z.1.event) (history ++ more) × (Contains (settleds (history ++ more)) z.1.event → ⊥)) (λ i. (sym h.0 i, h.1 i))
+          (snoc_in history (Put j d.event) (Put j d.event) (inr refl), λ s. loose (was_settled d.event s)))
+          (λ o. let was = old.owed k f c o in (in_left history more (Put k f.event) was.0, λ s. was.1 (was_settled f.event s))) (is_owed k f is);
+      unsettled = λ e put left. ⊎_elim
+          (λ was. let o = old.unsettled e was (λ s. left (of_front settled_of history more e s)) in
+          (o.0, o.1, (o.2.0, put_else settling j (Some d) o.0 (λ same. none_debt o.2.0 (sym free ∙ (ap settling (sym same) ∙ o.2.1))) ∙ o.2.1, o.2.2)))
+          (λ here. (j, b, (d, put_here settling j (Some d), sym (only d.event e here)))) (of_both put_of history more e put);
+      lone = λ i k f g a c is is' same. ⊎_elim
+          (λ (h : (i ≡ j) × (d ≡ f)). ⊎_elim (λ (h' : (k ≡ j) × (d ≡ g)). h.0 ∙ sym h'.0) (λ owes. absurd (other k f g c owes h.1 same)) (is_owed k g is'))
+          (λ owes. ⊎_elim (λ (h' : (k ≡ j) × (d ≡ g)). absurd (other i g f a owes h'.1 (sym same))) (λ owes'. old.lone i k f g a c owes owes' same) (is_owed k g is')) (is_owed i f is);
+    }

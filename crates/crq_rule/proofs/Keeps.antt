@@ -1,13 +1,12 @@
 -- Each step of each kind keeps the invariant, changes what its own caller knows alone, and one word at most.
 use Rattle.std.proofs.Common.{◌≡◌, ◌≢◌, ℕ, ◌+◌, ◌*◌, ◌^◌, ◌<◌, false, Bool, List, [], ◌∷◌, ◌++◌, length, Option, None, Some, sym, refl, ap, append-nil}
 use Rattle.crq_base.specs.declared.event.Event.{Event}
-use Rattle.crq_base.specs.declared.entry.Entry.TheVariants.{Begin, Settled, Take, Miss}
+use Rattle.crq_base.specs.declared.entry.Entry.TheVariants.{Begin, Put, Settled, Take, Miss}
 use Rattle.crq_base.specs.declared.words.Link.{Link}
 use Rattle.crq_base.specs.declared.words.Mark.TheVariants.{Del}
 use Rattle.crq_base.specs.Words.{link_word}
 use Rattle.crq_rule.specs.declared.view.Guard.TheVariants.{Off, Entering, On}
 use Rattle.crq_rule.specs.declared.view.Stand.{Stand}
-use Rattle.crq_rule.specs.declared.view.Sight.{Sight}
 use Rattle.crq_rule.specs.declared.view.Walk.{Walk}
 use Rattle.crq_rule.specs.declared.view.Sweep.{Sweep}
 use Rattle.crq_rule.specs.declared.view.Caller.{Caller}
@@ -18,7 +17,7 @@ use Rattle.crq_rule.specs.Invariant.{Inv}
 use Rattle.crq_rule.specs.ScarceParts.{pending}
 use Rattle.crq_rule.specs.Kinds.{tagged, new_base, new_tick, seen_stamp, base_looked, refused_after}
 use Rattle.crq_rule.specs.Ranks.{Cell, at_head, at_row, cell_place, link_at, heads_set, links_set}
-use Rattle.crq_rule.specs.ListKinds.{Content, new_link, no_twin, new_time, new_source, new_sequence, new_load, content_number, content_word, row_place, wrote, link_after, twin_after, event_after, put_entries, name_in, unhanded, forgotten, without_stand, stands_after, walk_after, sight_after, taken_on, sweep_on, clean_on, relieved_names, unnamed_row}
+use Rattle.crq_rule.specs.ListKinds.{Aim, Content, new_link, no_twin, new_time, new_source, new_sequence, new_load, content_number, content_word, row_place, wrote, link_after, twin_after, event_after, owed_event, name_in, unhanded, forgotten, without_stand, stands_after, walk_after, taken_on, sweep_on, clean_on, relieved_names, unnamed_row}
 use Rattle.crq_rule.specs.Steps.{Kind, split, join, epoch_load, recovery_load, enter, confirm, leave, scan, tick, tick_fails, retire, look, claim, write, read, walk, link, link_fails, control_load, current_load, raise, raise_fails, settle_now, settle_later, settle, settle_fails, begin, mark, mark_fails, cut, cut_fails, miss, May, After, place_of, entries_of}
 use Rattle.crq_rule.proofs.Puts.{put_else, put_through}
 use Rattle.crq_rule.proofs.GuardLaws.{load_keeps, recovery_keeps, enter_keeps, confirm_keeps, leave_keeps, scan_keeps, tick_keeps, tick_fails_keeps}
@@ -28,7 +27,7 @@ use Rattle.crq_rule.proofs.WalkLaws.{walk_keeps}
 use Rattle.crq_rule.proofs.LinkLaws.{link_keeps}
 use Rattle.crq_rule.proofs.CutLaws.{cut_keeps}
 use Rattle.crq_rule.proofs.MarkLaws.{mark_keeps}
-use Rattle.crq_rule.specs.CurrentKinds.{sight_on, permit_after, current_loaded}
+use Rattle.crq_rule.specs.CurrentKinds.{sight_on, permit_after, told_after, current_loaded}
 use Rattle.crq_rule.proofs.CurrentLaws.{current_keeps}
 use Rattle.crq_rule.proofs.RaiseLaws.{raise_keeps}
 use Rattle.crq_rule.proofs.SettleLaws.{settled_keeps, settle_keeps}
@@ -50,14 +49,14 @@ keeps (look r) c j b may inv = look_keeps c j r b may inv
 keeps (claim r e) c j b may inv = claim_keeps c j r e b may.0 may.1 inv
 keeps (write r x) c j b may inv = write_keeps c j r x b may.0 may.1 inv
 keeps (read r p) c j b may inv = inv
-keeps (walk cell seeks) c j b may inv = walk_keeps c j cell seeks b may.0 may.1 may.2 inv
+keeps (walk cell aim) c j b may inv = walk_keeps c j cell aim b may.0 may.1 may.2 inv
 keeps (link cell l r e) c j b may inv = link_keeps c j cell l r e b may.0 may.1 inv
 keeps (link_fails cell) c j b may inv = inv
 keeps control_load c j b may inv = control_keeps c j b inv
 keeps (current_load walks) c j b may inv = current_keeps c j b inv walks may
-keeps (raise x y) c j b may inv = raise_keeps c j x y may.0 may.1 inv
+keeps (raise x y) c j b may inv = raise_keeps c j x y b may.0 may.1 inv
 keeps raise_fails c j b may inv = inv
-keeps (settle_now d) c j b may inv = settled_keeps c j d b may.0 inv
+keeps (settle_now d) c j b may inv = settled_keeps c j d b may.0 may.1 inv
 keeps (settle_later d) c j b may inv = current_keeps c j b inv false tt
 keeps (settle d y) c j b may inv = settle_keeps c j d y b may.0 may.1 inv
 keeps settle_fails c j b may inv = inv
@@ -69,20 +68,17 @@ keeps (cut_fails cell) c j b may inv = inv
 keeps (miss limit) c j b may inv = miss_keeps c j limit b may inv
 
 -- what a walk changes
-abbrev new_rows : Core → ℕ → Cell → Bool → List Stand
-new_rows c j cell seeks = let l = link_at c.words.head c.words.link cell in stands_after cell seeks l (c.words.event l.row) (c.rows j)
+abbrev new_walk : Core → ℕ → Cell → Aim → Option Walk
+new_walk c j cell aim = walk_after cell aim (c.sight j) (link_at c.words.head c.words.link cell) (c.walk j) (c.rows j)
 
-abbrev new_walk : Core → ℕ → Cell → Bool → Option Walk
-new_walk c j cell seeks = walk_after cell seeks (c.found j).control (link_at c.words.head c.words.link cell) (c.walk j)
+abbrev new_rows : Core → ℕ → Cell → Aim → List Stand
+new_rows c j cell aim = let l = link_at c.words.head c.words.link cell in stands_after cell aim (new_walk c j cell aim) l (c.words.event l.row) (c.rows j)
 
-abbrev new_sight : Core → ℕ → Cell → Bool → Option Sight
-new_sight c j cell seeks = sight_after cell seeks (c.found j).control (link_at c.words.head c.words.link cell) (c.sight j)
+abbrev new_sweep : Core → ℕ → Cell → Aim → Option Sweep
+new_sweep c j cell aim = let l = link_at c.words.head c.words.link cell in sweep_on (taken_on aim (c.found j).control cell (c.rows j) (c.sweep j)) l (c.words.event l.row) (c.sweep j)
 
-abbrev new_sweep : Core → ℕ → Cell → Bool → Option Sweep
-new_sweep c j cell seeks = let l = link_at c.words.head c.words.link cell in sweep_on (taken_on seeks (c.found j).control cell (c.rows j) (c.sweep j)) l (c.words.event l.row) (c.sweep j)
-
-abbrev new_clean : Core → ℕ → Cell → Bool → List ℕ
-new_clean c j cell seeks = clean_on (taken_on seeks (c.found j).control cell (c.rows j) (c.sweep j)) (link_at c.words.head c.words.link cell) (c.clean j)
+abbrev new_clean : Core → ℕ → Cell → Aim → List ℕ
+new_clean c j cell aim = clean_on (taken_on aim (c.found j).control cell (c.rows j) (c.sweep j)) (link_at c.words.head c.words.link cell) (c.clean j)
 
 abbrev new_names : Core → ℕ → Cell → DeadNames
 new_names c j cell = let l = link_at c.words.head c.words.link cell in relieved_names (c.found j).control cell (c.rows j) l (c.words.event l.row) (c.named j)
@@ -93,6 +89,7 @@ others_loaded : (walks : Bool) (c : Core) (j i : ℕ) → i ≢ j → caller_of 
 others_loaded walks c j i ne = λ x. record (caller_of c i) {
   found = put_else c.found j (record (c.found j) { current = Some c.words.current }) i ne x;
   permit = put_else c.permit j (permit_after c.words.current (c.permit j)) i ne x;
+  told = put_else c.told j (told_after c.start c.words.current (c.told j)) i ne x;
   sight = put_else c.sight j (sight_on walks (c.found j).control c.words.current) i ne x;
   walk = put_else c.walk j None i ne x;
 }
@@ -126,16 +123,16 @@ others_stay (look r) c j i ne = λ x. record (caller_of c i) {
 others_stay (claim r e) c j i ne = λ x. record (caller_of c i) { hand = put_else c.hand j (c.hand j ++ r ∷ []) i ne x; ripening = put_else c.ripening j (without r (c.ripening j)) i ne x }
 others_stay (write r x) c j i ne = λ y. record (caller_of c i) { written = put_else c.written j (wrote r (content_number x) (content_word x) (c.written j)) i ne y }
 others_stay (read r p) c j i ne = refl
-others_stay (walk cell seeks) c j i ne = λ x. record (caller_of c i) {
-  position = record { rows = put_else c.rows j (new_rows c j cell seeks) i ne x; old = c.old i };
-  sight = put_else c.sight j (new_sight c j cell seeks) i ne x;
-  walk = put_else c.walk j (new_walk c j cell seeks) i ne x;
-  sweep = put_else c.sweep j (new_sweep c j cell seeks) i ne x;
-  clean = put_else c.clean j (new_clean c j cell seeks) i ne x;
+others_stay (walk cell aim) c j i ne = λ x. record (caller_of c i) {
+  position = record { rows = put_else c.rows j (new_rows c j cell aim) i ne x; old = c.old i };
+  walk = put_else c.walk j (new_walk c j cell aim) i ne x;
+  sweep = put_else c.sweep j (new_sweep c j cell aim) i ne x;
+  clean = put_else c.clean j (new_clean c j cell aim) i ne x;
   debts = owed_by (c.settling i) (c.copying i) (put_else c.named j (new_names c j cell) i ne x);
 }
 others_stay (link cell l r e) c j i ne = λ x. record (caller_of c i) {
-  own = put_else c.own j (c.own j ++ put_entries j e) i ne x;
+  own = put_else c.own j (c.own j ++ Put j e ∷ []) i ne x;
+  debts = owed_by (put_else c.settling j (Some (owed_event l.generation (c.shape l.generation) e)) i ne x) (c.copying i) (c.named i);
   hand = put_else c.hand j (unhanded r (c.hand j)) i ne x;
   base = put_else c.base j None i ne x;
   written = put_else c.written j (forgotten r (c.written j)) i ne x;

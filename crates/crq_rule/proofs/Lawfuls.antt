@@ -14,7 +14,7 @@ use Rattle.crq_rule.specs.Invariant.{Inv}
 use Rattle.crq_rule.specs.Moves.{Lawful}
 use Rattle.crq_rule.proofs.BoundLaws.{permitted}
 use Rattle.crq_rule.proofs.CoverLaws.{guarded_by, stand_row, row_footing, footing_covered}
-use Rattle.crq_rule.proofs.SteadyLaws.{steady_still, steady_one, found_now, named_now, one_named}
+use Rattle.crq_rule.proofs.SteadyLaws.{steady_still, found_now, named_now, one_named}
 use Rattle.crq_rule.proofs.ScarceLaws.{rows_counted}
 
 -- a caller whose guard isn't off or entering found an epoch
@@ -48,10 +48,11 @@ lawful c j b inv = record {
   owed_now = λ d x owed is. subst (λ (z : Control). d.generation ≡ z.generation) (sym (found_now c inv j x b is)) (named_now c inv j d b (inl owed)).0;
   owed_fits = λ d owed. let n = inv.naming.place j d b (inl owed) in (n.row, n.event);
   one_name = one_named c inv j b;
+  owing = λ d owes. let fits = inv.dues.settles j d b owes in (fits.event, fits.width, inv.bounds.owed j d b owes);
   scarce = λ x vain. rows_counted c j x b vain inv;
   sighted = λ s is. let f = inv.finds.sights j s b is in (f.0.spelled, f.1);
-  controlled = λ x is. subst (λ z. IsControl z × (z.moving ≡ false) × (z.log ≡ 0)) (sym (found_now c inv j x b is)) (inv.spelled.is_control, steady_still c inv, steady_one c inv);
-  permitted = λ x has found. let left = permitted c.start.layout.workers c.words.current c.permit j b has inv.bounds in ⊎_elim (λ low. omega arith) (λ same. let e = same.0 in omega arith) (inv.finds.currents j x b found);
+  controlled = λ x is. subst (λ z. IsControl z × (z.moving ≡ false)) (sym (found_now c inv j x b is)) (inv.spelled.is_control, steady_still c inv);
+  permitted = λ x has found. let left = permitted _ _ _ _ _ _ j b has inv.bounds in ⊎_elim (λ low. omega arith) (λ same. let e = same.0 in omega arith) (inv.finds.currents j x b found);
 }
   where
     row_of : (s : Stand) → In s (c.rows j) → IsRow c.start.layout s.row

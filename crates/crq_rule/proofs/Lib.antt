@@ -13,6 +13,7 @@ pub mod SteadyLaws
 pub mod ChainLaws
 pub mod WriteLaws
 pub mod Standings
+pub mod Walkings
 pub mod WalkLaws
 pub mod LinkLaws
 pub mod WithoutLaws

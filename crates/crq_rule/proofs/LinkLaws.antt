@@ -1,10 +1,11 @@
 -- A row in hand that comes after a cell of its list keeps the invariant.
-use Rattle.std.proofs.Common.{◌≡◌, ◌≢◌, ◌⊎◌, ⊎_elim, inl, inr, ℕ, ◌+◌, ◌*◌, ◌^◌, ◌<◌, ◌≤◌, List, [], ◌∷◌, ◌++◌, cond, true, Some, le_refl, sym, refl, ap, ◌∙◌, subst, arith, eq-eqb, ne_eqb}
+use Rattle.std.proofs.Common.{◌≡◌, ◌≢◌, ◌⊎◌, ⊎_elim, inl, inr, ℕ, ◌+◌, ◌*◌, ◌^◌, ◌<◌, ◌≤◌, List, [], ◌∷◌, ◌++◌, cond, true, Option, Some, le_refl, sym, refl, ap, ◌∙◌, subst, arith, eq-eqb, ne_eqb}
 use Rattle.std.specs.Prelude.{Contains}
 use mathlib.Core.Logic.{dite}
 use native.Mathlib.Decide.{ℕ_discrete}
 use Rattle.crq_base.specs.declared.event.Event.{Event}
-use Rattle.crq_base.specs.declared.entry.Entry.TheVariants.{Begin, Put, Settled}
+use Rattle.crq_base.specs.declared.entry.Entry.{Entry}
+use Rattle.crq_base.specs.declared.entry.Entry.TheVariants.{Begin, Put}
 use Rattle.crq_base.specs.declared.words.Link.{Link}
 use Rattle.crq_base.specs.declared.words.Control.{Control}
 use Rattle.crq_base.specs.declared.words.Mark.{Mark}
@@ -17,25 +18,30 @@ use Rattle.crq_rule.specs.declared.view.Guard.{Guard}
 use Rattle.crq_rule.specs.declared.view.Guard.TheVariants.{Off, Entering, On}
 use Rattle.crq_rule.specs.declared.view.CutRow.{CutRow}
 use Rattle.crq_rule.specs.declared.view.Stand.{Stand}
+use Rattle.crq_rule.specs.declared.view.Sight.{Sight}
 use Rattle.crq_rule.specs.declared.view.Wrote.{Wrote}
 use Rattle.crq_rule.specs.Lists.{put}
 use Rattle.crq_rule.specs.Places.{IsRow, IsHomeRow, IsHead}
 use Rattle.crq_rule.specs.Core.{Core, IsOutside, HasName, caller_of, Holding, in_hand, listed, cut_by, retired}
 use Rattle.crq_rule.specs.Parts.{Fits, Spelled, IsEvent, Holders, Stamps, stamp_of, Chains, Leads, Names, IsPath, Reaches, Ground, ground_of, footings, Covers, IsGuarded, Cover, HasTag, IsOn, newest}
-use Rattle.crq_rule.specs.ListParts.{ranks, Heads, Sorted, MarkFits, Marks, IsFinal, StandFits, Standing, Copying, Lanes, row_word, Writing, IsNamed, Naming}
+use Rattle.crq_rule.specs.ListParts.{ranks, DueFits, Dues, Heads, Sorted, MarkFits, Marks, IsFinal, StandFits, Standing, Copying, Lanes, row_word, Writing, IsNamed, Naming}
 use Rattle.crq_rule.specs.HistoryParts.{IsCarrying, IsLive, Carriers, StandsFrom, Walkers}
-use Rattle.crq_rule.specs.Ranks.{rank, list_in, head_of, Cell, at_head, at_row, link_at, heads_set, links_set, Rises, after_cell}
-use Rattle.crq_rule.specs.Invariant.{takes_of, Inv}
-use Rattle.crq_rule.specs.ListKinds.{is_cell, unhanded, forgotten, put_entries, linked, StandsOn, ComesAfter, MayLink}
+use Rattle.crq_rule.specs.Ranks.{rank, Shape, list_in, head_of, Cell, at_head, at_row, link_at, heads_set, links_set, Rises, after_cell}
+use Rattle.crq_rule.specs.Invariant.{present_of, takes_of, Inv}
+use Rattle.crq_rule.specs.ListKinds.{is_cell, unhanded, forgotten, owed_event, linked, StandsOn, ComesAfter, MayLink}
 use Rattle.crq_rule.proofs.Puts.{put_here, put_else, put_all}
 use Rattle.crq_rule.proofs.PartLaws.{home_is_row, one_home, sort, of_whom, apart}
 use Rattle.crq_rule.specs.declared.debts.CutDebt.{CutDebt}
+use Rattle.crq_rule.specs.declared.debts.SettleDebt.{SettleDebt}
+use Rattle.std.proofs.lemmas.Option.{same_Some}
 use Rattle.crq_rule.proofs.HeadLaws.{cell_final, cell_frozen, cell_listed, val_carries, heads_rows}
 use Rattle.crq_rule.proofs.SizeLaws.{fitting_list, sizes_rows}
 use Rattle.crq_rule.proofs.SteadyLaws.{found_now, steady_rows}
 use Rattle.crq_rule.proofs.CoverLaws.{stand_row, row_footing}
-use Rattle.crq_rule.proofs.HistoryLaws.{fresh_put, told_put, settling_put, pending_put, put_pending, not_out}
-use Rattle.crq_rule.proofs.WalkerLaws.{walkers_grown, walkers_links}
+use Rattle.crq_rule.proofs.HistoryLaws.{fresh_put, told_put, settling_put, settled_put, pending_put, put_pending, not_out}
+use Rattle.crq_rule.proofs.BoundLaws.{numbers_grown, bounds_grown, bounds_owed}
+use Rattle.crq_rule.proofs.WalkerLaws.{new_put, walkers_grown, walkers_owing, walkers_links}
+use Rattle.crq_rule.proofs.AheadLaws.{ahead_grown}
 use Rattle.crq_rule.proofs.ScarceLaws.{base_lasts, base_grown, lasts_held, scarce_drop, refusals_grown}
 use Rattle.crq_rule.proofs.SweepLaws.{swept_grown, swept_linked}
 use Rattle.crq_rule.proofs.ChainLaws.{IsOf, IsBelow, cell_leads, cell_rises, in_cell, cell_in, cell_next, leads_else, links_else, heads_else, links_same, heads_same, links_all, heads_all}
@@ -228,6 +234,15 @@ known c j x cell l r e b may is inv =
           inr (subst (λ (z : Event × Event). rank z.0 r < rank z.1 l.row) (λ i. (sym event i, sym holds i)) h.2)) may.before;
     }
 
+-- the debt of the event is of the open table
+due_fits : (c : Core) (g : ℕ) (e : Event) → g ≡ c.words.control.generation → IsEvent e → Inv c → DueFits c.words.control c.shape (owed_event g (c.shape g) e)
+due_fits c g e now event inv = record {
+  generation = (let same = now in omega arith);
+  shift = refl;
+  width = subst (λ (s : Shape). s.shift < 2 ^ 5) (sym (ap c.shape now ∙ inv.sizes.now.size)) inv.spelled.is_control.shift;
+  event = event;
+}
+
 -- The parts after the step
 
 module _ (c : Core) (j : ℕ) (cell : Cell) (l : Link) (r : ℕ) (e : Event) where
@@ -260,6 +275,13 @@ module _ (c : Core) (j : ℕ) (cell : Cell) (l : Link) (r : ℕ) (e : Event) whe
 
   abbrev holding' : ℕ → Holding
   holding' = put c.holding r (listed q)
+
+  -- the event is owed
+  abbrev due : SettleDebt
+  due = owed_event l.generation (c.shape l.generation) e
+
+  abbrev settling' : ℕ → Option SettleDebt
+  settling' = put c.settling j (Some due)
 
   module _ (f : Linking c j cell l r q e) (inv : Inv c) where
     -- the step changes the row of a link alone
@@ -547,7 +569,7 @@ module _ (c : Core) (j : ℕ) (cell : Cell) (l : Link) (r : ℕ) (e : Event) whe
     ))
 
     module _ (none : Contains (puts c.history) e → ⊥) where
-      carriers_after : Carriers c.start.layout (c.history ++ put_entries j e) link' c.words.twin c.words.event holding'
+      carriers_after : Carriers c.start.layout (c.history ++ Put j e ∷ []) link' c.words.twin c.words.event holding'
       carriers_after = let old = inv.carriers in record {
         carried = λ x pending. ⊎_elim (λ p. let t = old.carried x p in (t.0, live_after t.0 t.1, t.2)) (λ (is : x ≡ e). (r, live_here, f.event_is ∙ sym is)) (pending_put c.history j e x pending);
         pending = λ s live. put_pending c.history j e (c.words.event s) (⊎_elim
@@ -571,12 +593,27 @@ module _ (c : Core) (j : ℕ) (cell : Cell) (l : Link) (r : ℕ) (e : Event) whe
       follows = reaches_after cell c.words.head c.words.link (λ _. 0) q r at old.row (c.chain q) new refl same_row f.row.0 f.of (unlisted q f.is_head) old.follows;
     }
 
-    walkers_after : Walkers c.start.layout.workers (c.history ++ put_entries j e) c.settling (takes_of c) link' c.words.event
-    walkers_after = walkers_links _ _ _ _ _ _ link' c.words.event (λ _ s _ _. same_generation s) (λ _ g at x _ _ _. from_after g at x) (walkers_grown _ _ _ _ _ _ (put_entries j e) inv.walkers)
+    -- no take has read a later table than the one that the event is owed to
+    is_now : (i : ℕ) (d : SettleDebt) → settling' i ≡ Some d → (c.settling i ≡ Some d) ⊎ ((k : ℕ) (s : Sight) → k < c.start.layout.workers → c.sight k ≡ Some s → s.table.generation ≤ d.generation)
+    is_now i d = put_all c.settling j (Some due) (λ i o. o ≡ Some d → (c.settling i ≡ Some d) ⊎ ((k : ℕ) (s : Sight) → k < c.start.layout.workers → c.sight k ≡ Some s → s.table.generation ≤ d.generation))
+        (λ is. inr (λ k s b sees. let low = (inv.finds.sights k s b sees).0.low in let now = f.now in let of = ap (λ (x : SettleDebt). x.generation) (same_Some due d is) in omega arith)) (λ _ _ is. inl is) i
 
--- no entry of a put is a Begin
-no_begin : (j : ℕ) (e : Event) (k : ℕ) → In (Begin k) (put_entries j e) → ⊥
-no_begin j e k i = ⊎_elim (λ (q : Begin k ≡ Put j e). cc) (λ t. ⊎_elim (λ (q : Begin k ≡ Settled j e). cc) (λ n. n) t) i
+    walkers_after : (Contains (puts c.history) e → ⊥) → Walkers (record (present_of c) { history = c.history ++ Put j e ∷ []; settling = settling' }) (takes_of c) link' c.words.event
+    walkers_after fresh = let more : List Entry = Put j e ∷ [] in
+        walkers_links (record (present_of c) { history = c.history ++ more; settling = settling' }) _ _ _ link' c.words.event (λ _ s _ _. same_generation s) (λ _ g at x _ _ _. from_after g at x)
+        (walkers_owing (record (present_of c) { history = c.history ++ more }) _ _ _ settling' (λ i d _ is. is_now i d is) (walkers_grown (present_of c) _ _ _ more (new_put c.history j e inv.told.legal fresh) inv.walkers))
+
+    dues_after : IsEvent e → Dues c.start.layout.workers c.words.control c.shape settling' c.copying c.named
+    dues_after event = record {
+      settles = λ k d. put_all c.settling j (Some due) (λ k o. k < c.start.layout.workers → o ≡ Some d → DueFits c.words.control c.shape d)
+          (λ _ is. subst (DueFits c.words.control c.shape) (same_Some due d is) (due_fits c l.generation e f.now event inv)) (λ k _. inv.dues.settles k d) k;
+      copies = inv.dues.copies;
+      named = inv.dues.named;
+    }
+
+-- a put is no Begin
+no_begin : (j : ℕ) (e : Event) (k : ℕ) → In (Begin k) (Put j e ∷ []) → ⊥
+no_begin j e k i = ⊎_elim (λ (q : Begin k ≡ Put j e). cc) (λ n. n) i
 
 -- Link keeps the invariant
 pub link_keeps : (c : Core) (j : ℕ) (cell : Cell) (l : Link) (r : ℕ) (e : Event) → j < c.start.layout.workers → ((x : Control) × MayLink c.start.layout.workers x cell l r e (caller_of c j)) → link_at c.words.head c.words.link cell ≡ l → Inv c → Inv (linked c j cell l r e)
@@ -592,8 +629,8 @@ link_keeps c j cell l r e b (x, may) is inv = let f = known c j x cell l r e b m
   cover = cover_after c j cell l r e f inv;
   sizes = sizes_rows _ _ _ _ _ _ _ _ _ (λ h _. same_head c j cell l r e f inv h) (λ s b out. ⊎_elim (λ (z : s ≡ r). inr (let now = ap (λ z. (link' c j cell l r e z).generation) z ∙ new_now c j cell l r e f inv in omega arith))
       (λ h. inl (h, same_generation c j cell l r e f inv s)) (was_outside c j cell l r e f inv s out)) inv.sizes;
-  dues = inv.dues;
-  steady = steady_rows _ _ _ _ _ _ _ _ (λ s b out. ⊎_elim (λ (z : s ≡ r). inr (ap (λ z. (link' c j cell l r e z).generation) z ∙ new_now c j cell l r e f inv, ap (λ z. (link' c j cell l r e z).mark) z ∙ own_mark c j cell l r e f inv))
+  dues = dues_after c j cell l r e f inv may.event;
+  steady = steady_rows _ _ _ _ _ _ _ (λ s b out. ⊎_elim (λ (z : s ≡ r). inr (ap (λ z. (link' c j cell l r e z).generation) z ∙ new_now c j cell l r e f inv, ap (λ z. (link' c j cell l r e z).mark) z ∙ own_mark c j cell l r e f inv))
       (λ h. inl (h, same_generation c j cell l r e f inv s, inl (same_mark c j cell l r e f inv s))) (was_outside c j cell l r e f inv s out)) inv.steady;
   heads = heads_after c j cell l r e f inv;
   sorted = sorted_after c j cell l r e f inv;
@@ -605,11 +642,13 @@ link_keeps c j cell l r e b (x, may) is inv = let f = known c j x cell l r e b m
   naming = naming_after c j cell l r e f inv;
   carriers = carriers_after c j cell l r e f inv (fresh_put c.start.layout.workers c.history c.deal c.own c.begun j e b may.fresh inv.told);
   told = told_put c.start.layout.workers c.history c.deal c.own c.begun j e b may.fresh inv.told;
-  bounds = inv.bounds;
-  settling = settling_put _ _ _ j e (fresh_put c.start.layout.workers c.history c.deal c.own c.begun j e b may.fresh inv.told) inv.settling;
-  walkers = walkers_after c j cell l r e f inv;
+  numbers = numbers_grown _ _ _ (Put j e ∷ []) inv.numbers;
+  bounds = bounds_owed _ _ _ _ _ _ j (due c j cell l r e) may.permit (bounds_grown _ _ _ _ _ _ (Put j e ∷ []) refl inv.bounds);
+  settling = let new = fresh_put c.start.layout.workers c.history c.deal c.own c.begun j e b may.fresh inv.told in settling_put _ _ _ j (due c j cell l r e) b may.settled new inv.settling (λ s. new (settled_put c.history inv.told.legal e s));
+  walkers = walkers_after c j cell l r e f inv (fresh_put c.start.layout.workers c.history c.deal c.own c.begun j e b may.fresh inv.told);
+  ahead = ahead_grown c.history (Put j e ∷ []) c.words.current refl inv.ahead;
   scarce = let home = (inv.holders.held j r b may.in_hand_is).0 in scarce_drop _ _ _ _ _ _ _ _ j
-      (λ k x _ ne old. base_grown _ _ _ (put_entries j e) _ _ k x (no_begin j e k) (base_lasts _ _ _ _ _ _ _ _ k x (le_refl _)
+      (λ k x _ ne old. base_grown _ _ _ (Put j e ∷ []) _ _ k x (no_begin j e k) (base_lasts _ _ _ _ _ _ _ _ k x (le_refl _)
       (lasts_held _ _ _ _ r (listed (list_in c.shape l.generation e)) k (λ _ here _. absurd (ne (one_home c.start.layout k j r here home))) (λ _ _ _ _. inr tt)) old)) inv.scarce;
   refusals = refusals_grown _ _ _ _ (λ k. no_begin j e k) inv.refusals;
   swept = swept_linked c j cell (list_in c.shape l.generation e) r e b (inv.holders.held j r b may.in_hand_is).0 f.event_is (fresh_put c.start.layout.workers c.history c.deal c.own c.begun j e b may.fresh inv.told) inv

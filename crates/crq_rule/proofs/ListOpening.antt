@@ -1,5 +1,5 @@
 -- A new table has empty lists, and all rows in hand: it meets the parts of the invariant on lists and on the history.
-use Rattle.std.proofs.Common.{◌≡◌, ◌⊎◌, ⊎_elim, le_refl, ℕ, ◌+◌, ◌≤◌, cond, ◌&&◌, Bool, true, false, ltb, leb, List, [], ◌∷◌, ◌++◌, Some, None, sym, refl, ap, subst, arith, inl}
+use Rattle.std.proofs.Common.{◌≡◌, ◌⊎◌, ⊎_elim, le_refl, ℕ, ◌+◌, ◌^◌, ◌≤◌, cond, ◌&&◌, Bool, true, false, ltb, leb, List, [], ◌∷◌, ◌++◌, Some, None, sym, refl, ap, subst, arith, inl}
 use Rattle.std.proofs.lemmas.Bool.{false≢true, lt-ltb, ltb-true, le-leb, leb-true}
 use Rattle.crq_base.specs.declared.entry.Entry.{Entry}
 use Rattle.crq_base.specs.declared.entry.Entry.TheVariants.{Begin}
@@ -21,8 +21,9 @@ use Rattle.crq_rule.specs.Parts.{ground_of, Fits}
 use Rattle.crq_rule.specs.Steady.{Steady}
 use Rattle.crq_rule.specs.ListParts.{Sizes, Dues, Heads, Sorted, Marks, Standing, Copying, Lanes, Writing, Naming, IsShut}
 use Rattle.crq_rule.specs.HistoryParts.{Carriers, Told, Settling, Walkers, IsLive}
-use Rattle.crq_rule.specs.Invariant.{takes_of}
-use Rattle.crq_rule.specs.Opening.{home_of, opening_core, opening_head, open_head, shut_head}
+use Rattle.crq_rule.specs.Ahead.{Ahead}
+use Rattle.crq_rule.specs.Invariant.{present_of, takes_of}
+use Rattle.crq_rule.specs.Opening.{home_of, opening_log, opening_core, opening_head, open_head, shut_head}
 use Rattle.crq_rule.proofs.PartLaws.{sort}
 
 hand_listed : (j q : ℕ) → in_hand j ≡ listed q → ⊥
@@ -63,11 +64,11 @@ no_begin (x ∷ xs) j e = cc
 module _ (s : Start) (first : IsFirst s.first) where
   -- a head of the table, and one that isn't
   opened : (q : ℕ) → IsOpen (opening_core s).words.control q → opening_head s.first.generation q ≡ open_head s.first.generation
-  opened q o = λ i. cond (le-leb (first_head_of s.first.generation) q o.0 i && lt-ltb q (first_head_of s.first.generation + 1) o.1 i) (open_head s.first.generation) shut_head
+  opened q o = λ i. cond (le-leb (first_head_of s.first.generation) q o.0 i && lt-ltb q (first_head_of s.first.generation + 2 ^ opening_log) o.1 i) (open_head s.first.generation) shut_head
 
-  shut : (q : ℕ) (a b : Bool) → leb (first_head_of s.first.generation) q ≡ a → ltb q (first_head_of s.first.generation + 1) ≡ b → (IsOpen (opening_core s).words.control q → ⊥)
+  shut : (q : ℕ) (a b : Bool) → leb (first_head_of s.first.generation) q ≡ a → ltb q (first_head_of s.first.generation + 2 ^ opening_log) ≡ b → (IsOpen (opening_core s).words.control q → ⊥)
       → IsShut s.first.generation q (cond (a && b) (open_head s.first.generation) shut_head)
-  shut q true true e f out = absurd (out (leb-true (first_head_of s.first.generation) q e, ltb-true q (first_head_of s.first.generation + 1) f))
+  shut q true true e f out = absurd (out (leb-true (first_head_of s.first.generation) q e, ltb-true q (first_head_of s.first.generation + 2 ^ opening_log) f))
   shut q false b e f out = record { mark = refl; empty = refl; older = let above = first.from in omega arith; bank = inl refl }
   shut q true false e f out = record { mark = refl; empty = refl; older = let above = first.from in omega arith; bank = inl refl }
 
@@ -75,7 +76,7 @@ module _ (s : Start) (first : IsFirst s.first) where
   opening_heads = record {
     old = λ q _ o. subst (λ (l : Link). (l.generation ≡ s.first.generation) × (l.mark ≡ Val)) (sym (opened q o)) (refl, refl);
     new = λ q _ n. absurd (false≢true n.0);
-    other = λ q _ out _. shut q (leb (first_head_of s.first.generation) q) (ltb q (first_head_of s.first.generation + 1)) refl refl out;
+    other = λ q _ out _. shut q (leb (first_head_of s.first.generation) q) (ltb q (first_head_of s.first.generation + 2 ^ opening_log)) refl refl out;
     order = λ p q _ _ _ _ n. absurd (false≢true n.0);
   }
 
@@ -111,7 +112,7 @@ module _ (s : Start) (first : IsFirst s.first) where
   opening_fits = record { spelled = opening_control s first; first = le_refl _; low = le_refl _; size = refl; next = λ e. absurd (false≢true e); same = λ _ _. refl }
 
   pub opening_sizes : Sizes s (opening_core s).words.control (opening_core s).shape (opening_core s).words.head (opening_core s).words.link (opening_core s).holding
-  opening_sizes = record { now = opening_fits; heads = λ q _. low (leb (first_head_of s.first.generation) q && ltb q (first_head_of s.first.generation + 1)); rows = λ _ _ _. omega arith }
+  opening_sizes = record { now = opening_fits; heads = λ q _. low (leb (first_head_of s.first.generation) q && ltb q (first_head_of s.first.generation + 2 ^ opening_log)); rows = λ _ _ _. omega arith }
     where
       low : (t : Bool) → (cond t (open_head s.first.generation) shut_head).generation ≤ s.first.generation + 0
       low true = omega arith
@@ -120,8 +121,8 @@ module _ (s : Start) (first : IsFirst s.first) where
   pub opening_dues : Dues s.layout.workers (opening_core s).words.control (opening_core s).shape (opening_core s).settling (opening_core s).copying (opening_core s).named
   opening_dues = record { settles = λ k d _ is. absurd (no_settle d is); copies = λ k d _ is. absurd (no_copy d is); named = λ k d _ has. absurd (no_name d has) }
 
-  pub opening_steady : Steady s (opening_core s).words.control (opening_core s).words.link (opening_core s).holding (opening_core s).named (opening_core s).settling
-  opening_steady = record { still = refl; first = refl; one = refl; rows = λ r _ out. absurd (out (home_of s.layout r) refl); marks = λ r _ out. absurd (out (home_of s.layout r) refl); named = λ k d _ has. absurd (no_name d has); single = λ _ _. refl; settled = λ _ _. refl }
+  pub opening_steady : Steady s (opening_core s).words.control (opening_core s).words.link (opening_core s).holding (opening_core s).named
+  opening_steady = record { still = refl; first = refl; rows = λ r _ out. absurd (out (home_of s.layout r) refl); marks = λ r _ out. absurd (out (home_of s.layout r) refl); named = λ k d _ has. absurd (no_name d has); single = λ _ _. refl }
 
   none_live : (r : ℕ) → IsLive s.layout (opening_core s).words.link (opening_core s).words.twin (opening_core s).holding r → ⊥
   none_live r live = hand_listed _ live.1.0 live.1.1
@@ -145,5 +146,8 @@ module _ (s : Start) (first : IsFirst s.first) where
   pub opening_settling : Settling s.layout.workers (opening_core s).history (opening_core s).settling
   opening_settling = record { owed = λ _ d _ is. absurd (no_settle d is); unsettled = λ e put _. let low = put.1 in absurd (omega arith); lone = λ _ _ d _ _ _ is _ _. absurd (no_settle d is) }
 
-  pub opening_walkers : Walkers s.layout.workers (opening_core s).history (opening_core s).settling (takes_of (opening_core s)) (opening_core s).words.link (opening_core s).words.event
+  pub opening_walkers : Walkers (present_of (opening_core s)) (takes_of (opening_core s)) (opening_core s).words.link (opening_core s).words.event
   opening_walkers = record { seen = λ _ x _ is. absurd (no_sight x is); walked = λ _ w _ is. absurd (no_walk w is) }
+
+  pub opening_ahead : Ahead (opening_core s).history (opening_core s).words.current
+  opening_ahead = record { each = λ e settled. let low = settled.1 in absurd (omega arith) }

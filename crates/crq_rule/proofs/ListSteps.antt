@@ -1,10 +1,10 @@
 -- What a step function asks of each kind on lists.
-use Rattle.std.proofs.Common.{◌≡◌, ◌≢◌, inl, ℕ, zero, suc, ◌+◌, ◌*◌, ◌^◌, ◌<◌, ◌≤◌, Bool, false, List, [], ◌∷◌, ◌++◌, None, Some, cond, get_or, set, eqb, sym, refl, ap, ◌∙◌, subst, arith, eq-eqb, ne_eqb, ⊎_elim}
+use Rattle.std.proofs.Common.{◌≡◌, ◌≢◌, inl, ℕ, zero, suc, ◌+◌, ◌*◌, ◌^◌, ◌<◌, ◌≤◌, Bool, false, List, [], ◌∷◌, ◌++◌, Option, None, Some, cond, get_or, set, eqb, sym, refl, ap, ◌∙◌, subst, arith, eq-eqb, ne_eqb, ⊎_elim}
 use mathlib.Core.Logic.{dite}
 use native.Mathlib.Decide.{ℕ_discrete}
 use prog.Atomic.{either}
 use Rattle.crq_base.specs.declared.event.Event.{Event}
-use Rattle.crq_base.specs.declared.entry.Entry.TheVariants.{Begin as BeginEntry, Take as TakeEntry, Miss as MissEntry}
+use Rattle.crq_base.specs.declared.entry.Entry.TheVariants.{Begin as BeginEntry, Put as PutEntry, Take as TakeEntry, Miss as MissEntry}
 use Rattle.crq_base.specs.declared.kinds.StepKind.{StepKind}
 use Rattle.crq_base.specs.declared.kinds.StepKind.TheVariants.{Write, Walk as WalkKind, Link as LinkKind, ControlLoad, Begin, Mark as MarkKind, Cut as CutKind, Miss}
 use Rattle.crq_base.specs.declared.words.Link.{Link}
@@ -12,17 +12,17 @@ use Rattle.crq_base.specs.declared.words.Mark.TheVariants.{Val, Del}
 use Rattle.crq_base.specs.declared.words.Control.{Control}
 use Rattle.crq_base.specs.Words.{link_word, IsLink}
 use Rattle.crq_rule.specs.declared.layout.Start.{Start}
-use Rattle.std.proofs.lemmas.Option.{same_Some}
 use Rattle.crq_rule.specs.declared.view.Sight.{Sight}
 use Rattle.crq_rule.specs.declared.view.Stand.{Stand}
+use Rattle.crq_rule.specs.declared.view.Walk.{Walk}
 use Rattle.crq_rule.specs.declared.view.Caller.{Caller}
 use Rattle.crq_rule.specs.Places.{index, control, link, IsPlace, IsRow, word_of}
 use Rattle.crq_rule.specs.Core.{Core, caller_of, owed_by}
 use Rattle.crq_rule.specs.Parts.{ground_of, IsOn, Leads, IsGuarded}
 use Rattle.crq_rule.specs.ListParts.{row_word}
 use Rattle.crq_rule.specs.Invariant.{Inv}
-use Rattle.crq_rule.specs.Ranks.{rank, list_in, head_of, IsOpen, Cell, at_head, at_row, cell_place, link_at, heads_set, links_set}
-use Rattle.crq_rule.specs.ListKinds.{is_cell, stands_after, walk_after, sight_after, taken_on, sweep_on, clean_on, Content, new_link, no_twin, new_time, new_source, new_sequence, new_load, IsContent, content_number, content_word, row_place, wrote, writes, links, event_word, loads_control, begins, marks, cuts, misses, MayWalk, MaySeek, MayLink, MayMark, MayCut, MayMiss, ComesAfter, put_entries, unhanded, forgotten, cut_debt, name_in, without_stand, relieved_names, unnamed_row}
+use Rattle.crq_rule.specs.Ranks.{rank, shape_of, list_in, head_of, IsOpen, Cell, at_head, at_row, cell_place, link_at, heads_set, links_set}
+use Rattle.crq_rule.specs.ListKinds.{Aim, is_cell, stands_after, walk_after, taken_on, sweep_on, clean_on, Content, new_link, no_twin, new_time, new_source, new_sequence, new_load, IsContent, content_number, content_word, row_place, wrote, writes, links, event_word, loads_control, begins, marks, cuts, misses, MayWalk, MaySeek, MayLink, MayMark, MayCut, MayMiss, ComesAfter, owed_event, unhanded, forgotten, cut_debt, name_in, without_stand, relieved_names, unnamed_row, FoundFirst}
 use Rattle.crq_rule.specs.Steps.{Kind, write, walk, link as link_kind, link_fails, control_load, begin, mark, mark_fails, cut, cut_fails, miss, May, After, kind_of, place_of}
 use Rattle.crq_rule.specs.Rule.{IsWords}
 use Rattle.crq_rule.specs.Moves.{MovesBy, By, Walked, WalksOn, IsWalkable, FoundControl, wins, quiet}
@@ -34,8 +34,9 @@ use Rattle.crq_rule.proofs.CoverLaws.{guarded_by, names_covered}
 use Rattle.crq_rule.proofs.GuardSteps.{same_words}
 use Rattle.crq_rule.proofs.PartLaws.{sort}
 use Rattle.crq_rule.proofs.SizeLaws.{fitting_list}
-use Rattle.crq_rule.proofs.SteadyLaws.{open_is, outside_mark, guarded_out, steady_still, steady_one, found_now, outside_now, guarded_now, open_list}
+use Rattle.crq_rule.proofs.SteadyLaws.{open_is, outside_mark, guarded_out, steady_still, found_now, outside_now, guarded_now, open_list}
 use Rattle.crq_rule.proofs.Lawfuls.{stand_covered}
+use Rattle.crq_rule.proofs.SearchLaws.{own_walk, best_kept}
 use Rattle.crq_rule.proofs.Keeps.{words_stay, rest_stays}
 
 -- the word at the place of a step of this kind becomes a, and no other does
@@ -140,25 +141,27 @@ module _ (key : Start) (p : Caller) where
   walkable (at_row r) c b inv may = let v : IsGuarded (ground_of c) r = subst (IsGuarded (ground_of c)) may.1.2 (guarded_by j (stand_covered c j may.1.0 b may.1.1 inv)) in
       (outside_mark c inv r (inv.lanes.is_row r v) (guarded_out c inv r v), λ x found. guarded_now c inv r v ∙ ap (λ (y : Control). y.generation) (sym (found_now c inv j x b found)))
 
-  pub walk_moves : (cell : Cell) (seeks : Bool) → IsOn p.guard → MayWalk p.position.rows cell → MaySeek p.own p.found.control p.walk cell seeks → MovesBy WalkKind key p (index key.layout (cell_place cell)) (λ w. w) (Walked cell seeks)
-  walk_moves cell seeks on may seek c ws inv words b is = let l = link_at c.words.head c.words.link cell in let e = c.words.event l.row in
+  abbrev walk_now : Core → Cell → Aim → Option Walk
+  walk_now c cell aim = walk_after cell aim (c.sight j) (link_at c.words.head c.words.link cell) (c.walk j) (c.rows j)
+
+  pub walk_moves : (cell : Cell) (aim : Aim) → IsOn p.guard → MayWalk p.position.rows cell → MaySeek p.sight p.walk cell aim → MovesBy WalkKind key p (index key.layout (cell_place cell)) (λ w. w) (Walked cell aim)
+  walk_moves cell aim on may seek c ws inv words b is = let l = link_at c.words.head c.words.link cell in let e = c.words.event l.row in
       let may' : MayWalk (c.rows j) cell = subst (λ (q : Caller). MayWalk q.position.rows cell) is may in
       let place = cell_is cell c ws b inv words may' in let at = words.shows.each (cell_place cell) place in (
-        walk cell seeks,
+        walk cell aim,
         refl,
-        (subst (λ (q : Caller). IsOn q.guard) is on, may', subst (λ (q : Caller). MaySeek q.own q.found.control q.walk cell seeks) is seek),
-        same_words key c (After (walk cell seeks) c j) ws (index key.layout (cell_place cell)) refl refl words,
-        subst (λ (z : ℕ × Caller). Walked cell seeks z.0 z.1 (caller_of (After (walk cell seeks) c j) j)) (λ i. (sym (at ∙ cell_word c cell) i, sym is i)) record {
+        (subst (λ (q : Caller). IsOn q.guard) is on, may', subst (λ (q : Caller). MaySeek q.sight q.walk cell aim) is seek),
+        same_words key c (After (walk cell aim) c j) ws (index key.layout (cell_place cell)) refl refl words,
+        subst (λ (z : ℕ × Caller). Walked cell aim z.0 z.1 (caller_of (After (walk cell aim) c j) j)) (λ i. (sym (at ∙ cell_word c cell) i, sym is i)) record {
           link = l;
           event = e;
           is_link = cell_link cell c b inv may';
           word = refl;
           after = λ i. record (caller_of c j) {
-            position = record { rows = sym (put_here c.rows j (stands_after cell seeks l e (c.rows j))) i; old = c.old j };
-            sight = sym (put_here c.sight j (sight_after cell seeks (c.found j).control l (c.sight j))) i;
-            walk = sym (put_here c.walk j (walk_after cell seeks (c.found j).control l (c.walk j))) i;
-            sweep = sym (put_here c.sweep j (sweep_on (taken_on seeks (c.found j).control cell (c.rows j) (c.sweep j)) l e (c.sweep j))) i;
-            clean = sym (put_here c.clean j (clean_on (taken_on seeks (c.found j).control cell (c.rows j) (c.sweep j)) l (c.clean j))) i;
+            position = record { rows = sym (put_here c.rows j (stands_after cell aim (walk_now c cell aim) l e (c.rows j))) i; old = c.old j };
+            walk = sym (put_here c.walk j (walk_now c cell aim)) i;
+            sweep = sym (put_here c.sweep j (sweep_on (taken_on aim (c.found j).control cell (c.rows j) (c.sweep j)) l e (c.sweep j))) i;
+            clean = sym (put_here c.clean j (clean_on (taken_on aim (c.found j).control cell (c.rows j) (c.sweep j)) l (c.clean j))) i;
             debts = owed_by (c.settling j) (c.copying j) (sym (put_here c.named j (relieved_names (c.found j).control cell (c.rows j) l e (c.named j))) i);
           };
           row = λ some. let n = named cell c b inv may' some in (n.0, inv.spelled.events l.row n.0);
@@ -204,21 +207,23 @@ module _ (key : Start) (p : Caller) where
   set_there c c' (at_row r) l heads links = ap (λ (f : ℕ → Link). link_word (f r)) links ∙ ap link_word (put_here c.words.link r l)
 
   pub link_moves : (x : Control) (cell : Cell) (l : Link) (r : ℕ) (e : Event) → MayLink key.layout.workers x cell l r e p
-      → MovesBy LinkKind key p (index key.layout (cell_place cell)) (λ w. either (eqb w (link_word l)) (link_word (record l { row = r })) w) (By (wins (link_word l) (links r e)) quiet)
+      → MovesBy LinkKind key p (index key.layout (cell_place cell)) (λ w. either (eqb w (link_word l)) (link_word (record l { row = r })) w) (By (wins (link_word l) (links x r e)) quiet)
   link_moves x cell l r e may c ws inv words b is = let new : Link = record l { row = r } in let w = index key.layout (cell_place cell) in
       let may' : MayLink c.start.layout.workers x cell l r e (caller_of c j) = subst (λ (z : Start × Caller). MayLink z.0.layout.workers x cell l r e z.1) (λ i. (sym words.start i, is i)) may in
+      let due : owed_event x.generation (shape_of x) e ≡ owed_event l.generation (c.shape l.generation) e = ap (λ s. owed_event x.generation s e) (sym (inv.finds.controls j x b may'.control).size) ∙ ap (λ g. owed_event g (c.shape g) e) (sym may'.expected.2) in
       let walkable' = linked_cell cell x c ws r e b inv words may'.after in let place = cell_is cell c ws b inv words walkable' in let at = words.shows.each (cell_place cell) place in
       dite (ℕ_discrete (get_or ws w 0) (link_word l))
       (λ hit. let found : link_at c.words.head c.words.link cell ≡ l = link_one _ _ (cell_link cell c b inv walkable') may.expected.0 (sym (cell_word c cell) ∙ (sym at ∙ hit)) in let k = link_kind cell l r e in
-      won LinkKind k w (link_word l) (link_word new) (links r e) refl c ws ((x, may'), found) is hit
+      won LinkKind k w (link_word l) (link_word new) (links x r e) refl c ws ((x, may'), found) is hit
       (words_after key k c j ws (link_word new) place (set_there c (After k c j) cell new refl refl) words)
       (λ i. record (caller_of c j) {
-        own = sym (put_here c.own j (c.own j ++ put_entries j e)) i;
+        own = sym (put_here c.own j (c.own j ++ PutEntry j e ∷ [])) i;
+        debts = owed_by ((ap Some due ∙ sym (put_here c.settling j (Some (owed_event l.generation (c.shape l.generation) e)))) i) (c.copying j) (c.named j);
         hand = sym (put_here c.hand j (unhanded r (c.hand j))) i;
         base = sym (put_here c.base j None) i;
         written = sym (put_here c.written j (forgotten r (c.written j))) i;
       }))
-      (λ apart. lost LinkKind (link_fails cell) w (link_word l) (link_word new) (links r e) refl (λ _. tt) (λ _. refl) c ws words is apart)
+      (λ apart. lost LinkKind (link_fails cell) w (link_word l) (link_word new) (links x r e) refl (λ _. tt) (λ _. refl) c ws words is apart)
 
   pub cut_moves : (cell : Cell) (l : Link) (y : ℕ) (last : Link) → IsLink l → l.mark ≡ Val → l.row ≡ y → MayCut cell y last p
       → MovesBy CutKind key p (index key.layout (cell_place cell)) (λ w. either (eqb w (link_word l)) (link_word (record l { row = last.row })) w) (By (wins (link_word l) (cuts y)) quiet)
@@ -237,12 +242,16 @@ module _ (key : Start) (p : Caller) where
       }))
       (λ apart. lost CutKind (cut_fails cell) w (link_word l) (link_word new) (cuts y) refl (λ _. tt) (λ _. refl) c ws words is apart)
 
-  -- the row at which a walk stands is of the table that the take read
+  -- the row that a walk found to be the first is of the table that the take saw
+  found_generation : (c : Core) → Inv c → j < c.start.layout.workers → (s : Sight) (w : Walk) (r : ℕ) (e : Event) → c.sight j ≡ Some s → c.walk j ≡ Some w → 0 < r → (o : Option ℕ) → w.bucket ≡ o → FoundFirst o s.table (c.rows j) w r e
+      → (c.words.link r).generation ≡ s.table.generation
+  found_generation c inv b s w r e sees is some None none found = (best_kept c inv j b s w sees is (r, e) found.1).1
+  found_generation c inv b s w r e sees is some (Some u) of found = ⊎_elim (λ z. let same = found.0 in absurd (omega arith)) (λ h. subst (λ r. (c.words.link r).generation ≡ s.table.generation) found.0 h.1) (own_walk c inv j s w b sees is).at_stand
+
   walk_generation : (c : Core) → Inv c → (x : Control) {r : ℕ} {e : Event} → j < c.start.layout.workers → MayMark x r e (caller_of c j) → (c.words.link r).generation ≡ x.generation
-  walk_generation c inv x {r} b may = let w = may.walks in let t = inv.walkers.walked j w.0 b w.1 in
-      let table = ap (λ (s : Sight). s.table.generation) (same_Some t.0 (record { table = x; current = may.sight.0 }) (sym t.1 ∙ may.sight.1)) in
+  walk_generation c inv x {r} {e} b may = let w = may.walks in
       let some = (inv.lanes.is_row r (subst (IsGuarded (ground_of c)) may.on.2 (guarded_by j (stand_covered c j may.on.0 b may.on.1 inv)))).0 in
-      ⊎_elim (λ z. let same = w.2 in absurd (omega arith)) (λ h. subst (λ r. (c.words.link r).generation ≡ x.generation) w.2 (h.1 ∙ table)) t.2.at_stand
+      found_generation c inv b (record { table = x; current = may.sight.0 }) w.0 r e may.sight.1 w.1 some w.0.bucket refl w.2
 
   pub mark_moves : (x : Control) (r : ℕ) (e : Event) (l : Link) → IsLink l → l.mark ≡ Val → MayMark x r e p
       → MovesBy MarkKind key p (index key.layout (link r)) (λ w. either (eqb w (link_word l)) (link_word (record l { mark = Del })) w) (By (wins (link_word l) (marks x r e)) quiet)
@@ -274,7 +283,6 @@ module _ (key : Start) (p : Caller) where
         word = refl;
         after = after;
         steady = steady_still c inv;
-        one = steady_one c inv;
       }
 
   pub control_moves : MovesBy ControlLoad key p (index key.layout control) (λ w. w) (FoundControl loads_control)
@@ -304,11 +312,11 @@ module _ (key : Start) (p : Caller) where
     }),
   )
 
-  pub miss_moves : (x : Control) (limit : ℕ) → MayMiss x limit p → MovesBy Miss key p (index key.layout control) (λ w. w) (FoundControl (misses limit))
-  miss_moves x limit may c ws inv words b is = (
+  pub miss_moves : (limit : ℕ) → MayMiss limit p → MovesBy Miss key p (index key.layout control) (λ w. w) (FoundControl (misses limit))
+  miss_moves limit may c ws inv words b is = (
     miss limit,
     refl,
-    (x, subst (MayMiss x limit) is may),
+    subst (MayMiss limit) is may,
     same_words key c (After (miss limit) c j) ws (index key.layout control) refl refl words,
     control_found (miss limit) (misses limit) c ws inv words is (λ i. record (caller_of c j) {
       own = sym (put_here c.own j (c.own j ++ MissEntry j limit ∷ [])) i;

@@ -18,6 +18,7 @@ use Rattle.crq_rule.specs.declared.debts.CutDebt.{CutDebt}
 use Rattle.crq_rule.specs.declared.layout.Layout.{Layout}
 use Rattle.crq_rule.specs.declared.view.Guard.{Guard}
 use Rattle.crq_rule.specs.declared.view.CutRow.{CutRow}
+use Rattle.crq_rule.specs.declared.view.Sight.{Sight}
 use Rattle.crq_rule.specs.declared.view.Stand.{Stand}
 use Rattle.crq_rule.specs.declared.view.Wrote.{Wrote}
 use Rattle.crq_rule.specs.Lists.{put}
@@ -27,19 +28,21 @@ use Rattle.crq_rule.specs.Parts.{Ground, ground_of, newest, IsEvent, IsGuarded, 
 use Rattle.crq_rule.specs.ListParts.{ranks, Sorted, Marks, MarkFits, StandFits, Standing, Copying, IsFinal, Lanes, Writing, row_word, Naming, NameFits, IsNamed}
 use Rattle.crq_rule.specs.HistoryParts.{IsCarrying, IsLive, Carriers, StandsFrom}
 use Rattle.crq_rule.specs.Ranks.{Shape, list_in}
-use Rattle.crq_rule.specs.Invariant.{Inv}
+use Rattle.crq_rule.specs.Invariant.{present_of, takes_of, Inv}
 use Rattle.crq_rule.specs.ListKinds.{is_cell, MayMark, name_in, marked}
 use Rattle.crq_rule.proofs.Puts.{put_here, put_else, put_all}
 use Rattle.crq_rule.proofs.PartLaws.{apart}
 use Rattle.crq_rule.proofs.CoverLaws.{guarded_by, stand_row}
 use Rattle.crq_rule.proofs.HistoryLaws.{told_other, settling_more, out_later}
-use Rattle.crq_rule.proofs.WalkerLaws.{walkers_grown, walkers_links, walkers_rest}
+use Rattle.crq_rule.proofs.BoundLaws.{numbers_grown, bounds_grown}
+use Rattle.crq_rule.proofs.WalkerLaws.{silent, walkers_grown, walkers_links, walkers_rest}
+use Rattle.crq_rule.proofs.AheadLaws.{ahead_grown}
 use Rattle.crq_rule.proofs.ScarceLaws.{scarce_grown, refusals_grown}
 use Rattle.crq_rule.proofs.SweepLaws.{swept_grown}
 use Rattle.crq_rule.proofs.HeadLaws.{cell_listed, val_carries, dead_carries, carries_on}
 use Rattle.crq_rule.proofs.SizeLaws.{sizes_rows, dues_named}
 use Rattle.crq_rule.proofs.SteadyLaws.{steady_rows, steady_names}
-use Rattle.crq_rule.proofs.SearchLaws.{stand_covered, left_beyond, beyond_key}
+use Rattle.crq_rule.proofs.SearchLaws.{stand_covered, settled_left, first_left}
 
 val_inv : Val ≡ Invalid → ⊥
 val_inv e = cc
@@ -282,16 +285,15 @@ module _ (l : Layout) (shape : ℕ → Shape) (link : ℕ → Link) (twin : ℕ 
 
 -- Mark
 
--- the event at which the caller's search came to rest is pending, and no event of a lesser key was left
+-- the event that the walk found to be the first is pending, and none that was settled before the Begin has a lesser key
 take_legal : (c : Core) (j r : ℕ) (e : Event) → j < c.start.layout.workers → ((x : Control) × MayMark x r e (caller_of c j)) → IsPending c.history e → c.words.event r ≡ e → Inv c → MayFollow c.history (Take j e)
-take_legal c j r e b may pending is inv = let from = inv.told.began j b may.1.began in let w = may.1.walks.0 in (
+take_legal c j r e b may pending is inv = let from = inv.told.began j b may.1.began in let w = may.1.walks in let s : Sight = record { table = may.0; current = may.1.sight.0 } in (
   pending.put,
   pending.kept,
   (
     from.0,
     from.2,
-    λ f settled kept less. beyond_key c inv w.at e f (ap c.words.event may.1.walks.2 ∙ is)
-        (left_beyond c inv j w may.0 from.0 (Begin j ∷ from.2.back) f b may.1.walks.1 may.1.sight may.1.one_list from.2.parts from.1 settled kept) less,
+    λ f settled kept. first_left c inv j s w.0 f b may.1.sight.1 w.1 (settled_left c inv j s from.0 (Begin j ∷ from.2.back) f b may.1.sight.1 from.2.parts from.1 settled kept) r e is w.2,
   ),
 )
 
@@ -316,8 +318,8 @@ mark_keeps c j r e b may val inv = let l = c.start.layout in let x = c.shape in 
   cover = cover_dead l x k t v h r _ _ _ inv.cover;
   sizes = sizes_rows _ _ _ _ _ _ _ _ _ (λ _ _. refl) (λ s _ out. inl (out, dead_generation k r s)) inv.sizes;
   dues = dues_named _ _ _ _ _ _ _ (λ i d _ has. ⊎_elim inl (λ same. inr (subst (λ (d : CutDebt). (d.generation ≤ newest c.words.control) × (d.head ≡ list_in c.shape d.generation d.event)) same (inv.sizes.rows r row outside, refl))) (names_before l x k t v h r j e c.named i d has)) inv.dues;
-  steady = steady_names _ _ _ _ _ _ _ (λ i d _ has. ⊎_elim inl (λ same. inr (r, row, outside, ap (λ (z : CutDebt). z.generation) (sym same) ∙ sym (dead_generation k r r))) (names_before l x k t v h r j e c.named i d has)) (λ i _. single_stays l x k t v h r j e c.named i)
-      (steady_rows _ _ _ _ _ _ _ _ (λ s _ out. inl (out, dead_generation k r s, dead_mark k r s)) inv.steady);
+  steady = steady_names _ _ _ _ _ _ (λ i d _ has. ⊎_elim inl (λ same. inr (r, row, outside, ap (λ (z : CutDebt). z.generation) (sym same) ∙ sym (dead_generation k r r))) (names_before l x k t v h r j e c.named i d has)) (λ i _. single_stays l x k t v h r j e c.named i)
+      (steady_rows _ _ _ _ _ _ _ (λ s _ out. inl (out, dead_generation k r s, dead_mark k r s)) inv.steady);
   heads = inv.heads;
   sorted = sorted_dead l x k t v h r _ _ inv.sorted;
   marks = marks_dead l x k t v h r _ _ (λ m. val_mov (sym val ∙ m)) inv.marks;
@@ -328,9 +330,12 @@ mark_keeps c j r e b may val inv = let l = c.start.layout in let x = c.shape in 
   naming = naming_dead l x k t v h r j e c.named c.words.head b may.1.free is row (subst IsEvent is (inv.spelled.events r row)) inv.naming;
   carriers = carriers_dead l x k t v h r val _ j e is live inv.carriers;
   told = told_other _ _ _ _ _ j (Take j e) b (take_legal c j r e b may pending is inv) refl refl (λ k. take_begin j k e) inv.told;
-  bounds = inv.bounds;
+  numbers = numbers_grown _ _ _ (Take j e ∷ []) inv.numbers;
+  bounds = bounds_grown _ _ _ _ _ _ (Take j e ∷ []) refl inv.bounds;
   settling = settling_more _ _ _ (Take j e ∷ []) (λ _ n. absurd (nothing n)) (λ _ _ _ _ n. nothing n) inv.settling;
-  walkers = walkers_rest _ _ _ _ _ _ j (walkers_links _ _ _ _ _ _ (dead k r) v (λ _ s _ _. dead_generation k r s) (λ _ g at f _ _. stands_dead l x k t v h r val c.history j e is g at f) (walkers_grown _ _ _ _ _ _ (Take j e ∷ []) inv.walkers));
+  walkers = let now = present_of (marked c j r e) in walkers_rest now (takes_of c) (dead k r) v j (walkers_links now (takes_of c) k v (dead k r) v (λ _ s _ _. dead_generation k r s) (λ _ g at f _ _. stands_dead l x k t v h r val c.history j e is g at f)
+      (walkers_grown (present_of c) (takes_of c) k v (Take j e ∷ []) (silent c.history (Take j e ∷ []) refl refl) inv.walkers));
+  ahead = ahead_grown c.history (Take j e ∷ []) c.words.current refl inv.ahead;
   scarce = scarce_grown _ _ _ _ _ _ _ (λ k. no_begin j e k) inv.scarce;
   refusals = refusals_grown _ _ _ _ (λ k. no_begin j e k) inv.refusals;
   swept = swept_grown _ _ _ _ _ _ _ (λ k. no_begin j e k) inv.swept;

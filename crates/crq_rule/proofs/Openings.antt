@@ -30,7 +30,7 @@ use Rattle.crq_rule.specs.Parts.{Holders}
 use Rattle.crq_rule.specs.Invariant.{Inv}
 use Rattle.crq_rule.specs.Rule.{Carries, Stands, fresh, fresh_from, first_view, rows_from}
 use Rattle.crq_rule.specs.Ranks.{first_head_of}
-use Rattle.crq_rule.specs.Opening.{opening_words, opening_head, open_head, shut_head, headed, opening_core, home_of, IsFresh, AreFresh}
+use Rattle.crq_rule.specs.Opening.{opening_log, opening_words, opening_head, open_head, shut_head, headed, opening_core, home_of, IsFresh, AreFresh}
 use Rattle.crq_rule.proofs.Placing.{shows_set, within, epoch_set, control_set, current_set}
 use Rattle.crq_rule.proofs.PartLaws.{one_home, sort, of_whom}
 use Rattle.crq_rule.proofs.HolderLaws.{none_some}
@@ -39,7 +39,7 @@ use Rattle.crq_rule.proofs.Pendings.{none_counted}
 use Rattle.crq_rule.proofs.ScarceLaws.{none_base}
 use Rattle.crq_rule.proofs.SweepLaws.{none_sweep}
 use Rattle.crq_rule.proofs.BoundLaws.{permits_none}
-use Rattle.crq_rule.proofs.ListOpening.{off_on, opening_control, opening_sizes, opening_dues, opening_steady, opening_heads, opening_sorted, opening_marks, opening_standing, opening_copying, opening_lanes, opening_writing, opening_naming, opening_carriers, opening_told, opening_settling, opening_walkers, no_sight}
+use Rattle.crq_rule.proofs.ListOpening.{off_on, opening_control, opening_sizes, opening_dues, opening_steady, opening_heads, opening_sorted, opening_marks, opening_standing, opening_copying, opening_lanes, opening_writing, opening_naming, opening_carriers, opening_told, opening_settling, opening_walkers, opening_ahead, no_sight, no_settle}
 
 -- Words
 
@@ -127,7 +127,7 @@ pub none_control : (x : Control) → None ≡ Some x → ⊥
 none_control x e = cc
 
 pub opening_link : (g q : ℕ) → g < 2 ^ 30 → IsLink (opening_head g q)
-opening_link g q b = either_way (leb (first_head_of g) q && ltb q (first_head_of g + 1))
+opening_link g q b = either_way (leb (first_head_of g) q && ltb q (first_head_of g + 2 ^ opening_log))
   where
     either_way : (t : Bool) → IsLink (cond t (open_head g) shut_head)
     either_way true = record { generation = b; row = omega arith }
@@ -152,12 +152,12 @@ opening_inv s first = let top = first.upto in let low = first.epoch in record {
     scanned = λ j k a _ i. absurd i;
     tags = λ j t x _ is _. absurd (none_some x is);
   };
-  finds = record { controls = λ j x _ is. absurd (none_control x is); currents = λ j x _ is. absurd (none_current x is); sights = λ j x _ is. absurd (no_sight x is); views = λ j s x _ is _. absurd (no_sight s is) };
+  finds = record { controls = λ j x _ is. absurd (none_control x is); currents = λ j x _ is. absurd (none_current x is); sights = λ j x _ is. absurd (no_sight x is); views = λ j s _ is. absurd (no_sight s is) };
   guards = record { each = λ _ _. refl; passed = λ k j a _ _ i _. tt };
   holders = opening_holders s;
   cutting = record { on = λ j x _ is. absurd (none_some x is); tags = λ j t g x _ is _ _. absurd (none_some x is) };
   stamps = record { shown = λ _ _. refl; tag = λ r t _ is. absurd (let z : 0 ≡ 3 = ap sort is in omega arith); ripe = λ j r t _ i. absurd i };
-  chains = record { leads = λ q _. heads_empty (leb (first_head_of s.first.generation) q && ltb q (first_head_of s.first.generation + 1)); twins = λ q r _ i. absurd i };
+  chains = record { leads = λ q _. heads_empty (leb (first_head_of s.first.generation) q && ltb q (first_head_of s.first.generation + 2 ^ opening_log)); twins = λ q r _ i. absurd i };
   cover = record { free = λ k g r j v _. off_on g v.on; tags = λ k g r t v _. absurd (off_on g v.on); resting = λ _ _ _. refl };
   sizes = opening_sizes s first;
   dues = opening_dues s first;
@@ -173,8 +173,10 @@ opening_inv s first = let top = first.upto in let low = first.epoch in record {
   carriers = opening_carriers s first;
   told = opening_told s first;
   settling = opening_settling s first;
-  bounds = record { left = (let low = first.epoch in let none = permits_none s.layout.workers in omega arith) };
+  numbers = record { tables = λ _ _. omega arith; raising = λ _ _. omega arith };
+  bounds = record { tables = omega arith; opened = omega arith; left = (let low = first.epoch in let none = permits_none s.layout.workers in omega arith); entries = omega arith; owed = λ k d _ is. absurd (no_settle d is) };
   walkers = opening_walkers s first;
+  ahead = opening_ahead s first;
   scarce = record { each = λ k b _ is. absurd (none_base b is) };
   refusals = record { each = λ k _. none_counted [] k };
   swept = record { left = λ k r s _ is. absurd (none_sweep s is); clean_is = λ k q r _ i. absurd i };

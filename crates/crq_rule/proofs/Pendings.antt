@@ -1,6 +1,7 @@
 -- What is pending, as a list, and histories that grow.
-use Rattle.std.proofs.Common.{◌≡◌, ◌⊎◌, ⊎_elim, inl, inr, Bool, true, false, cond, eqb, ◌&&◌, ◌||◌, ℕ, zero, suc, List, [], ◌∷◌, ◌++◌, sym, refl, ap, ◌∙◌, subst, append-nil, eq-eqb, arith}
+use Rattle.std.proofs.Common.{◌≡◌, ◌⊎◌, ⊎_elim, inl, inr, Bool, true, false, cond, eqb, ◌&&◌, ◌||◌, ℕ, zero, suc, List, [], ◌∷◌, ◌++◌, take, drop, sym, refl, ap, ◌∙◌, subst, append-nil, eq-eqb, arith}
 use Rattle.std.proofs.lemmas.Bool.{false≢true, eqb-true}
+use Rattle.std.proofs.lemmas.List.{take-append-drop}
 use Rattle.std.specs.List.{Contains}
 use Rattle.std.proofs.lemmas.List.Elements.{Contains-append_left, Contains-append_right}
 use Rattle.crq_base.specs.declared.event.Event.{Event}
@@ -111,6 +112,20 @@ put_once h (Table k l s) once may = subst IsOnce (sym (puts-append h (Table k l 
 pub pending_once : (h : List Entry) → IsLegal h → IsOnce (pending h)
 unfolding pending
 pending_once h legal = left_once (outs h) (puts h) (by_legal (λ h. IsOnce (puts h)) put_once [] h legal tt)
+
+-- an event is put once: not before a place of the history and after it, too
+once_apart : (xs ys : List Event) (e : Event) → IsOnce (xs ++ ys) → In e xs → In e ys → ⊥
+once_apart [] ys e once i k = i
+once_apart (x ∷ xs) ys e once i k = ⊎_elim (λ (q : e ≡ x). once.0 (subst (λ z. In z (xs ++ ys)) q (in_later xs ys e k))) (λ t. once_apart xs ys e once.1 t k) i
+  where
+    in_later : (xs ys : List Event) (e : Event) → In e ys → In e (xs ++ ys)
+    in_later [] ys e i = i
+    in_later (x ∷ xs) ys e i = inr (in_later xs ys e i)
+
+pub puts_apart : (m : ℕ) (h : List Entry) (e : Event) → IsLegal h → Contains (puts (take m h)) e → Contains (puts (drop m h)) e → ⊥
+puts_apart m h e legal early late = once_apart (puts (take m h)) (puts (drop m h)) e
+    (subst IsOnce (puts-append (take m h) (drop m h)) (subst (λ h. IsOnce (puts h)) (sym (take-append-drop m h)) (by_legal (λ h. IsOnce (puts h)) put_once [] h legal tt)))
+    (contains_in (puts (take m h)) e early) (contains_in (puts (drop m h)) e late)
 
 -- Histories that grow
 

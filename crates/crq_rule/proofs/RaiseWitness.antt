@@ -1,18 +1,19 @@
 -- From a new table steps lead to a state in which a take has raised current.
-use Rattle.std.proofs.Common.{inl, true, ◌<◌, [], refl, arith}
+use Rattle.std.proofs.Common.{inl, true, ◌<◌, [], Some, None, refl, arith}
 use Rattle.crq_base.specs.declared.words.Control.{Control}
 use Rattle.crq_base.specs.declared.words.Current.{Current}
 use Rattle.crq_rule.specs.Lists.{put}
 use Rattle.crq_rule.specs.Core.{Core, caller_of}
 use Rattle.crq_rule.specs.Ranks.{at_head, bucket, first_tick, head_for}
 use Rattle.crq_rule.specs.Opening.{opening_core}
+use Rattle.crq_rule.specs.ListKinds.{in_bucket}
 use Rattle.crq_rule.specs.CurrentKinds.{MayRaise}
 use Rattle.crq_rule.specs.Invariant.{Inv}
 use Rattle.crq_rule.specs.Steps.{epoch_load, enter, confirm, begin, current_load, walk, raise, After}
 use Rattle.crq_rule.proofs.Keeps.{keeps}
 use Rattle.crq_rule.proofs.Witnessing.{start, old}
 
--- the first caller turns its guard on, begins a take, loads current for it, and finds the one list empty
+-- the first caller turns its guard on, begins a take, loads current for it, and finds the list of its bucket empty
 
 abbrev guarded : Core
 guarded = After confirm (After (enter 0) (After epoch_load (opening_core start) 0) 0) 0
@@ -21,7 +22,7 @@ abbrev viewing : Core
 viewing = After (current_load true) (After begin guarded 0) 0
 
 abbrev walking : Core
-walking = After (walk (at_head 32768) true) viewing 0
+walking = After (walk (at_head 32768) in_bucket) viewing 0
 
 abbrev table : Control
 table = (opening_core start).words.control
@@ -39,12 +40,12 @@ unfolding put
 viewing_inv = keeps (current_load true) (After begin guarded 0) 0 (omega arith) (([], 0, refl), (table, refl, refl)) (keeps begin guarded 0 (omega arith) tt guarded_inv)
 
 walking_inv : Inv walking
-unfolding put
-walking_inv = keeps (walk (at_head 32768) true) viewing 0 (omega arith) (tt, omega arith, (([], 0, refl), (table, refl, refl, refl))) viewing_inv
+unfolding put bucket head_for
+walking_inv = keeps (walk (at_head 32768) in_bucket) viewing 0 (omega arith) (tt, omega arith, (record { table = table; current = before }, refl, refl)) viewing_inv
 
 may_raise : MayRaise table before (caller_of walking 0)
 unfolding put bucket first_tick head_for
-may_raise = record { sight = refl; walks = (record { head = 32768; at = 0 }, refl, refl, inl refl); room = omega arith }
+may_raise = record { sight = refl; walks = (record { head = 32768; at = 0; bucket = Some 0; least = None }, refl, refl, inl refl); room = omega arith }
 
 pub raised_state : (c : Core) × Inv c × (0 < c.words.current.tick)
 unfolding bucket first_tick

@@ -32,7 +32,7 @@ retire_keeps c j r t b may inv = let x = may.0 in let at = inv.holders.is_cut j 
     (stamps_retire _ _ _ _ _ r t (λ e. let z : 2 ≡ 3 = sym (ap sort held) ∙ e in absurd (omega arith)) (inv.reading.tags j t x b may.1 may.3) inv.stamps)
     (cover_retire _ _ _ j r t (inr (j, x, b, may.1, may.2, may.3)) inv.cover)
     (sizes_rows _ _ _ _ _ _ _ _ _ (λ _ _. refl) (λ s _ out. inl (kept held s out, refl)) inv.sizes)
-    (steady_rows _ _ _ _ _ _ _ _ (λ s _ out. inl (kept held s out, refl, inl refl)) inv.steady)
+    (steady_rows _ _ _ _ _ _ _ (λ s _ out. inl (kept held s out, refl, inl refl)) inv.steady)
     (marks_held _ _ _ _ r (retired t) _ _ (λ z. omega arith) (λ row. subst (λ h. MarkFits h (c.words.link r).mark) held (inv.marks.mark r row)) (kept held) inv.marks)
     inv.writing
     (naming_held _ _ c.words.twin _ r (retired t) _ _ _ (λ z. omega arith) inv.naming)
@@ -73,7 +73,7 @@ claim_keeps c j r e b read ripe inv = let at = inv.stamps.ripe j r ripe.0 b ripe
     (stamps_claim _ _ _ _ _ j r b at.0 inv.stamps)
     (cover_claim _ _ _ j r (claimable_uncovered c j r e b read ripe inv) inv.cover)
     (sizes_rows _ _ _ _ _ _ _ _ _ (λ _ _. refl) (λ s _ out. inl (kept s out, refl)) inv.sizes)
-    (steady_rows _ _ _ _ _ _ _ _ (λ s _ out. inl (kept s out, refl, inl refl)) inv.steady)
+    (steady_rows _ _ _ _ _ _ _ (λ s _ out. inl (kept s out, refl, inl refl)) inv.steady)
     (marks_held _ _ _ _ r (in_hand j) _ _ (λ z. omega arith) (λ _. tt) kept inv.marks)
     (writing_more _ _ _ _ _ _ j r inv.writing)
     (naming_held _ _ c.words.twin _ r (in_hand j) _ _ _ (λ z. omega arith) inv.naming)

@@ -1,13 +1,14 @@
 -- Rows that rise along links, what names lead to, and the stands that a walk leaves.
-use Rattle.std.proofs.Common.{eq-eqb, ◌≡◌, ◌≢◌, ◌⊎◌, ⊎_elim, inl, inr, ℕ, ◌<◌, ◌≤◌, Bool, eqb, ◌||◌, List, [], ◌∷◌, ◌++◌, sym, refl, ap, ◌∙◌, subst, arith}
+use Rattle.std.proofs.Common.{eq-eqb, ◌≡◌, ◌≢◌, ◌⊎◌, ⊎_elim, inl, inr, ℕ, ◌<◌, ◌≤◌, Bool, eqb, ◌||◌, List, [], ◌∷◌, ◌++◌, Option, Some, None, sym, refl, ap, ◌∙◌, subst, arith}
 use Rattle.std.proofs.lemmas.Bool.{false≢true, cond_both, eqb-true, eqb-false}
 use Rattle.crq_base.specs.declared.event.Event.{Event}
 use Rattle.crq_base.specs.declared.words.Link.{Link}
 use Rattle.crq_base.specs.Lists.{In}
 use Rattle.crq_rule.specs.declared.view.Stand.{Stand}
+use Rattle.crq_rule.specs.declared.view.Walk.{Walk}
 use Rattle.crq_rule.specs.Parts.{Leads, Names, IsPath, Reaches, rows_of}
 use Rattle.crq_rule.specs.Ranks.{Rises, Cell, at_head, at_row}
-use Rattle.crq_rule.specs.ListKinds.{is_cell, is_twin, new_stand, next_stand, only_row, noted_stand, noted, kept_stands, stands_after}
+use Rattle.crq_rule.specs.ListKinds.{Aim, is_take, is_cell, is_twin, new_stand, next_stand, only_row, noted_stand, noted, kept_stands, least_stands, search_stands, stands_after}
 
 module _ (link : ℕ → Link) (f : ℕ → ℕ) where
   above : (n y : ℕ) (xs : List ℕ) → Rises f n xs → In y xs → n < f y
@@ -98,6 +99,24 @@ only_in r [] i = absurd i
 only_in r (t ∷ ts) i = cond_both (eqb t.row r || is_twin r t.twin) (t ∷ only_row r ts) (only_row r ts) (λ xs. In r (rows_of xs)) (λ _. ⊎_elim inl (λ h. inr (only_in r ts h)) i)
     (λ no. only_in r ts (⊎_elim (λ (e : r ≡ t.row). absurd (false≢true (sym no ∙ ap (λ b. b || is_twin r t.twin) (eq-eqb t.row r (sym e))))) (λ h. h) i))
 
+-- a stand on the row stays
+only_stand : (r : ℕ) (ss : List Stand) (s : Stand) → s.row ≡ r → In s ss → In s (only_row r ss)
+only_stand r [] s e i = absurd i
+only_stand r (t ∷ ts) s e i = cond_both (eqb t.row r || is_twin r t.twin) (t ∷ only_row r ts) (only_row r ts) (λ xs. In s xs) (λ _. ⊎_elim inl (λ h. inr (only_stand r ts s e h)) i)
+    (λ no. only_stand r ts s e (⊎_elim (λ (q : s ≡ t). absurd (false≢true (sym no ∙ ap (λ b. b || is_twin r t.twin) (eq-eqb t.row r (ap (λ (z : Stand). z.row) (sym q) ∙ e))))) (λ h. h) i))
+
+-- the stands that a search keeps were there, and those on its least row are among them
+in_least : (o : Option (ℕ × Event)) (ss : List Stand) (s : Stand) → In s (least_stands o ss) → In s ss
+in_least None ss s i = absurd i
+in_least (Some t) ss s i = in_only t.0 ss s i
+
+in_search : (w : Option Walk) (ss : List Stand) (s : Stand) → In s (search_stands w ss) → In s ss
+in_search None ss s i = absurd i
+in_search (Some w) ss s i = in_least w.least ss s i
+
+search_in : (w : Walk) (r : ℕ) (e : Event) (ss : List Stand) (s : Stand) → w.least ≡ Some (r, e) → s.row ≡ r → In s ss → In s (search_stands (Some w) ss)
+search_in w r e ss s is row i = subst (λ o. In s (least_stands o ss)) (sym is) (only_stand r ss s row i)
+
 in_kept : (seeks : Bool) (r : ℕ) (l : Link) (ss : List Stand) (s : Stand) → In s (kept_stands seeks r l ss) → In s ss
 in_kept seeks r l ss s = cond_both (seeks || is_cell l.mark) (only_row r ss) ss (λ xs. In s xs → In s ss) (λ _. in_only r ss s) (λ _ i. i)
 
@@ -119,19 +138,21 @@ noted_rows r l (t ∷ ts) = cond_both (eqb t.row r) (noted_stand l t) t (λ z. z
 abbrev pub Stood : Cell → Link → Event → List Stand → Stand → Type 0
 Stood cell l e ss s = In s ss ⊎ (((0 < l.row) × (s ≡ new_stand cell l e)) ⊎ ((t : Stand) × In t ss × (cell ≡ at_row t.row) × (s ≡ noted_stand l t)))
 
-pub stood : (cell : Cell) (seeks : Bool) (l : Link) (e : Event) (ss : List Stand) (s : Stand) → In s (stands_after cell seeks l e ss) → Stood cell l e ss s
-stood (at_head q) seeks l e ss s i = inr (inl (in_next (at_head q) l e s i))
-stood (at_row r) seeks l e ss s i = ⊎_elim (λ h. inr (inl (in_next (at_row r) l e s h)))
-    (λ h. ⊎_elim (λ k. inl (in_kept seeks r l ss s k)) (λ k. inr (inr (k.0, in_kept seeks r l ss k.0 k.1, ap at_row (sym k.2), k.3))) (in_noted r l (kept_stands seeks r l ss) s h))
-    (in_join (next_stand (at_row r) l e) (noted r l (kept_stands seeks r l ss)) s i)
+pub stood : (cell : Cell) (aim : Aim) (w : Option Walk) (l : Link) (e : Event) (ss : List Stand) (s : Stand) → In s (stands_after cell aim w l e ss) → Stood cell l e ss s
+stood (at_head q) aim w l e ss s i = ⊎_elim (λ h. inl (in_search w ss s h)) (λ h. inr (inl (in_next (at_head q) l e s h))) (in_join (search_stands w ss) (next_stand (at_head q) l e) s i)
+stood (at_row r) aim w l e ss s i = let kept : List Stand = noted r l (kept_stands (is_take aim) r l ss) in ⊎_elim (λ h. inl (in_search w ss s h))
+    (λ h. ⊎_elim (λ h. inr (inl (in_next (at_row r) l e s h)))
+    (λ h. ⊎_elim (λ k. inl (in_kept (is_take aim) r l ss s k)) (λ k. inr (inr (k.0, in_kept (is_take aim) r l ss k.0 k.1, ap at_row (sym k.2), k.3))) (in_noted r l (kept_stands (is_take aim) r l ss) s h))
+    (in_join (next_stand (at_row r) l e) kept s h))
+    (in_join (search_stands w ss) (next_stand (at_row r) l e ++ kept) s i)
 
 -- a row stood on after a walk was stood on before it, or is the one that the cell's link names
-pub row_stood : (cell : Cell) (seeks : Bool) (l : Link) (e : Event) (ss : List Stand) (r : ℕ) → In r (rows_of (stands_after cell seeks l e ss)) → In r (rows_of ss) ⊎ ((0 < l.row) × (l.row ≡ r))
-row_stood cell seeks l e ss r i = let s = in_rows (stands_after cell seeks l e ss) r i in ⊎_elim
+pub row_stood : (cell : Cell) (aim : Aim) (w : Option Walk) (l : Link) (e : Event) (ss : List Stand) (r : ℕ) → In r (rows_of (stands_after cell aim w l e ss)) → In r (rows_of ss) ⊎ ((0 < l.row) × (l.row ≡ r))
+row_stood cell aim w l e ss r i = let s = in_rows (stands_after cell aim w l e ss) r i in ⊎_elim
     (λ (h : In s.0 ss). inl (subst (λ z. In z (rows_of ss)) s.2 (rows_in ss s.0 h)))
     (⊎_elim (λ h. inr (h.0, sym (ap (λ (z : Stand). z.row) h.1) ∙ s.2))
     (λ h. inl (subst (λ z. In z (rows_of ss)) (sym (ap (λ (z : Stand). z.row) h.3) ∙ s.2) (rows_in ss h.0 h.1))))
-    (stood cell seeks l e ss s.0 s.1)
+    (stood cell aim w l e ss s.0 s.1)
 
 later : (xs ys : List Stand) (r : ℕ) → In r (rows_of ys) → In r (rows_of (xs ++ ys))
 later [] ys r h = h
@@ -142,8 +163,21 @@ earlier [] ys r h = absurd h
 earlier (x ∷ xs) ys r h = ⊎_elim inl (λ t. inr (earlier xs ys r t)) h
 
 -- a walk stays on the row at which it reads
-pub row_stays : (r : ℕ) (seeks : Bool) (l : Link) (e : Event) (ss : List Stand) → In r (rows_of ss) → In r (rows_of (stands_after (at_row r) seeks l e ss))
-row_stays r seeks l e ss i = later (next_stand (at_row r) l e) (noted r l (kept_stands seeks r l ss)) r (subst (In r) (sym (noted_rows r l (kept_stands seeks r l ss))) (kept_in seeks r l ss i))
+pub row_stays : (r : ℕ) (aim : Aim) (w : Option Walk) (l : Link) (e : Event) (ss : List Stand) → In r (rows_of ss) → In r (rows_of (stands_after (at_row r) aim w l e ss))
+row_stays r aim w l e ss i = let kept : List Stand = kept_stands (is_take aim) r l ss in
+    later (search_stands w ss) (next_stand (at_row r) l e ++ noted r l kept) r (later (next_stand (at_row r) l e) (noted r l kept) r (subst (In r) (sym (noted_rows r l kept)) (kept_in (is_take aim) r l ss i)))
 
-pub row_next : (r : ℕ) (seeks : Bool) (l : Link) (e : Event) (ss : List Stand) → (l.row ≡ 0) ⊎ In l.row (rows_of (stands_after (at_row r) seeks l e ss))
-row_next r seeks l e ss = ⊎_elim inl (λ h. inr (earlier (next_stand (at_row r) l e) (noted r l (kept_stands seeks r l ss)) l.row h)) (next_in (at_row r) l e)
+-- and comes to the one that the link names
+pub row_next : (cell : Cell) (aim : Aim) (w : Option Walk) (l : Link) (e : Event) (ss : List Stand) → (l.row ≡ 0) ⊎ In l.row (rows_of (stands_after cell aim w l e ss))
+row_next (at_head q) aim w l e ss = ⊎_elim inl (λ h. inr (later (search_stands w ss) (next_stand (at_head q) l e) l.row h)) (next_in (at_head q) l e)
+row_next (at_row r) aim w l e ss = let kept : List Stand = noted r l (kept_stands (is_take aim) r l ss) in
+    ⊎_elim inl (λ h. inr (later (search_stands w ss) (next_stand (at_row r) l e ++ kept) l.row (earlier (next_stand (at_row r) l e) kept l.row h))) (next_in (at_row r) l e)
+
+-- a search keeps the stands on its least row
+pub least_stand : (cell : Cell) (aim : Aim) (w : Walk) (r : ℕ) (f : Event) (l : Link) (e : Event) (ss : List Stand) (s : Stand) → w.least ≡ Some (r, f) → s.row ≡ r → In s ss → In s (stands_after cell aim (Some w) l e ss)
+least_stand (at_head q) aim w r f l e ss s is row i = join_in (search_stands (Some w) ss) (next_stand (at_head q) l e) s (inl (search_in w r f ss s is row i))
+least_stand (at_row p) aim w r f l e ss s is row i = join_in (search_stands (Some w) ss) (next_stand (at_row p) l e ++ noted p l (kept_stands (is_take aim) p l ss)) s (inl (search_in w r f ss s is row i))
+
+pub least_stays : (cell : Cell) (aim : Aim) (w : Walk) (t : ℕ × Event) (l : Link) (e : Event) (ss : List Stand) → w.least ≡ Some t → In t.0 (rows_of ss) → In t.0 (rows_of (stands_after cell aim (Some w) l e ss))
+least_stays cell aim w t l e ss is i = let s = in_rows ss t.0 i in subst (λ z. In z (rows_of (stands_after cell aim (Some w) l e ss))) s.2
+    (rows_in (stands_after cell aim (Some w) l e ss) s.0 (least_stand cell aim w t.0 t.1 l e ss s.0 is s.2 s.1))

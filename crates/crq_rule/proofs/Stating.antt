@@ -9,7 +9,7 @@ use Rattle.crq_rule.specs.Places.{Place, spare, between, epoch, announced, contr
 use Rattle.crq_rule.specs.Core.{Core, Holding, in_hand, listed, cut_by, retired}
 use Rattle.crq_rule.specs.Parts.{GuardIs, OnSince, Leads, Names, IsPath, stamp_of}
 use Rattle.crq_rule.specs.Invariant.{Inv}
-use Rattle.crq_rule.specs.Stated.{IsSpelling, WordsHold, IsHeldBy, IsKept, HoldersHold, GuardsHold, CoverHolds}
+use Rattle.crq_rule.specs.Stated.{IsSpelling, WordsHold, IsHeldBy, IsKept, HoldersHold, GuardsHold, CoverHolds, CurrentHolds, BoundsHold}
 use Rattle.crq_rule.proofs.PartLaws.{sort, announced_low, retired_from}
 use Rattle.crq_rule.proofs.GuardLaws.{on_low}
 
@@ -49,9 +49,18 @@ module _ (c : Core) (inv : Inv c) where
     tags = inv.reading.tags;
     currents = inv.finds.currents;
     views = inv.finds.views;
-    permits = inv.bounds.left;
     generations = λ j x b is. (inv.finds.controls j x b is).low;
   }
+
+  -- 8. Current
+
+  pub current_holds : CurrentHolds c
+  current_holds = record { ahead = λ e settled pending. inv.ahead.each e settled pending.kept }
+
+  -- 11. Bounds
+
+  pub bounds_hold : BoundsHold c
+  bounds_hold = record { generation = (let top = inv.bounds.tables in omega arith); opened = inv.bounds.opened; guards = inv.reading.limit; owed = inv.bounds.owed; permits = inv.bounds.left; entries = inv.bounds.entries }
 
   -- 2. Holders
 

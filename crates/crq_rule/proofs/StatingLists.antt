@@ -1,37 +1,31 @@
 -- The invariant that is kept implies what is stated of lists, carriers, the history and walkers.
-use Rattle.std.proofs.Common.{◌≡◌, ◌⊎◌, ⊎_elim, inl, inr, ℕ, ◌^◌, ◌<◌, true, List, [], ◌∷◌, length, sym, refl, ap, ◌∙◌, subst, arith, ◌≢◌, Some, take, le_refl}
-use Rattle.std.specs.List.{Contains}
+use Rattle.std.proofs.Common.{◌≡◌, ◌⊎◌, ⊎_elim, inl, inr, ℕ, ◌^◌, ◌<◌, true, List, [], ◌∷◌, length, sym, refl, ap, ◌∙◌, subst, arith, ◌≢◌, Some}
 use Rattle.std.specs.Ordering.{nat_cmp, ordering_then, is_lt, MatchOrdering}
 use Rattle.std.specs.declared.cmp.Ordering.{Ordering}
 use Rattle.std.specs.declared.cmp.Ordering.TheVariants.{Less, Equal, Greater}
 use Rattle.std.proofs.lemmas.Cmp.{ranked}
 use Rattle.crq_base.specs.declared.event.Event.{Event}
-use Rattle.crq_base.specs.declared.entry.Entry.{Entry}
 use Rattle.crq_base.specs.declared.words.Mark.TheVariants.{Val, Del}
-use Rattle.crq_base.specs.Histories.{puts, outs, IsPending, put_of}
+use Rattle.crq_base.specs.Histories.{outs, IsPending}
 use Rattle.crq_base.proofs.HistoryLaws.{began_one}
 use Rattle.crq_base.proofs.Verdicts.{contains_or}
 use Rattle.crq_base.specs.Lists.{In}
-use Rattle.crq_base.specs.declared.words.Control.{Control}
 use Rattle.crq_base.specs.declared.entry.Entry.TheVariants.{Begin}
-use Rattle.std.proofs.lemmas.Option.{same_Some}
-use Rattle.crq_rule.specs.declared.view.Sight.{Sight}
 use Rattle.crq_rule.specs.declared.view.Walk.{Walk}
 use Rattle.crq_rule.specs.Places.{IsRow, IsHead}
 use Rattle.crq_rule.specs.Core.{Core, Holding, cut_by, retired, IsOutside}
 use Rattle.crq_rule.specs.Parts.{ground_of, IsEvent, Leads, Reaches, IsGuarded}
-use Rattle.crq_rule.specs.Ranks.{rank, head_of, Rises}
+use Rattle.crq_rule.specs.Ranks.{rank, Rises}
 use Rattle.crq_rule.specs.ListParts.{ranks, IsFinal, MarkFits}
 use Rattle.crq_rule.specs.HistoryParts.{StandsFrom}
 use Rattle.crq_rule.specs.Invariant.{Inv}
-use Rattle.crq_rule.specs.Stated.{IsCovered, Precedes, Ascends, IsListOf, LeadsOn, IsInHand, ListsHold, CarriersHold, HistoryHolds, IsWalking, WalkersHold, StandsIn}
+use Rattle.crq_rule.specs.Stated.{IsCovered, Precedes, Ascends, IsListOf, LeadsOn, IsInHand, ListsHold, CarriersHold, HistoryHolds, WalkersHold, StandsIn}
 use Rattle.crq_rule.specs.ListKinds.{is_cell}
 use Rattle.crq_rule.proofs.PartLaws.{sort}
 use Rattle.crq_rule.proofs.HeadLaws.{cell_listed, val_carries}
-use Rattle.crq_rule.proofs.SteadyLaws.{all_settled, present_is, guarded_out, outside_mark, listed_mark, outside_twin, open_is, shut_is}
+use Rattle.crq_rule.proofs.SteadyLaws.{present_is, guarded_out, outside_mark, listed_mark, outside_twin, open_is, shut_is}
 use Rattle.crq_rule.proofs.CoverLaws.{names_covered}
-use Rattle.crq_rule.proofs.SearchLaws.{with_twins, follow_rises, stand_covered}
-use Rattle.crq_rule.proofs.Prefixes.{take_all, take_in, take_more}
+use Rattle.crq_rule.proofs.SearchLaws.{with_twins, follow_rises, stand_covered, own_walk, settled_left}
 
 -- Order
 
@@ -126,18 +120,13 @@ module _ (c : Core) (inv : Inv c) where
     own = inv.told.each;
     callers = inv.told.inside;
     sources = inv.told.sourced;
-    settled = all_settled c inv;
+    owed = inv.settling.owed;
+    unsettled = inv.settling.unsettled;
+    tables = inv.numbers.tables;
+    raising = inv.numbers.raising;
   }
 
   -- 8. Walkers
-
-  stands_from : (k : ℕ) (w : Walk) (x : Control) (front : List Entry) (e : Event) → IsWalking c k w x front → head_of x e ≡ w.head → Contains (puts front) e → (Contains (outs c.history) e → ⊥) → StandsFrom c.words.link c.words.event x.generation w.at e
-  stands_from k w x front e walks head was kept = let from = inv.told.began k walks.inside walks.last in let t = inv.walkers.walked k w walks.inside walks.walks in
-      let same : t.0.table ≡ x = ap (λ (s : Sight). s.table) (same_Some t.0 (record { table = x; current = walks.sees.0 }) (sym t.1 ∙ walks.sees.1)) in
-      let long = ap length (began_one k c.history front from.0 walks.began from.2) ∙ from.1 in let low = (inv.walkers.seen k t.0 walks.inside t.1).after.0 in
-      let read = take_more put_of (length front) (c.read k) c.history e (omega arith)
-      (subst (λ h. Contains (puts (take (length front) h)) e) (sym walks.began.parts) (take_in put_of (length front) front (Begin k ∷ walks.began.back) e (le_refl _) (take_all put_of front e was))) in
-      subst (λ (z : Control). StandsFrom c.words.link c.words.event z.generation w.at e) same (t.2.left e read kept (ap (λ z. head_of z e) same ∙ head))
 
   -- such a row is covered, and carries the event
   from_carries : (k : ℕ) (w : Walk) (g : ℕ) (e : Event) → k < c.start.layout.workers → c.walk k ≡ Some w → StandsFrom c.words.link c.words.event g w.at e → (r : ℕ) × (0 < w.at) × StandsIn c e r × Reaches c.words.link c.words.twin w.at r
@@ -154,7 +143,14 @@ module _ (c : Core) (inv : Inv c) where
 
   pub walkers_hold : WalkersHold c
   walkers_hold = record {
-    at = λ k w b is. let t = inv.walkers.walked k w b is in (t.0, t.1, t.2.sees.0, t.2.sees.1, ⊎_elim inl (λ i. inr (stand_covered c inv k w.at b i.0)) t.2.at_stand);
-    left = λ k w x front e walks head was p. from_carries k w x.generation e walks.inside walks.walks (stands_from k w x front e walks head was p.kept);
-    ended = λ k w x front e walks none head was. ⊎_elim (λ o. o) (λ kept. let s = stands_from k w x front e walks head was kept in let some = s.some_row in absurd (omega arith)) (contains_or (outs c.history) e);
+    above = λ k s front e take ends began settled due. let from = inv.told.began k take.inside ends in
+        (settled_left c inv k s front (Begin k ∷ began.back) e take.inside take.sees began.parts (ap length (began_one k c.history front from.0 began from.2) ∙ from.1) settled due.kept).late;
+    ahead = λ k s e take same table. (inv.walkers.seen k s take.inside take.sees).ahead same table e;
+    owed = λ k i s d take. (inv.walkers.seen k s take.inside take.sees).owed i d;
+    at = λ k w b is. let t = inv.walkers.walked k w b is in (t.0, t.1, t.2.head.0, t.2.head.1, ⊎_elim inl (λ i. inr (stand_covered c inv k w.at b i.0)) t.2.at_stand);
+    of = λ k b s w walks. (own_walk c inv k s w walks.inside walks.sees walks.walks).of b;
+    left = λ k s w e walks head sought due. from_carries k w s.table.generation e walks.inside walks.walks ((own_walk c inv k s w walks.inside walks.sees walks.walks).left e due.put due.pending.kept head sought);
+    ended = λ k s w e walks none head sought put. ⊎_elim (λ o. o)
+        (λ kept. let from = (own_walk c inv k s w walks.inside walks.sees walks.walks).left e put kept head sought in let some = from.some_row in absurd (omega arith)) (contains_or (outs c.history) e);
+    done = λ k s w e walks none low due. (own_walk c inv k s w walks.inside walks.sees walks.walks).done none e due.put due.pending.kept low;
   }

@@ -5,13 +5,11 @@ use Rattle.crq_base.specs.declared.event.Event.{Event}
 use Rattle.crq_base.specs.declared.words.Link.{Link}
 use Rattle.crq_base.specs.declared.words.Mark.TheVariants.{Val, Mov, Del}
 use Rattle.crq_base.specs.declared.words.Control.{Control}
-use Rattle.std.specs.Prelude.{Option, Contains}
-use Rattle.crq_base.specs.Histories.{puts, settleds, IsPending}
+use Rattle.crq_base.specs.Histories.{IsPending}
 use Rattle.crq_base.specs.Lists.{In}
-use Rattle.crq_base.proofs.Verdicts.{contains_or}
-use Rattle.crq_rule.specs.declared.debts.SettleDebt.{SettleDebt}
 use Rattle.crq_rule.specs.declared.debts.CutDebt.{CutDebt}
 use Rattle.crq_rule.specs.declared.layout.Start.{Start}
+use Rattle.crq_rule.specs.declared.view.Sight.{Sight}
 use Rattle.crq_rule.specs.Places.{IsRow, IsHead}
 use Rattle.crq_rule.specs.Core.{Core, Holding, in_hand, listed, IsOutside, DeadNames, HasName}
 use Rattle.crq_rule.specs.Parts.{Fits, ground_of, IsGuarded}
@@ -19,13 +17,8 @@ use Rattle.crq_rule.specs.Ranks.{Shape, list_in, head_of, IsHeadIn, IsOpen}
 use Rattle.crq_rule.specs.ListParts.{IsShut, IsOldMark, IsOldHead, IsNewHead}
 use Rattle.crq_rule.specs.Steady.{Steady}
 use Rattle.crq_rule.specs.Invariant.{Inv}
-use Rattle.crq_rule.specs.Lists.{put}
-use Rattle.crq_rule.proofs.Puts.{put_all}
 use Rattle.crq_rule.proofs.HeadLaws.{carries_kept}
 use Rattle.crq_rule.proofs.SizeLaws.{fitting_list}
-
-none_debt : (d : SettleDebt) → None ≡ Some d → ⊥
-none_debt d e = cc
 
 val_mov : Val ≡ Mov → ⊥
 val_mov e = cc
@@ -36,56 +29,36 @@ del_mov e = cc
 listed_hand : (q j : ℕ) → listed q ≡ in_hand j → ⊥
 listed_hand q j e = cc
 
-module _ (start : Start) (control : Control) (link : ℕ → Link) (holding : ℕ → Holding) (names : ℕ → DeadNames) (settling : ℕ → Option SettleDebt) where
+module _ (start : Start) (control : Control) (link : ℕ → Link) (holding : ℕ → Holding) (names : ℕ → DeadNames) where
   -- each row that is outside hands was so, and is as it was or dead now, or it is a present one of the open table
   pub steady_rows : (link' : ℕ → Link) (holding' : ℕ → Holding)
       → ((r : ℕ) → IsRow start.layout r → IsOutside holding' r → (IsOutside holding r × ((link' r).generation ≡ (link r).generation) × (((link' r).mark ≡ (link r).mark) ⊎ ((link' r).mark ≡ Del)))
       ⊎ (((link' r).generation ≡ control.generation) × ((link' r).mark ≡ Val)))
-      → Steady start control link holding names settling → Steady start control link' holding' names settling
+      → Steady start control link holding names → Steady start control link' holding' names
   steady_rows link' holding' was old = record {
     still = old.still;
     first = old.first;
-    one = old.one;
     rows = λ r b out. ⊎_elim (λ h. h.1 ∙ old.rows r b h.0) (λ now. now.0) (was r b out);
     marks = λ r b out. ⊎_elim (λ h. ⊎_elim (λ same. ⊎_elim (λ v. inl (same ∙ v)) (λ d. inr (same ∙ d)) (old.marks r b h.0)) inr h.2) (λ now. inl now.1) (was r b out);
     named = old.named;
     single = old.single;
-    settled = old.settled;
   }
 
   -- each name was there, or is of a row of the open table
   pub steady_names : (names' : ℕ → DeadNames) → ((k : ℕ) (d : CutDebt) → k < start.layout.workers → HasName (names' k) d → HasName (names k) d ⊎ ((r : ℕ) × IsRow start.layout r × IsOutside holding r × (d.generation ≡ (link r).generation)))
-      → ((k : ℕ) → k < start.layout.workers → (names k).second ≡ None → (names' k).second ≡ None) → Steady start control link holding names settling → Steady start control link holding names' settling
+      → ((k : ℕ) → k < start.layout.workers → (names k).second ≡ None → (names' k).second ≡ None) → Steady start control link holding names → Steady start control link holding names'
   steady_names names' was alone old = record {
     still = old.still;
     first = old.first;
-    one = old.one;
     rows = old.rows;
     marks = old.marks;
     named = λ k d b has. ⊎_elim (old.named k d b) (λ of. of.3 ∙ old.rows of.0 of.1 of.2) (was k d b has);
     single = λ k b. alone k b (old.single k b);
-    settled = old.settled;
-  }
-
-  -- an event isn't owed any more
-  pub steady_settled : (j : ℕ) → Steady start control link holding names settling → Steady start control link holding names (put settling j None)
-  steady_settled j old = record {
-    still = old.still;
-    first = old.first;
-    one = old.one;
-    rows = old.rows;
-    marks = old.marks;
-    named = old.named;
-    single = old.single;
-    settled = put_all settling j None (λ k o. k < start.layout.workers → o ≡ None) (λ _. refl) (λ k _. old.settled k);
   }
 
 module _ (c : Core) (inv : Inv c) where
   pub steady_still : c.words.control.moving ≡ false
   steady_still = inv.steady.still
-
-  pub steady_one : c.words.control.log ≡ 0
-  steady_one = inv.steady.one
 
   -- a control word that was found is the present one
   fitting_now : (x : Control) → Fits c.start c.words.control c.shape x → x ≡ c.words.control
@@ -110,6 +83,10 @@ module _ (c : Core) (inv : Inv c) where
 
   pub found_now : (j : ℕ) (x : Control) → j < c.start.layout.workers → (c.found j).control ≡ Some x → x ≡ c.words.control
   found_now j x b is = fitting_now x (inv.finds.controls j x b is)
+
+  -- and so is a table that a take read
+  pub seen_now : (j : ℕ) (s : Sight) → j < c.start.layout.workers → c.sight j ≡ Some s → s.table ≡ c.words.control
+  seen_now j s b is = fitting_now s.table (inv.finds.sights j s b is).0
 
   -- the list of an event in the open table
   pub open_list : (e : Event) → list_in c.shape c.words.control.generation e ≡ head_of c.words.control e
@@ -170,11 +147,3 @@ module _ (c : Core) (inv : Inv c) where
   -- a caller owes one dead row at most
   pub one_named : (k : ℕ) → k < c.start.layout.workers → (c.named k).second ≡ None
   one_named k b = inv.steady.single k b
-
-  -- each event that was put is settled
-  pub all_settled : (e : Event) → Contains (puts c.history) e → Contains (settleds c.history) e
-  all_settled e put = ⊎_elim (λ s. s) (λ left. let o = inv.settling.unsettled e put left in absurd (none_debt o.2.0 (sym (inv.steady.settled o.0 o.1) ∙ o.2.1))) (contains_or (settleds c.history) e)
-
-  -- and so no event is owed
-  pub none_owed : (k : ℕ) (d : SettleDebt) → k < c.start.layout.workers → c.settling k ≡ Some d → ⊥
-  none_owed k d b is = none_debt d (sym (inv.steady.settled k b) ∙ is)

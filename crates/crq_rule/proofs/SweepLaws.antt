@@ -5,7 +5,7 @@ use Rattle.std.specs.List.{Contains}
 use Rattle.std.proofs.lemmas.List.Elements.{Contains-append_left}
 use Rattle.crq_base.specs.declared.event.Event.{Event}
 use Rattle.crq_base.specs.declared.entry.Entry.{Entry}
-use Rattle.crq_base.specs.declared.entry.Entry.TheVariants.{Begin}
+use Rattle.crq_base.specs.declared.entry.Entry.TheVariants.{Begin, Put}
 use Rattle.crq_base.specs.declared.words.Link.{Link}
 use Rattle.crq_base.specs.declared.words.Control.{Control}
 use Rattle.crq_base.specs.declared.words.Mark.{Mark}
@@ -24,7 +24,7 @@ use Rattle.crq_rule.specs.ListParts.{ranks}
 use Rattle.crq_rule.specs.Ranks.{rank, list_in, head_of, Cell, at_head, at_row, link_at, Rises, after_cell, without_row}
 use Rattle.crq_rule.specs.ScarceParts.{WasOut, Swept}
 use Rattle.crq_rule.specs.Invariant.{Inv}
-use Rattle.crq_rule.specs.ListKinds.{put_entries, is_cell, is_val, is_passing, swept_head, taken_on, sweep_on, clean_on}
+use Rattle.crq_rule.specs.ListKinds.{Aim, no_take, in_bucket, in_search, is_cell, is_val, is_passing, swept_head, taken_on, sweep_on, clean_on}
 use Rattle.crq_rule.proofs.Puts.{put_all}
 use Rattle.crq_rule.proofs.HistoryLaws.{not_out}
 use Rattle.crq_rule.proofs.ChainLaws.{in_cell}
@@ -94,11 +94,11 @@ swept_cut l history event chain sweep clean q x old = swept_chains l history eve
 
 -- a row whose event was never put comes into a list
 pub swept_linked : (c : Core) (j : ℕ) (cell : Cell) (q r : ℕ) (e : Event) → j < c.start.layout.workers → IsHomeRow c.start.layout j r → c.words.event r ≡ e → (Contains (puts c.history) e → ⊥) → Inv c
-    → Swept c.start.layout (c.history ++ put_entries j e) c.words.event c.chain c.sweep c.clean → ((k : ℕ) → In (Begin k) (put_entries j e) → ⊥)
-    → Swept c.start.layout (c.history ++ put_entries j e) c.words.event (put c.chain q (after_cell cell r (c.chain q))) c.sweep c.clean
+    → Swept c.start.layout (c.history ++ Put j e ∷ []) c.words.event c.chain c.sweep c.clean → ((k : ℕ) → In (Begin k) (Put j e ∷ []) → ⊥)
+    → Swept c.start.layout (c.history ++ Put j e ∷ []) c.words.event (put c.chain q (after_cell cell r (c.chain q))) c.sweep c.clean
 swept_linked c j cell q r e b home is new inv old none = swept_chains _ _ _ _ _ _ (put c.chain q (after_cell cell r (c.chain q)))
     (λ k p s _ _ w i. put_all c.chain q (after_cell cell r (c.chain q)) (λ p rows. In s rows → In s (c.chain p))
-    (λ i. ⊎_elim (λ (same : s ≡ r). absurd (not_out _ _ _ _ _ e inv.told new (was_out c.history k e (was_before c.history (put_entries j e) k e (none k) (subst (WasOut (c.history ++ put_entries j e) k) (ap c.words.event same ∙ is) w))))) (λ t. t) (in_cell cell r s (c.chain q) i)) (λ _ _ i. i) p i) old
+    (λ i. ⊎_elim (λ (same : s ≡ r). absurd (not_out _ _ _ _ _ e inv.told new (was_out c.history k e (was_before c.history (Put j e ∷ []) k e (none k) (subst (WasOut (c.history ++ Put j e ∷ []) k) (ap c.words.event same ∙ is) w))))) (λ t. t) (in_cell cell r s (c.chain q) i)) (λ _ _ i. i) p i) old
 
 -- Chains: the row behind another one is the next greater
 
@@ -216,15 +216,16 @@ module _ (c : Core) (j : ℕ) (b : j < c.start.layout.workers) (inv : Inv c) whe
       by None is = sweeps_old
       by (Some s) is = if_passing s is (is_passing (c.found j).control p (c.rows j) s) refl
 
-  sweeps_both : (cell : Cell) (seeks : Bool) → Sweeps (sweep_on (taken_on seeks (c.found j).control cell (c.rows j) (c.sweep j)) (link_at c.words.head c.words.link cell) (c.words.event (link_at c.words.head c.words.link cell).row) (c.sweep j))
-      (clean_on (taken_on seeks (c.found j).control cell (c.rows j) (c.sweep j)) (link_at c.words.head c.words.link cell) (c.clean j))
-  sweeps_both cell true = sweeps_old
-  sweeps_both cell false = sweeps_after cell
+  sweeps_both : (cell : Cell) (aim : Aim) → Sweeps (sweep_on (taken_on aim (c.found j).control cell (c.rows j) (c.sweep j)) (link_at c.words.head c.words.link cell) (c.words.event (link_at c.words.head c.words.link cell).row) (c.sweep j))
+      (clean_on (taken_on aim (c.found j).control cell (c.rows j) (c.sweep j)) (link_at c.words.head c.words.link cell) (c.clean j))
+  sweeps_both cell no_take = sweeps_after cell
+  sweeps_both cell in_bucket = sweeps_old
+  sweeps_both cell in_search = sweeps_old
 
-  pub swept_walked : (cell : Cell) (seeks : Bool) → Swept c.start.layout c.history c.words.event c.chain
-      (put c.sweep j (sweep_on (taken_on seeks (c.found j).control cell (c.rows j) (c.sweep j)) (link_at c.words.head c.words.link cell) (c.words.event (link_at c.words.head c.words.link cell).row) (c.sweep j)))
-      (put c.clean j (clean_on (taken_on seeks (c.found j).control cell (c.rows j) (c.sweep j)) (link_at c.words.head c.words.link cell) (c.clean j)))
-  swept_walked cell seeks = let now = sweeps_both cell seeks in record {
+  pub swept_walked : (cell : Cell) (aim : Aim) → Swept c.start.layout c.history c.words.event c.chain
+      (put c.sweep j (sweep_on (taken_on aim (c.found j).control cell (c.rows j) (c.sweep j)) (link_at c.words.head c.words.link cell) (c.words.event (link_at c.words.head c.words.link cell).row) (c.sweep j)))
+      (put c.clean j (clean_on (taken_on aim (c.found j).control cell (c.rows j) (c.sweep j)) (link_at c.words.head c.words.link cell) (c.clean j)))
+  swept_walked cell aim = let now = sweeps_both cell aim in record {
     left = λ k r s inside is head home i w. put_all c.sweep j _ (λ k o. k < c.start.layout.workers → o ≡ Some s → IsHomeRow c.start.layout k r → WasOut c.history k (c.words.event r) → s.rank ≤ ranks c.words.event r)
         (λ _ is home w. now.left r s is head home i w) (λ k _ inside is home w. inv.swept.left k r s inside is head home i w) k inside is home w;
     clean_is = λ k q r inside t head home i w. put_all c.clean j _ (λ k qs. k < c.start.layout.workers → In q qs → IsHomeRow c.start.layout k r → WasOut c.history k (c.words.event r) → ⊥)

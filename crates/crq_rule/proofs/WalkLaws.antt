@@ -1,21 +1,20 @@
 -- A walk keeps the invariant: it comes to rows that its guard covers, or to the first row of a list.
-use Rattle.crq_rule.proofs.WalkerLaws.{walkers_at}
-use Rattle.crq_base.specs.declared.entry.Entry.TheVariants.{Begin}
-use Rattle.crq_rule.proofs.Prefixes.{of_take}
-use Rattle.std.proofs.Common.{◌≡◌, ◌≢◌, ◌⊎◌, ⊎_elim, inl, inr, ℕ, ◌<◌, ◌≤◌, Bool, true, false, cond, eqb, ltb, leb, ◌&&◌, ◌||◌, List, [], ◌∷◌, ◌++◌, length, Option, Some, None, sym, refl, ap, ◌∙◌, subst, eq-eqb, arith, pow_pos, length-append, le_refl}
+use Rattle.std.proofs.Common.{◌≡◌, ◌≢◌, ◌⊎◌, ⊎_elim, inl, inr, ℕ, ◌<◌, ◌≤◌, true, false, cond, eqb, ltb, leb, ◌&&◌, ◌||◌, List, [], ◌∷◌, ◌++◌, length, take, Option, Some, None, sym, refl, ap, ◌∙◌, subst, eq-eqb, arith, length-append, le_refl}
 use Rattle.std.proofs.lemmas.Bool.{cond_both, eqb-true, ltb-true, leb-true, and_parts, or_cases, false≢true}
 use Rattle.std.proofs.lemmas.Option.{same_Some, none-some}
+use Rattle.std.specs.List.{Contains}
 use mathlib.Core.Logic.{dite}
 use native.Mathlib.Decide.{ℕ_discrete}
 use Rattle.crq_base.specs.declared.event.Event.{Event}
-use Rattle.crq_base.specs.Histories.{put_of}
+use Rattle.crq_base.specs.declared.entry.Entry.TheVariants.{Begin}
+use Rattle.crq_base.specs.Histories.{put_of, puts}
 use Rattle.crq_base.specs.declared.words.Link.{Link}
 use Rattle.crq_base.specs.declared.words.Mark.{Mark}
 use Rattle.crq_base.specs.declared.words.Mark.TheVariants.{Val, Inv as Invalid, Mov, Del}
 use Rattle.crq_base.specs.declared.words.Control.{Control}
-use Rattle.crq_base.specs.declared.words.Current.{Current}
 use Rattle.crq_base.specs.Lists.{In}
 use Rattle.crq_rule.specs.declared.debts.CutDebt.{CutDebt}
+use Rattle.crq_rule.specs.declared.debts.SettleDebt.{SettleDebt}
 use Rattle.crq_rule.specs.declared.view.Guard.{Guard}
 use Rattle.crq_rule.specs.declared.view.Guard.TheVariants.{Off, Entering, On}
 use Rattle.crq_rule.specs.declared.view.CutRow.{CutRow}
@@ -25,21 +24,25 @@ use Rattle.crq_rule.specs.declared.view.Walk.{Walk}
 use Rattle.crq_rule.specs.Lists.{put}
 use Rattle.crq_rule.specs.Places.{IsHead}
 use Rattle.crq_rule.specs.Core.{Core, IsOutside, DeadNames, HasName, in_hand, retired}
-use Rattle.crq_rule.specs.Parts.{ground_of, Covers, IsGuarded, HasTag, IsOn, Names, IsPath, Reaches, rows_of, rows_of_old, rows_of_copy, Leads, Follows, Fits, NotAfter}
+use Rattle.crq_rule.specs.Parts.{ground_of, Covers, IsGuarded, HasTag, IsOn, Names, Reaches, rows_of, rows_of_old, rows_of_copy}
 use Rattle.crq_rule.specs.ListParts.{ranks, StandFits, IsFinal, IsNamed}
-use Rattle.crq_rule.specs.HistoryParts.{Walks, Sees, EndsInBegin}
-use Rattle.crq_rule.specs.Invariant.{Inv, takes_of}
+use Rattle.crq_rule.specs.HistoryParts.{Walks, Sees, Walkers, EndsInBegin}
+use Rattle.crq_rule.specs.Invariant.{Inv, present_of, takes_of}
 use Rattle.crq_rule.specs.Ranks.{rank, list_in, head_of, Cell, at_head, at_row, link_at, first_head_of}
-use Rattle.crq_rule.specs.ListKinds.{is_final, is_passed, is_val, stands_after, walk_after, walked, is_cell, is_beyond, is_past, is_other_front, relieved, front_of, new_stand, next_stand, noted_stand, is_mov, is_inv, walked_from, MayWalk, MaySeek, sight_after, read_after, begins_walk, table_seen, current_seen, is_loaded, relieved_names}
-use Rattle.crq_rule.proofs.SweepLaws.{val_is, swept_walked}
+use Rattle.crq_rule.specs.ListKinds.{Aim, no_take, in_bucket, in_search, is_take, is_final, is_passed, stands_after, walk_after, head_walk, new_walk as begun_walk, walked, begins_walk, is_cell, is_beyond, is_past, is_other_front, relieved, front_of, new_stand, noted_stand, is_mov, is_inv, walked_from, MayWalk, MaySeek, read_after, read_from, relieved_names}
+use Rattle.crq_rule.proofs.SweepLaws.{swept_walked}
+use Rattle.crq_rule.proofs.HistoryLaws.{put_in}
+use Rattle.crq_rule.proofs.Prefixes.{take_all}
 use Rattle.crq_rule.proofs.Puts.{put_here, put_else, put_all}
 use Rattle.crq_rule.proofs.PartLaws.{sort}
 use Rattle.crq_rule.proofs.CoverLaws.{row_footing}
 use Rattle.crq_rule.proofs.SizeLaws.{fitting_list, dues_named}
-use Rattle.crq_rule.proofs.HeadLaws.{cell_dead, cell_listed, passed_kept, passed_kept}
+use Rattle.crq_rule.proofs.HeadLaws.{cell_dead, cell_listed}
 use Rattle.crq_rule.proofs.NameLaws.{moved_second, has_moved, was_left}
-use Rattle.crq_rule.proofs.SteadyLaws.{outside_twin, guarded_out, steady_names, list_carries, none_owed}
-use Rattle.crq_rule.proofs.Standings.{in_rows, in_next, least, first_in, next_above, adjacent, longer, reached, path_in, in_join, join_in, rows_in, next_in, stood, row_stood, row_stays, row_next, in_rows}
+use Rattle.crq_rule.proofs.SteadyLaws.{outside_twin, guarded_out, steady_names}
+use Rattle.crq_rule.proofs.Standings.{least, first_in, next_above, adjacent, longer, path_in, in_join, join_in, rows_in, stood, row_stood}
+use Rattle.crq_rule.proofs.WalkerLaws.{walkers_at}
+use Rattle.crq_rule.proofs.Walkings.{begins_is, walks_row, sees_now, head_walks}
 
 -- the row is in a list
 abbrev pub IsListed : Core → ℕ → Type 0
@@ -52,20 +55,17 @@ cell_link c cell = link_at c.words.head c.words.link cell
 abbrev cell_event : Core → Cell → Event
 cell_event c cell = c.words.event (cell_link c cell).row
 
-abbrev new_rows : Core → ℕ → Cell → Bool → List Stand
-new_rows c j cell seeks = stands_after cell seeks (cell_link c cell) (cell_event c cell) (c.rows j)
+abbrev new_walk : Core → ℕ → Cell → Aim → Option Walk
+new_walk c j cell aim = walk_after cell aim (c.sight j) (cell_link c cell) (c.walk j) (c.rows j)
+
+abbrev new_rows : Core → ℕ → Cell → Aim → List Stand
+new_rows c j cell aim = stands_after cell aim (new_walk c j cell aim) (cell_link c cell) (cell_event c cell) (c.rows j)
 
 abbrev new_names : Core → ℕ → Cell → DeadNames
 new_names c j cell = relieved_names (c.found j).control cell (c.rows j) (cell_link c cell) (cell_event c cell) (c.named j)
 
-abbrev new_walk : Core → ℕ → Cell → Bool → Option Walk
-new_walk c j cell seeks = walk_after cell seeks (c.found j).control (cell_link c cell) (c.walk j)
-
-abbrev new_sight : Core → ℕ → Cell → Bool → Option Sight
-new_sight c j cell seeks = sight_after cell seeks (c.found j).control (cell_link c cell) (c.sight j)
-
-abbrev new_read : Core → ℕ → Cell → Bool → ℕ
-new_read c j cell seeks = read_after cell seeks (c.found j).control (cell_link c cell) (c.sight j) (length c.history) (c.read j)
+abbrev new_read : Core → ℕ → Cell → Aim → ℕ
+new_read c j cell aim = read_after cell aim (c.sight j) (length c.history) (c.read j)
 
 module _ (c : Core) (inv : Inv c) where
   listed_some : (q : ℕ) → IsHead q → (r : ℕ) → In r (c.chain q) → 0 < r
@@ -124,16 +124,16 @@ module _ (c : Core) (inv : Inv c) where
     longer c.words.link c.words.twin p (c.words.link p).row r (some, inl refl) reaches,
   )
 
-module _ (c : Core) (j : ℕ) (cell : Cell) (seeks : Bool) where
+module _ (c : Core) (j : ℕ) (cell : Cell) (aim : Aim) where
   -- what the callers stand on after the walk
-  stands_j : (k : ℕ) → k ≡ j → (ground_of (walked_from c j cell seeks)).footing k ≡ rows_of (new_rows c j cell seeks) ++ (rows_of_old (c.old j) ++ rows_of_copy (c.copying j))
-  stands_j k e = ap (ground_of (walked_from c j cell seeks)).footing e ∙ ap (λ ss. rows_of ss ++ (rows_of_old (c.old j) ++ rows_of_copy (c.copying j))) (put_here c.rows j (new_rows c j cell seeks))
+  stands_j : (k : ℕ) → k ≡ j → (ground_of (walked_from c j cell aim)).footing k ≡ rows_of (new_rows c j cell aim) ++ (rows_of_old (c.old j) ++ rows_of_copy (c.copying j))
+  stands_j k e = ap (ground_of (walked_from c j cell aim)).footing e ∙ ap (λ ss. rows_of ss ++ (rows_of_old (c.old j) ++ rows_of_copy (c.copying j))) (put_here c.rows j (new_rows c j cell aim))
 
-  stands_else : (k : ℕ) → k ≢ j → (ground_of (walked_from c j cell seeks)).footing k ≡ (ground_of c).footing k
-  stands_else k ne = ap (λ ss. rows_of ss ++ (rows_of_old (c.old k) ++ rows_of_copy (c.copying k))) (put_else c.rows j (new_rows c j cell seeks) k ne)
+  stands_else : (k : ℕ) → k ≢ j → (ground_of (walked_from c j cell aim)).footing k ≡ (ground_of c).footing k
+  stands_else k ne = ap (λ ss. rows_of ss ++ (rows_of_old (c.old k) ++ rows_of_copy (c.copying k))) (put_else c.rows j (new_rows c j cell aim) k ne)
 
   -- what is covered after the walk was covered before it, or is listed
-  before : MayWalk (c.rows j) cell → Inv c → (k g r : ℕ) → Covers (ground_of (walked_from c j cell seeks)) k g r → Covers (ground_of c) k g r ⊎ IsListed c r
+  before : MayWalk (c.rows j) cell → Inv c → (k g r : ℕ) → Covers (ground_of (walked_from c j cell aim)) k g r → Covers (ground_of c) k g r ⊎ IsListed c r
   before may inv k g r v = dite (ℕ_discrete k j)
       (λ (e : k ≡ j).
       let same : (a : ℕ) → In a ((ground_of c).footing j) → Reaches c.words.link c.words.twin a r → Covers (ground_of c) k g r =
@@ -143,9 +143,9 @@ module _ (c : Core) (j : ℕ) (cell : Cell) (seeks : Bool) where
       ⊎_elim
       (λ h. ⊎_elim (λ i. inl (same v.at (join_in rows rest v.at (inl i)) v.reaches))
       (λ h. ⊎_elim (λ t. inl (same t.0 (join_in rows rest t.0 (inl t.1)) t.2)) inr (from_cell c inv j cell r may h.0 (subst (λ z. Reaches c.words.link c.words.twin z r) (sym h.1) v.reaches)))
-      (row_stood cell seeks (cell_link c cell) (cell_event c cell) (c.rows j) v.at h))
+      (row_stood cell aim (new_walk c j cell aim) (cell_link c cell) (cell_event c cell) (c.rows j) v.at h))
       (λ h. inl (same v.at (join_in rows rest v.at (inr h)) v.reaches))
-      (in_join (rows_of (new_rows c j cell seeks)) rest v.at (subst (λ z. In v.at z) (stands_j k e) v.stands)))
+      (in_join (rows_of (new_rows c j cell aim)) rest v.at (subst (λ z. In v.at z) (stands_j k e) v.stands)))
       (λ ne. inl (record { inside = v.inside; on = v.on; at = v.at; stands = subst (λ z. In v.at z) (stands_else k ne) v.stands; reaches = v.reaches }))
 
 on_is : (g : Guard) → IsOn g → (x : ℕ) × (g ≡ On x)
@@ -261,77 +261,6 @@ module _ (c : Core) (j g : ℕ) (b : j < c.start.layout.workers) (on : c.guard j
         let first : l.row ≡ d.row = ap (λ z. (c.words.head z).row) (sym (eqb-true d.head p two.0)) ∙ ((is.front one.0).1 ∙ sym is.row) in
         false≢true (sym (ap (λ b. cond b false true) (eq-eqb l.row d.row first)) ∙ two.1)
 
--- links lead from the first row to each other one
-followed : (link : ℕ → Link) (a y : ℕ) (xs : List ℕ) → ((r : ℕ) → In r xs → 0 < r) → Leads link a xs → In y xs → (0 < a) × Follows link a y
-followed link a y xs some leads i = reached link (λ _. 0) a y xs some leads i
-
--- the first step of a way is by the row's link
-first_step : (link : ℕ → Link) (r y : ℕ) (ps : List ℕ) → r ≢ y → IsPath link (λ _. 0) r ps y → (0 < (link r).row) × Follows link (link r).row y
-first_step link r y [] ne path = absurd (ne path)
-first_step link r y (p ∷ ps) ne path = ⊎_elim
-    (λ (e : (link r).row ≡ p). (subst (λ z. 0 < z) (sym e) path.0.0, record { through = ps; path = subst (λ z. IsPath link (λ _. 0) z ps y) (sym e) path.1 }))
-    (λ none. let some = path.0.0 in absurd (omega arith)) path.0.1
-
--- what is seen where a walk begins
-record Begins (x : Option Control) (l : Link) : Type 0 where
-  control : Control
-  found : x ≡ Some control
-  val : l.mark ≡ Val
-  generation : l.generation ≡ control.generation
-
-no_current : (x : Current) → None ≡ Some x → ⊥
-no_current x e = cc
-
--- current is seen so in the sight
-kept_current : (x : Option Control) (y : Option Current) (s : Sight) → table_seen x y ≡ Some s → y ≡ s.current
-kept_current None y s is = absurd (none-some s is)
-kept_current (Some x) y s is = ap (λ (s : Sight). s.current) (same_Some (record { table = x; current = y }) s is)
-
-begins_is : (x : Option Control) (l : Link) → begins_walk x l ≡ true → Begins x l
-begins_is None l t = absurd (false≢true t)
-begins_is (Some y) l t = let p = and_parts (is_val l.mark) (eqb l.generation y.generation) t in record { control = y; found = refl; val = val_is l.mark p.0; generation = eqb-true l.generation y.generation p.1 }
-
-module _ (c : Core) (j g : ℕ) (b : j < c.start.layout.workers) (on : c.guard j ≡ On g) (inv : Inv c) where
-  -- a walk that begins at the first head of the table of the control word that was found
-  at_first : (q : ℕ) (x : Control) (read : ℕ) → IsHead q → Fits c.start c.words.control c.shape x → (c.words.head q).generation ≡ x.generation → q ≡ first_head_of x.generation
-      → Walks c.history c.words.link c.words.event (record { table = x; read = read; walk = record { head = q; at = (c.words.head q).row }; rows = next_stand (at_head q) (c.words.head q) (c.words.event (c.words.head q).row) })
-  at_first q x read h fits same first = record {
-    sees = (h, (omega arith, let some = pow_pos x.log in omega arith));
-    at_stand = ⊎_elim inl (λ i. inr (i, next_generation i)) (next_in (at_head q) (c.words.head q) (c.words.event (c.words.head q).row));
-    left = λ e put kept at.
-        let y = list_carries c inv x q e fits h same (record { put = of_take put_of read c.history e put; kept = kept }) at in
-        let to = followed c.words.link (c.words.head q).row y.0 (c.chain q) (listed_some c inv q h) (inv.chains.leads q h) y.1 in
-        record { row = y.0; some_row = to.0; kept = y.3; of = inv.sorted.generation q y.0 h y.1 ∙ same; holds = y.2; follows = to.1 };
-  }
-    where
-      next_generation : In (c.words.head q).row (rows_of (next_stand (at_head q) (c.words.head q) (c.words.event (c.words.head q).row))) → (c.words.link (c.words.head q).row).generation ≡ x.generation
-      next_generation i = let s = in_rows (next_stand (at_head q) (c.words.head q) (c.words.event (c.words.head q).row)) (c.words.head q).row i in
-          let some = (in_next (at_head q) (c.words.head q) (c.words.event (c.words.head q).row) s.0 s.1).0 in
-          let here = first_in c.words.link (ranks c.words.event) (c.words.head q).row (c.chain q) (inv.chains.leads q h) some in inv.sorted.generation q (c.words.head q).row h here ∙ same
-
-  -- a walk that stays at its row, or goes past it
-  at_next : (r : ℕ) (ss : List Stand) (s : Sight) (w : Walk) → Walks c.history c.words.link c.words.event (record { table = s.table; read = c.read j; walk = w; rows = c.rows j }) → w.at ≡ r → In r (rows_of (c.rows j)) → In r (rows_of ss)
-      → ((c.words.link r).row ≡ 0) ⊎ In (c.words.link r).row (rows_of ss)
-      → Walks c.history c.words.link c.words.event (record { table = s.table; read = c.read j; walk = cond (is_passed (c.words.link r).mark) (record w { at = (c.words.link r).row }) w; rows = ss })
-  at_next r ss s w old at i stays next = let l = c.words.link r in
-      cond_both (is_passed l.mark) (record w { at = l.row }) w (λ w. Walks c.history c.words.link c.words.event (record { table = s.table; read = c.read j; walk = w; rows = ss }))
-      (λ passed. record {
-        sees = old.sees;
-        at_stand = dite (ℕ_discrete l.row 0) inl (λ ne. ⊎_elim inl (λ i'. inr (i', inv.lanes.generation r (covered_at c j g b on inv r i) (omega arith) ∙ here_generation)) next);
-        left = λ e put kept of. let f = old.left e put kept of in
-            let ne : r ≢ f.row = λ same. passed_kept (c.words.link f.row).mark (subst (λ z. is_passed (c.words.link z).mark ≡ true) same passed) f.kept in
-            let to = first_step c.words.link r f.row f.follows.through ne (subst (λ z. IsPath c.words.link (λ _. 0) z f.follows.through f.row) at f.follows.path) in
-            record { row = f.row; some_row = to.0; kept = f.kept; of = f.of; holds = f.holds; follows = to.1 };
-      })
-      (λ _. record {
-        sees = old.sees;
-        at_stand = ⊎_elim inl (λ h. inr (subst (λ z. In z (rows_of ss)) (sym at) stays, h.1)) old.at_stand;
-        left = old.left;
-      })
-    where
-      here_generation : (c.words.link r).generation ≡ s.table.generation
-      here_generation = ⊎_elim (λ (z : w.at ≡ 0). let some = (inv.lanes.is_row r (covered_at c j g b on inv r i)).0 in absurd (omega arith)) (λ h. subst (λ z. (c.words.link z).generation ≡ s.table.generation) at h.1) old.at_stand
-
 -- What is known of the stands after a walk
 
 abbrev Stands : Core → Stand → Type 0
@@ -370,51 +299,87 @@ noted_fits c s l found was = record {
   front = was.front;
 }
 
--- a walk begins at this head
-abbrev begins : Core → ℕ → Bool → ℕ → Bool
-begins c j seeks q = seeks && begins_walk (c.found j).control (c.words.head q)
-
-abbrev Seeks : Core → ℕ → ℕ → Type 0
-Seeks c j q = MaySeek (c.own j) (c.found j).control (c.walk j) (at_head q) true
-
--- the table of a sight was found, and is steady
-abbrev IsSteady : Core → Sight → Type 0
-IsSteady c s = Fits c.start c.words.control c.shape s.table × (s.table.moving ≡ false)
-
-abbrev Walked : Core → Sight → ℕ → List Stand → Walk → Type 0
-Walked c s read rows w = Walks c.history c.words.link c.words.event (record { table = s.table; read = read; walk = w; rows = rows })
-
--- when a take that begins to walk has read its table: now, or as it loaded current
-abbrev read_from : Core → ℕ → ℕ
-read_from c j = cond (is_loaded (current_seen (c.sight j))) (c.read j) (length c.history)
-
--- that is after the Begin of a take
-abbrev IsSince : Core → ℕ → ℕ → Type 0
-IsSince c j m = (c.begun j < m) × (m ≤ length c.history)
-
-pub read_now : (c : Core) (j : ℕ) → j < c.start.layout.workers → EndsInBegin (c.own j) → Inv c → IsSince c j (length c.history)
+-- the history is longer than it was at the Begin of a take
+pub read_now : (c : Core) (j : ℕ) → j < c.start.layout.workers → EndsInBegin (c.own j) → Inv c → (c.begun j < length c.history) × (length c.history ≤ length c.history)
 read_now c j b ends inv = let began = inv.told.began j b ends in (let wide = ap length began.2.parts ∙ length-append began.0 (Begin j ∷ began.2.back) in let long = began.1 in omega arith, le_refl _)
 
-read_fits : (c : Core) (j : ℕ) → j < c.start.layout.workers → Inv c → IsSince c j (length c.history) → (o : Option Sight) → c.sight j ≡ o → IsSince c j (cond (is_loaded (current_seen o)) (c.read j) (length c.history))
-read_fits c j b inv now None is = now
-read_fits c j b inv now (Some s) is = cond_both (is_loaded s.current) (c.read j) (length c.history) (IsSince c j) (λ _. (inv.walkers.seen j s b is).after) (λ _. now)
+-- an event that is owed was put
+pub put_before : (c : Core) → Inv c → (i : ℕ) (d : SettleDebt) → i < c.start.layout.workers → c.settling i ≡ Some d → Contains (puts (take (length c.history) c.history)) d.event
+put_before c inv i d b owes = take_all put_of c.history d.event (put_in i d.event c.history (inv.settling.owed i d b owes).0)
 
--- what a take saw of current isn't after it
-saw : (c : Core) (j : ℕ) → j < c.start.layout.workers → Inv c → (x : Current) (o : Option Sight) → c.sight j ≡ o → current_seen o ≡ Some x → NotAfter x c.words.current
-saw c j b inv x None is seen = absurd (no_current x seen)
-saw c j b inv x (Some s) is seen = inv.finds.views j s x b is seen
+-- what a walk of a take leads to
+module _ (c : Core) (j : ℕ) (b : j < c.start.layout.workers) (inv : Inv c) where
+  -- a take has seen what it saw, since it read its table
+  sees_after : (cell : Cell) (aim : Aim) (s : Sight) → c.sight j ≡ Some s → Sees (present_of c) (c.begun j) (new_read c j cell aim) s
+  sees_after (at_row r) aim s sees = inv.walkers.seen j s b sees
+  sees_after (at_head q) no_take s sees = inv.walkers.seen j s b sees
+  sees_after (at_head q) in_bucket s sees = inv.walkers.seen j s b sees
+  sees_after (at_head q) in_search s sees = subst (λ o. Sees (present_of c) (c.begun j) (read_from q o (length c.history) (c.read j)) s) (sym sees)
+      (cond_both (eqb q (first_head_of s.table.generation)) (length c.history) (c.read j) (λ m. Sees (present_of c) (c.begun j) m s) (λ _. sees_now c inv j b s sees) (λ _. inv.walkers.seen j s b sees))
+
+  -- a walk is of a table that was seen
+  abbrev WalksOn : Cell → Aim → Walk → Type 0
+  WalksOn cell aim w = (s : Sight) × (c.sight j ≡ Some s) × Walks c.history c.words.link c.words.event
+      (record { sight = s; read = new_read c j cell aim; walk = w; rows = stands_after cell aim (Some w) (cell_link c cell) (cell_event c cell) (c.rows j) })
+
+  -- it begins at a head
+  head_after : (q : ℕ) (aim : Aim) → IsHead q → (o : Option Sight) → c.sight j ≡ o → MaySeek o (c.walk j) (at_head q) aim → (w : Walk) → head_walk aim q o (c.words.head q) (c.walk j) (c.rows j) ≡ Some w → WalksOn (at_head q) aim w
+  head_after q aim h None sees may w is = absurd (none-some w is)
+  head_after q aim h (Some s) sees may w is = (
+    s,
+    sees,
+    subst (λ o. Walks c.history c.words.link c.words.event (record {
+      sight = s;
+      read = read_after (at_head q) aim o (length c.history) (c.read j);
+      walk = w;
+      rows = stands_after (at_head q) aim (Some w) (c.words.head q) (cell_event c (at_head q)) (c.rows j);
+    })) (sym sees)
+        (cond_both (begins_walk s (c.words.head q)) (begun_walk aim q s (c.words.head q) (c.walk j) (c.rows j)) None (λ o. o ≡ Some w → Walks c.history c.words.link c.words.event (record {
+          sight = s;
+          read = read_after (at_head q) aim (Some s) (length c.history) (c.read j);
+          walk = w;
+          rows = stands_after (at_head q) aim (Some w) (c.words.head q) (cell_event c (at_head q)) (c.rows j);
+        }))
+        (λ yes e. head_walks c inv j b s sees q aim h (begins_is s (c.words.head q) yes) may w e) (λ _ e. absurd (none-some w e)) is),
+  )
+
+  -- or goes on at its row
+  row_after : (r : ℕ) (aim : Aim) → is_take aim ≡ true → In r (rows_of (c.rows j)) → (x : Walk) → c.walk j ≡ Some x → x.at ≡ r → (w : Walk) → cond (is_take aim) (walked (c.words.link r) (c.walk j)) None ≡ Some w → WalksOn (at_row r) aim w
+  row_after r aim takes i x walks at w is = let l = c.words.link r in let old = inv.walkers.walked j x b walks in (
+    old.0,
+    old.1,
+    subst (λ w. Walks c.history c.words.link c.words.event (record { sight = old.0; read = c.read j; walk = w; rows = stands_after (at_row r) aim (Some w) l (c.words.event l.row) (c.rows j) }))
+        (same_Some (cond (is_passed l.mark) (record x { at = l.row }) x) w (sym (ap (walked l) walks) ∙ (sym (ap (λ t. cond t (walked l (c.walk j)) None) takes) ∙ is))) (walks_row c inv j b old.0 old.1 r aim x walks at i),
+  )
+
+  walks_after : (cell : Cell) (aim : Aim) → MayWalk (c.rows j) cell → MaySeek (c.sight j) (c.walk j) cell aim → (w : Walk) → new_walk c j cell aim ≡ Some w → WalksOn cell aim w
+  walks_after (at_head q) aim may seek w is = head_after q aim may (c.sight j) refl seek w is
+  walks_after (at_row r) no_take may seek w is = absurd (none-some w is)
+  walks_after (at_row r) in_bucket may seek w is = row_after r in_bucket refl (subst (λ z. In z (rows_of (c.rows j))) may.1.2 (rows_in (c.rows j) may.1.0 may.1.1)) seek.0 seek.1 seek.2 w is
+  walks_after (at_row r) in_search may seek w is = row_after r in_search refl (subst (λ z. In z (rows_of (c.rows j))) may.1.2 (rows_in (c.rows j) may.1.0 may.1.1)) seek.0 seek.1 seek.2 w is
+
+  -- what is known of all takes
+  pub walkers_walked : (cell : Cell) (aim : Aim) → MayWalk (c.rows j) cell → MaySeek (c.sight j) (c.walk j) cell aim → Walkers (present_of c) (takes_of (walked_from c j cell aim)) c.words.link c.words.event
+  walkers_walked cell aim may seek = walkers_at (present_of c) (takes_of c) c.words.link c.words.event j (takes_of (walked_from c j cell aim))
+      (λ k ne i. (c.begun k, put_else c.read j (new_read c j cell aim) k ne i, c.sight k, put_else c.walk j (new_walk c j cell aim) k ne i, put_else c.rows j (new_rows c j cell aim) k ne i))
+      (λ s _ is. subst (λ r. Sees (present_of c) (c.begun j) r s) (sym (put_here c.read j (new_read c j cell aim))) (sees_after cell aim s is))
+      (λ w _ is. let now = sym (put_here c.walk j (new_walk c j cell aim)) ∙ is in let n = walks_after cell aim may seek w now in (
+        n.0,
+        n.1,
+        subst (λ (z : ℕ × List Stand). Walks c.history c.words.link c.words.event (record { sight = n.0; read = z.0; walk = w; rows = z.1 }))
+            (λ i. (
+              sym (put_here c.read j (new_read c j cell aim)) i,
+              (ap (λ o. stands_after cell aim o (cell_link c cell) (cell_event c cell) (c.rows j)) (sym now) ∙ sym (put_here c.rows j (new_rows c j cell aim))) i,
+            )) n.2,
+      ))
+      inv.walkers
 
 -- A walk keeps the invariant
-pub walk_keeps : (c : Core) (j : ℕ) (cell : Cell) (seeks : Bool) → j < c.start.layout.workers → IsOn (c.guard j) → MayWalk (c.rows j) cell → MaySeek (c.own j) (c.found j).control (c.walk j) cell seeks → Inv c → Inv (walked_from c j cell seeks)
-walk_keeps c j cell seeks b is_on may seek inv = record {
+pub walk_keeps : (c : Core) (j : ℕ) (cell : Cell) (aim : Aim) → j < c.start.layout.workers → IsOn (c.guard j) → MayWalk (c.rows j) cell → MaySeek (c.sight j) (c.walk j) cell aim → Inv c → Inv (walked_from c j cell aim)
+walk_keeps c j cell aim b is_on may seek inv = record {
   spelled = inv.spelled;
   reading = inv.reading;
-  finds = record {
-    controls = inv.finds.controls;
-    currents = inv.finds.currents;
-    sights = λ k s. put_all c.sight j (new_sight c j cell seeks) (λ k o. k < c.start.layout.workers → o ≡ Some s → Fits c.start c.words.control c.shape s.table × (s.table.moving ≡ false)) (λ _ is. steady_after cell seek s is) (λ k _. inv.finds.sights k s) k;
-    views = λ k s x. put_all c.sight j (new_sight c j cell seeks) (λ k o. k < c.start.layout.workers → o ≡ Some s → s.current ≡ Some x → NotAfter x c.words.current) (λ _ is seen. view_after cell s x is seen) (λ k _. inv.finds.views k s x) k;
-  };
+  finds = inv.finds;
   guards = inv.guards;
   holders = inv.holders;
   cutting = inv.cutting;
@@ -423,20 +388,20 @@ walk_keeps c j cell seeks b is_on may seek inv = record {
   cover = record {
     free = λ k x r i v held. ⊎_elim (λ o. inv.cover.free k x r i o held) (λ h. listed_free c inv h.0 r i h.1 h.2 held) (old k x r v);
     tags = λ k x r t v has. ⊎_elim (λ o. inv.cover.tags k x r t o has) (λ h. absurd (listed_untagged c inv h.0 r t h.1 h.2 has)) (old k x r v);
-    resting = λ k d off. dite (ℕ_discrete k j) (λ (e : k ≡ j). absurd (off (subst (λ z. IsOn (c.guard z)) (sym e) is_on))) (λ ne. stands_else c j cell seeks k ne ∙ inv.cover.resting k d off);
+    resting = λ k d off. dite (ℕ_discrete k j) (λ (e : k ≡ j). absurd (off (subst (λ z. IsOn (c.guard z)) (sym e) is_on))) (λ ne. stands_else c j cell aim k ne ∙ inv.cover.resting k d off);
   };
   sizes = inv.sizes;
   dues = dues_named _ _ _ _ _ _ _ (λ k d _ has. inl (names_before k d has)) inv.dues;
-  steady = steady_names _ _ _ _ _ _ _ (λ k d _ has. inl (names_before k d has))
+  steady = steady_names _ _ _ _ _ _ (λ k d _ has. inl (names_before k d has))
       (λ k _. put_all c.named j (new_names c j cell) (λ k t. (c.named k).second ≡ None → t.second ≡ None) (λ none. moved_second _ _ (ap (relieved (c.found j).control cell (c.rows j) (cell_link c cell) (cell_event c cell)) none)) (λ _ _ h. h) k) inv.steady;
   heads = inv.heads;
   sorted = inv.sorted;
   marks = inv.marks;
   standing = record {
-    each = λ k s. put_all c.rows j (new_rows c j cell seeks) (λ k ss. k < c.start.layout.workers → In s ss → Stands c s)
+    each = λ k s. put_all c.rows j (new_rows c j cell aim) (λ k ss. k < c.start.layout.workers → In s ss → Stands c s)
         (λ d i. ⊎_elim (inv.standing.each j s d) (⊎_elim (λ h. subst (Stands c) (sym h.1) (new_fits c cell))
         (λ h. subst (Stands c) (sym h.3) (noted_fits c h.0 (cell_link c cell) (sym (ap (link_at c.words.head c.words.link) h.2)) (inv.standing.each j h.0 d h.1))))
-        (stood cell seeks (cell_link c cell) (cell_event c cell) (c.rows j) s i)) (λ k _. inv.standing.each k s) k;
+        (stood cell aim (new_walk c j cell aim) (cell_link c cell) (cell_event c cell) (c.rows j) s i)) (λ k _. inv.standing.each k s) k;
   };
   copying = inv.copying;
   lanes = record {
@@ -469,91 +434,24 @@ walk_keeps c j cell seeks b is_on may seek inv = record {
   told = inv.told;
   scarce = inv.scarce;
   refusals = inv.refusals;
-  swept = swept_walked c j b inv cell seeks;
+  swept = swept_walked c j b inv cell aim;
+  numbers = inv.numbers;
   bounds = inv.bounds;
   settling = inv.settling;
-  walkers = walkers_at _ _ _ _ _ _ j (takes_of (walked_from c j cell seeks))
-      (λ k ne i. (c.begun k, put_else c.read j (new_read c j cell seeks) k ne i, put_else c.sight j (new_sight c j cell seeks) k ne i, put_else c.walk j (new_walk c j cell seeks) k ne i, put_else c.rows j (new_rows c j cell seeks) k ne i))
-      (λ s d is. subst (λ r. Sees c.start.layout.workers c.history c.settling (c.begun j) r s) (sym (put_here c.read j (new_read c j cell seeks))) (sees_after cell seek s (sym (put_here c.sight j (new_sight c j cell seeks)) ∙ is)))
-      (λ w d is. let n = walks_after cell may seek w (sym (put_here c.walk j (new_walk c j cell seeks)) ∙ is) in (
-        n.0,
-        put_here c.sight j (new_sight c j cell seeks) ∙ n.1,
-        subst (λ (z : ℕ × List Stand). Walks c.history c.words.link c.words.event (record { table = n.0.table; read = z.0; walk = w; rows = z.1 }))
-            (λ i. (sym (put_here c.read j (new_read c j cell seeks)) i, sym (put_here c.rows j (new_rows c j cell seeks)) i)) n.2,
-      ))
-      inv.walkers;
+  walkers = walkers_walked c j b inv cell aim may seek;
+  ahead = inv.ahead;
 }
   where
     on : (g : ℕ) × (c.guard j ≡ On g)
     on = on_is (c.guard j) is_on
 
-    old : (k x r : ℕ) → Covers (ground_of (walked_from c j cell seeks)) k x r → Covers (ground_of c) k x r ⊎ IsListed c r
-    old k x r v = before c j cell seeks may inv k x r v
+    old : (k x r : ℕ) → Covers (ground_of (walked_from c j cell aim)) k x r → Covers (ground_of c) k x r ⊎ IsListed c r
+    old k x r v = before c j cell aim may inv k x r v
 
     names_before : (k : ℕ) (d : CutDebt) → HasName (put c.named j (new_names c j cell) k) d → HasName (c.named k) d
     names_before k d = put_all c.named j (new_names c j cell) (λ k x. HasName x d → HasName (c.named k) d)
         (λ has. ⊎_elim (λ is. inl (relieved_some (c.found j).control cell (c.rows j) (cell_link c cell) (cell_event c cell) (c.named j).first d is))
         (λ is. inr (relieved_some (c.found j).control cell (c.rows j) (cell_link c cell) (cell_event c cell) (c.named j).second d is)) (was_left _ _ d has)) (λ _ _ h. h) k
 
-    guarded : (r : ℕ) → IsGuarded (ground_of (walked_from c j cell seeks)) r → IsGuarded (ground_of c) r ⊎ IsListed c r
+    guarded : (r : ℕ) → IsGuarded (ground_of (walked_from c j cell aim)) r → IsGuarded (ground_of c) r ⊎ IsListed c r
     guarded r v = ⊎_elim (λ o. inl (v.0, v.1, o)) inr (old v.0 v.1 r v.2)
-
-    seeks_so : (q : ℕ) → MaySeek (c.own j) (c.found j).control (c.walk j) (at_head q) seeks → begins c j seeks q ≡ true → Seeks c j q × Begins (c.found j).control (c.words.head q)
-    seeks_so q seek t = let p = and_parts seeks (begins_walk (c.found j).control (c.words.head q)) t in (subst (MaySeek (c.own j) (c.found j).control (c.walk j) (at_head q)) p.0 seek, begins_is (c.found j).control (c.words.head q) p.1)
-
-    steady_after : (cell : Cell) → MaySeek (c.own j) (c.found j).control (c.walk j) cell seeks → (s : Sight) → new_sight c j cell seeks ≡ Some s → IsSteady c s
-    steady_after (at_row r) seek s is = inv.finds.sights j s b is
-    steady_after (at_head q) seek s is = by (begins c j seeks q) refl is
-      where
-        by : (t : Bool) → begins c j seeks q ≡ t → cond t (table_seen (c.found j).control (current_seen (c.sight j))) (c.sight j) ≡ Some s → IsSteady c s
-        by false t is = inv.finds.sights j s b is
-        by true t is = let y = (seeks_so q seek t).0.1 in
-            subst (IsSteady c) (same_Some (record { table = y.0; current = current_seen (c.sight j) }) s (sym (ap (λ x. table_seen x (current_seen (c.sight j))) y.1) ∙ is)) (inv.finds.controls j y.0 b y.1, y.2)
-
-    -- current stays as the take saw it
-    view_after : (cell : Cell) (s : Sight) (x : Current) → new_sight c j cell seeks ≡ Some s → s.current ≡ Some x → NotAfter x c.words.current
-    view_after (at_row r) s x is seen = inv.finds.views j s x b is seen
-    view_after (at_head q) s x is seen = by (begins c j seeks q) is
-      where
-        by : (t : Bool) → cond t (table_seen (c.found j).control (current_seen (c.sight j))) (c.sight j) ≡ Some s → NotAfter x c.words.current
-        by false is = inv.finds.views j s x b is seen
-        by true is = saw c j b inv x (c.sight j) refl (kept_current (c.found j).control (current_seen (c.sight j)) s is ∙ seen)
-
-    -- a take that begins to walk has read the table after its Begin
-    sees_after : (cell : Cell) → MaySeek (c.own j) (c.found j).control (c.walk j) cell seeks → (s : Sight) → new_sight c j cell seeks ≡ Some s → Sees c.start.layout.workers c.history c.settling (c.begun j) (new_read c j cell seeks) s
-    sees_after (at_row r) seek s is = inv.walkers.seen j s b is
-    sees_after (at_head q) seek s is = by (begins c j seeks q) refl is
-      where
-        by : (t : Bool) → begins c j seeks q ≡ t → cond t (table_seen (c.found j).control (current_seen (c.sight j))) (c.sight j) ≡ Some s → Sees c.start.layout.workers c.history c.settling (c.begun j) (cond t (read_from c j) (c.read j)) s
-        by false t is = inv.walkers.seen j s b is
-        by true t is = record {
-          after = read_fits c j b inv (read_now c j b (seeks_so q seek t).0.0 inv) (c.sight j) refl;
-          owed = λ i d e owes _. absurd (none_owed c inv i d e owes);
-        }
-
-    walks_after : (cell : Cell) → MayWalk (c.rows j) cell → MaySeek (c.own j) (c.found j).control (c.walk j) cell seeks → (w : Walk) → new_walk c j cell seeks ≡ Some w
-        → (s : Sight) × (new_sight c j cell seeks ≡ Some s) × Walked c s (new_read c j cell seeks) (new_rows c j cell seeks) w
-    walks_after (at_head q) may seek w is = by (begins c j seeks q) refl is
-      where
-        by : (t : Bool) → begins c j seeks q ≡ t → cond t (Some (record { head = q; at = (c.words.head q).row })) None ≡ Some w
-            → (s : Sight) × (cond t (table_seen (c.found j).control (current_seen (c.sight j))) (c.sight j) ≡ Some s) × Walked c s (cond t (read_from c j) (c.read j)) (new_rows c j (at_head q) seeks) w
-        by false t is = absurd (none-some w is)
-        by true t is = let so = seeks_so q seek t in let y = so.0.1 in
-            let same : so.1.control ≡ y.0 = same_Some so.1.control y.0 (sym so.1.found ∙ y.1) in (
-              record { table = y.0; current = current_seen (c.sight j) },
-              ap (λ x. table_seen x (current_seen (c.sight j))) y.1,
-              subst (Walked c (record { table = y.0; current = current_seen (c.sight j) }) (read_from c j) (new_rows c j (at_head q) seeks)) (same_Some (record { head = q; at = (c.words.head q).row }) w is)
-                  (at_first c j on.0 b on.1 inv q y.0 (read_from c j) may (inv.finds.controls j y.0 b y.1) (so.1.generation ∙ ap (λ (z : Control). z.generation) same) y.3),
-            )
-    walks_after (at_row r) may seek w is = by seeks seek is
-      where
-        by : (t : Bool) → MaySeek (c.own j) (c.found j).control (c.walk j) (at_row r) t → cond t (walked (c.words.link r) (c.walk j)) None ≡ Some w → (s : Sight) × (c.sight j ≡ Some s) × Walked c s (c.read j) (new_rows c j (at_row r) t) w
-        by false seek is = absurd (none-some w is)
-        by true seek is = let l = c.words.link r in let e = c.words.event l.row in let ss = c.rows j in let x = seek.0 in
-            let i = subst (λ z. In z (rows_of ss)) may.1.2 (rows_in ss may.1.0 may.1.1) in
-            let old = inv.walkers.walked j x b seek.1 in (
-              old.0,
-              old.1,
-              subst (Walked c old.0 (c.read j) (new_rows c j (at_row r) true)) (same_Some (cond (is_passed l.mark) (record x { at = l.row }) x) w (sym (ap (walked l) seek.1) ∙ is))
-                  (at_next c j on.0 b on.1 inv r (new_rows c j (at_row r) true) old.0 x old.2 seek.2 i (row_stays r true l e ss i) (row_next r true l e ss)),
-            )

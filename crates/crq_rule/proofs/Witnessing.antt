@@ -353,7 +353,7 @@ core_inv = record {
     rows = λ r _ _. let g = generation r in omega arith;
   };
   dues = old.dues;
-  steady = record { still = refl; first = refl; one = refl; rows = λ r _ _. generation r; marks = λ r _ _. present_dead r; named = old.steady.named; single = old.steady.single; settled = old.steady.settled };
+  steady = record { still = refl; first = refl; rows = λ r _ _. generation r; marks = λ r _ _. present_dead r; named = old.steady.named; single = old.steady.single };
   heads = next_head;
   sorted = sorted;
   marks = marks;
@@ -364,9 +364,11 @@ core_inv = record {
   naming = naming;
   carriers = carriers;
   told = told;
-  bounds = old.bounds;
+  numbers = record { tables = λ _ _. omega arith; raising = λ _ _. omega arith };
+  bounds = record { tables = old.bounds.tables; opened = refl; left = old.bounds.left; entries = omega arith; owed = old.bounds.owed };
   settling = record { owed = λ k d b is. absurd (no_settle d is); unsettled = λ _ put left. absurd (left put); lone = λ _ _ d _ _ _ is _ _. absurd (no_settle d is) };
   walkers = record { seen = λ _ x _ is. absurd (no_sight x is); walked = λ _ w _ is. absurd (no_walk w is) };
+  ahead = record { each = λ _ _ _. omega arith };
   scarce = record { each = λ k b _ is. absurd (none_base b is) };
   refusals = record { each = λ k _. none_counted entries k };
   swept = record { left = λ k r s _ is. absurd (none_sweep s is); clean_is = λ k q r _ i. absurd i };

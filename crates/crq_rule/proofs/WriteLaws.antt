@@ -18,7 +18,7 @@ use Rattle.crq_rule.specs.Parts.{newest, Ground, ground_of, footings, IsEvent, I
 use Rattle.crq_rule.specs.Ranks.{rank, list_in, Rises}
 use Rattle.crq_rule.specs.ListParts.{ranks, MarkFits, StandFits, IsFinal, IsNamed, row_word}
 use Rattle.crq_rule.specs.HistoryParts.{IsCarrying, IsLive, StandsFrom}
-use Rattle.crq_rule.specs.Invariant.{Inv}
+use Rattle.crq_rule.specs.Invariant.{present_of, takes_of, Inv}
 use Rattle.crq_rule.specs.ListKinds.{Content, new_link, no_twin, new_time, new_source, new_sequence, new_load, IsContent, content_number, content_word, link_after, twin_after, event_after, unwritten, wrote, written_at}
 use Rattle.crq_rule.proofs.SweepLaws.{swept_events}
 use Rattle.crq_rule.proofs.Puts.{put_here, put_else, put_all}
@@ -254,7 +254,7 @@ module _ (c : Core) (j r : ℕ) (x : Content) (b : j < c.start.layout.workers) (
     };
     sizes = sizes_rows _ _ _ _ _ _ _ _ _ (λ _ _. refl) (λ s _ out. inl (out, ap (λ (l : Link). l.generation) (links_else s (λ e. out j (ap c.holding e ∙ held))))) inv.sizes;
     dues = inv.dues;
-    steady = steady_rows _ _ _ _ _ _ _ _ (λ s _ out. let same = links_else s (λ e. out j (ap c.holding e ∙ held)) in inl (out, ap (λ (l : Link). l.generation) same, inl (ap (λ (l : Link). l.mark) same))) inv.steady;
+    steady = steady_rows _ _ _ _ _ _ _ (λ s _ out. let same = links_else s (λ e. out j (ap c.holding e ∙ held)) in inl (out, ap (λ (l : Link). l.generation) same, inl (ap (λ (l : Link). l.mark) same))) inv.steady;
     heads = inv.heads;
     sorted = record {
       rises = λ q d. rises_same (ranks c.words.event) (ranks event) 0 (c.chain q) (λ s i. ap (λ e. rank e s) (events_else s (chained_else q s d i))) (inv.sorted.rises q d);
@@ -308,9 +308,11 @@ module _ (c : Core) (j r : ℕ) (x : Content) (b : j < c.start.layout.workers) (
     scarce = inv.scarce;
     refusals = inv.refusals;
     swept = swept_events _ _ _ _ _ _ event (λ q s d i. events_else s (chained_else q s d i)) inv.swept;
+    numbers = inv.numbers;
     bounds = inv.bounds;
     settling = inv.settling;
-    walkers = walkers_links _ _ _ _ _ _ link event (λ k a d i. let v = on_stand k a d i in ap (λ (l : Link). l.generation) (links_else a (covered_else k v.0 a v.1))) (λ k g a e d i _. from_new k g a e d i) inv.walkers;
+    ahead = inv.ahead;
+    walkers = walkers_links (present_of c) (takes_of c) _ _ link event (λ k a d i. let v = on_stand k a d i in ap (λ (l : Link). l.generation) (links_else a (covered_else k v.0 a v.1))) (λ k g a e d i _. from_new k g a e d i) inv.walkers;
   }
     where
       wrote_in : (y : Wrote) → In y new_words → In y.row (c.hand j) × (y.place < 6)

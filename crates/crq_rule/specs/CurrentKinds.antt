@@ -1,6 +1,5 @@
 -- What each kind of step on current does to what its caller knows, and to the core state.
-use Rattle.std.specs.Prelude.{cond, ◌≡◌, ◌⊎◌, Bool, true, false, ℕ, ◌+◌, ◌-◌, ◌^◌, ◌<◌, nat_lt, List, [], ◌∷◌, ◌++◌, length, Option, Some, None}
-use Rattle.crq_base.specs.declared.event.Event.{Event}
+use Rattle.std.specs.Prelude.{cond, ◌≡◌, Bool, true, false, ℕ, ◌+◌, ◌-◌, ◌^◌, ◌<◌, nat_lt, max, List, [], ◌∷◌, ◌++◌, length, Option, Some, None}
 use Rattle.crq_base.specs.declared.entry.Entry.{Entry}
 use Rattle.crq_base.specs.declared.entry.Entry.TheVariants.{Settled}
 use Rattle.crq_base.specs.declared.words.Control.{Control}
@@ -8,29 +7,40 @@ use Rattle.crq_base.specs.declared.words.Current.{Current}
 use Rattle.crq_rule.specs.declared.debts.SettleDebt.{SettleDebt}
 use Rattle.crq_rule.specs.declared.view.Sight.{Sight}
 use Rattle.crq_rule.specs.declared.view.Walk.{Walk}
+use Rattle.crq_rule.specs.declared.view.Told.{Told}
+use Rattle.crq_rule.specs.declared.layout.Start.{Start}
 use Rattle.crq_rule.specs.declared.view.Caller.{Caller}
 use Rattle.crq_rule.specs.Lists.{put}
 use Rattle.crq_rule.specs.Core.{Core}
 use Rattle.crq_rule.specs.HistoryParts.{EndsInBegin}
-use Rattle.crq_rule.specs.Ranks.{Shape, bucket, first_tick, head_for, shape_of}
-use Rattle.crq_rule.specs.ListKinds.{StandsOn, table_seen}
+use Rattle.crq_rule.specs.Ranks.{Shape, bucket, first_tick, shape_of}
+use Rattle.crq_rule.specs.ListKinds.{IsPast}
 
 -- CurrentLoad: current was found to be y. A take that is to walk loads it for the table whose control word it found, and has read that table since; any other load leaves what was read of a table behind
 
+abbrev pub table_seen : Option Control → Current → Option Sight
+table_seen None y = None
+table_seen (Some x) y = Some (record { table = x; current = y })
+
 abbrev pub sight_on : Bool → Option Control → Current → Option Sight
-sight_on walks x y = cond walks (table_seen x (Some y)) None
+sight_on walks x y = cond walks (table_seen x y) None
 
 -- it gives a permit to raise current's epoch once, where enough epochs are left for all callers
 abbrev pub permit_after : Current → Bool → Bool
 permit_after y permit = cond (nat_lt y.epoch (2 ^ 32 - 64)) true permit
 
+-- and tells that the epoch rose so far since the first one
+abbrev pub told_after : Start → Current → Told → Told
+told_after start y t = record t { settled = max (y.epoch - start.first.epoch) t.settled }
+
 abbrev pub loads_current : Bool → Current → Caller → Caller
-loads_current walks y p = record p { found = record p.found { current = Some y }; permit = permit_after y p.permit; sight = sight_on walks p.found.control y; walk = None }
+loads_current walks y p = record p { found = record p.found { current = Some y }; permit = permit_after y p.permit; told = told_after p.start y p.told; sight = sight_on walks p.found.control y; walk = None }
 
 abbrev pub current_loaded : Core → ℕ → Bool → Core
 current_loaded c j walks = record c {
   found = put c.found j (record (c.found j) { current = Some c.words.current });
   permit = put c.permit j (permit_after c.words.current (c.permit j));
+  told = put c.told j (told_after c.start c.words.current (c.told j));
   read = put c.read j (cond walks (length c.history) (c.read j));
   sight = put c.sight j (sight_on walks (c.found j).control c.words.current);
   walk = put c.walk j None;
@@ -52,10 +62,10 @@ raises p = record p { walk = None }
 abbrev pub raised : Core → ℕ → Control → Current → Core
 raised c j x y = record c { words = record c.words { current = next_position x y }; walk = put c.walk j None }
 
--- a take that loaded current for this table walked the list of its bucket, and is past that bucket: at the list's end, or at a row of a later bucket
+-- a take that loaded current for this table walked the list of its bucket, and is past that bucket
 pub record MayRaise (x : Control) (y : Current) (p : Caller) : Type 0 where
-  pub sight : p.sight ≡ Some (record { table = x; current = Some y })
-  pub walks : (w : Walk) × (p.walk ≡ Some w) × (w.head ≡ head_for x.generation (shape_of x) (bucket (shape_of x) y.tick)) × ((w.at ≡ 0) ⊎ ((e : Event) × StandsOn p.position.rows w.at e × (bucket (shape_of x) y.tick < bucket (shape_of x) e.time)))
+  pub sight : p.sight ≡ Some (record { table = x; current = y })
+  pub walks : (w : Walk) × (p.walk ≡ Some w) × (w.bucket ≡ Some (bucket (shape_of x) y.tick)) × IsPast (shape_of x) (bucket (shape_of x) y.tick) w p.position.rows
   pub room : (next_position x y).tick < 2 ^ 32
 
 -- An event that is owed is settled once current isn't behind it

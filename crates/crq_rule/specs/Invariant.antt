@@ -3,9 +3,14 @@ use Rattle.crq_rule.specs.Core.{Core}
 use Rattle.crq_rule.specs.Parts.{ground_of, Spelled, Reading, Finds, Guards, Holders, Cutting, Stamps, Chains, Cover}
 use Rattle.crq_rule.specs.ListParts.{Sizes, Dues, Heads, Sorted, Marks, Standing, Copying, Lanes, Writing, Naming}
 use Rattle.crq_rule.specs.Steady.{Steady}
-use Rattle.crq_rule.specs.HistoryParts.{Carriers, Told, Settling, Takes, Walkers}
+use Rattle.crq_rule.specs.HistoryParts.{Carriers, Told, Numbers, Settling, Present, Takes, Walkers}
 use Rattle.crq_rule.specs.Bounds.{Bounds}
+use Rattle.crq_rule.specs.Ahead.{Ahead}
 use Rattle.crq_rule.specs.ScarceParts.{Scarce, Refusals, Swept}
+
+-- what the facts of takes are stated over
+abbrev pub present_of : Core → Present
+present_of c = record { workers = c.start.layout.workers; generation = c.words.control.generation; current = c.words.current; history = c.history; settling = c.settling }
 
 abbrev pub takes_of : Core → Takes
 takes_of c = record { begun = c.begun; read = c.read; sight = c.sight; walk = c.walk; rows = c.rows }
@@ -22,7 +27,7 @@ pub record Inv (c : Core) : Type 0 where
   pub cover : Cover (ground_of c) c.cut c.holding
   pub sizes : Sizes c.start c.words.control c.shape c.words.head c.words.link c.holding
   pub dues : Dues c.start.layout.workers c.words.control c.shape c.settling c.copying c.named
-  pub steady : Steady c.start c.words.control c.words.link c.holding c.named c.settling
+  pub steady : Steady c.start c.words.control c.words.link c.holding c.named
   pub heads : Heads c.words.control c.shape c.words.head
   pub sorted : Sorted c.shape c.words.head c.words.link c.words.event c.chain
   pub marks : Marks c.start.layout c.words.control c.words.head c.words.link c.words.twin c.holding
@@ -33,9 +38,11 @@ pub record Inv (c : Core) : Type 0 where
   pub naming : Naming c.start.layout c.words.head c.words.link c.words.event c.named c.holding
   pub carriers : Carriers c.start.layout c.history c.words.link c.words.twin c.words.event c.holding
   pub told : Told c.start.layout.workers c.history c.deal c.own c.begun
+  pub numbers : Numbers c.start.layout.workers c.history c.told
   pub settling : Settling c.start.layout.workers c.history c.settling
-  pub walkers : Walkers c.start.layout.workers c.history c.settling (takes_of c) c.words.link c.words.event
-  pub bounds : Bounds c.start.layout.workers c.words.current c.permit
+  pub walkers : Walkers (present_of c) (takes_of c) c.words.link c.words.event
+  pub ahead : Ahead c.history c.words.current
+  pub bounds : Bounds c.start c.words.control c.words.current c.history c.settling c.permit
   pub scarce : Scarce c.start.layout c.words.epoch c.history c.base c.guard c.holding
   pub refusals : Refusals c.start.layout.workers c.history c.refused
   pub swept : Swept c.start.layout c.history c.words.event c.chain c.sweep c.clean

@@ -23,8 +23,7 @@ pub mod Steady
 pub mod HistoryParts
 pub mod ScarceParts
 pub mod Bounds
-pub mod Invariant
--- What isn't kept yet, and what each step needs to keep it.
 pub mod Ahead
+pub mod Invariant
 -- What only proofs and the crates above cite.
 pub mod Moves

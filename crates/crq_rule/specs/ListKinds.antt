@@ -1,8 +1,7 @@
 -- What each kind of step on lists does to what its caller knows, and to the core state.
 use Rattle.std.specs.Prelude.{cond, ◌==◌, ◌≡◌, ◌⊎◌, ◌&&◌, ◌||◌, nat_lt, nat_le, ℕ, zero, suc, ◌+◌, ◌*◌, ◌^◌, ◌<◌, ◌≤◌, Bool, true, false, List, [], ◌∷◌, ◌++◌, length, Option, Some, None}
 use Rattle.crq_base.specs.declared.event.Event.{Event}
-use Rattle.crq_base.specs.declared.entry.Entry.{Entry}
-use Rattle.crq_base.specs.declared.entry.Entry.TheVariants.{Begin, Put, Settled, Take, Miss}
+use Rattle.crq_base.specs.declared.entry.Entry.TheVariants.{Begin, Put, Take, Miss}
 use Rattle.crq_base.specs.declared.words.Link.{Link}
 use Rattle.crq_base.specs.declared.words.Mark.{Mark}
 use Rattle.crq_base.specs.declared.words.Mark.TheVariants.{Val, Inv, Mov, Del}
@@ -12,6 +11,7 @@ use Rattle.crq_base.specs.Words.{IsLink, link_word}
 use Rattle.crq_base.specs.Lists.{In}
 use Rattle.crq_base.specs.Sources.{IsFresh}
 use Rattle.crq_rule.specs.declared.debts.CutDebt.{CutDebt}
+use Rattle.crq_rule.specs.declared.debts.SettleDebt.{SettleDebt}
 use Rattle.crq_rule.specs.declared.view.Stand.{Stand}
 use Rattle.crq_rule.specs.declared.view.Wrote.{Wrote}
 use Rattle.crq_rule.specs.declared.view.Sight.{Sight}
@@ -24,7 +24,7 @@ use Rattle.crq_rule.specs.Core.{Core, DeadNames, moved_up, names_of, renamed, li
 use Rattle.crq_rule.specs.Parts.{IsEvent, IsOn}
 use Rattle.crq_rule.specs.ListParts.{row_word}
 use Rattle.crq_rule.specs.HistoryParts.{EndsInBegin}
-use Rattle.crq_rule.specs.Ranks.{rank, first_head_of, Shape, list_in, head_of, Cell, at_head, at_row, link_at, heads_set, links_set, after_cell, without_row}
+use Rattle.crq_rule.specs.Ranks.{rank, first_head_of, Shape, shape_of, bucket, first_tick, head_for, IsOpen, list_in, head_of, Cell, at_head, at_row, link_at, heads_set, links_set, after_cell, without_row}
 
 -- the word of an event at a place of its row
 abbrev pub event_word : Event → ℕ → ℕ
@@ -178,52 +178,96 @@ abbrev pub noted : ℕ → Link → List Stand → List Stand
 noted r l [] = []
 noted r l (s ∷ ss) = cond (s.row == r) (noted_stand l s) s ∷ noted r l ss
 
--- a caller that seeks a present row leaves all others behind, and so does one that found a row that may be followed by another
-abbrev pub kept_stands : Bool → ℕ → Link → List Stand → List Stand
-kept_stands seeks r l ss = cond (seeks || is_cell l.mark) (only_row r ss) ss
+-- What a walk is for: a row's place or dead rows, or a take, which walks the list of current's bucket, or all lists in a search
+pub data Aim : Type 0 where
+  no_take : Aim
+  in_bucket : Aim
+  in_search : Aim
 
-abbrev pub stands_after : Cell → Bool → Link → Event → List Stand → List Stand
-stands_after (at_head q) seeks l e ss = next_stand (at_head q) l e
-stands_after (at_row r) seeks l e ss = next_stand (at_row r) l e ++ noted r l (kept_stands seeks r l ss)
+abbrev pub is_take : Aim → Bool
+is_take no_take = false
+is_take in_bucket = true
+is_take in_search = true
+
+-- a take leaves all other stands behind, and so does a caller that found a row that may be followed by another
+abbrev pub kept_stands : Bool → ℕ → Link → List Stand → List Stand
+kept_stands takes r l ss = cond (takes || is_cell l.mark) (only_row r ss) ss
+
+-- but a search keeps those on the least row that it has come by
+abbrev pub least_stands : Option (ℕ × Event) → List Stand → List Stand
+least_stands None ss = []
+least_stands (Some t) ss = only_row t.0 ss
+
+abbrev pub search_stands : Option Walk → List Stand → List Stand
+search_stands None ss = []
+search_stands (Some w) ss = least_stands w.least ss
+
+-- what the caller stands on, where w is its walk after the step
+abbrev pub stands_after : Cell → Aim → Option Walk → Link → Event → List Stand → List Stand
+stands_after (at_head q) aim w l e ss = search_stands w ss ++ next_stand (at_head q) l e
+stands_after (at_row r) aim w l e ss = search_stands w ss ++ (next_stand (at_row r) l e ++ noted r l (kept_stands (is_take aim) r l ss))
 
 -- a walk that was at the row r, whose link was found to be l
 abbrev pub walked : Link → Option Walk → Option Walk
 walked l None = None
 walked l (Some w) = Some (cond (is_passed l.mark) (record w { at = l.row }) w)
 
--- a take begins to walk at a head that is present and of the table of the control word that it found
-abbrev pub begins_walk : Option Control → Link → Bool
-begins_walk None l = false
-begins_walk (Some x) l = is_val l.mark && (l.generation == x.generation)
+-- the lesser of two rows with their events, by their places in a list
+abbrev pub lesser : Option (ℕ × Event) → Option (ℕ × Event) → Option (ℕ × Event)
+lesser None b = b
+lesser (Some a) None = Some a
+lesser (Some a) (Some b) = cond (nat_lt (rank b.1 b.0) (rank a.1 a.0)) (Some b) (Some a)
 
-abbrev pub walk_after : Cell → Bool → Option Control → Link → Option Walk → Option Walk
-walk_after (at_head q) seeks x l w = cond (seeks && begins_walk x l) (Some (record { head = q; at = l.row })) None
-walk_after (at_row r) seeks x l w = cond seeks (walked l w) None
+-- the row, with the event that the caller knows it to hold
+abbrev pub stood_at : ℕ → List Stand → Option (ℕ × Event)
+stood_at r [] = None
+stood_at r (s ∷ ss) = cond (s.row == r) (Some (r, s.event)) (stood_at r ss)
 
--- and then it has read that table, when the history had m entries, or when it loaded current for it
-abbrev pub table_seen : Option Control → Option Current → Option Sight
-table_seen None y = None
-table_seen (Some x) y = Some (record { table = x; current = y })
+-- the least row that a search has come by, if it counts the one at which it stands
+abbrev pub best_of : Walk → List Stand → Option (ℕ × Event)
+best_of w ss = lesser w.least (cond (w.at == 0) None (stood_at w.at ss))
 
-abbrev pub current_seen : Option Sight → Option Current
-current_seen None = None
-current_seen (Some s) = s.current
+-- a search begins at the first head, and at the next one it goes on with what it has come by
+abbrev pub least_after : Control → ℕ → Option Walk → List Stand → Option (ℕ × Event)
+least_after x q None ss = None
+least_after x q (Some w) ss = cond (q == first_head_of x.generation) None (best_of w ss)
 
-abbrev pub is_loaded : Option Current → Bool
-is_loaded None = false
-is_loaded (Some y) = true
+-- the bucket of current, as a take saw it
+abbrev pub bucket_seen : Sight → ℕ
+bucket_seen s = bucket (shape_of s.table) s.current.tick
 
-abbrev pub sight_after : Cell → Bool → Option Control → Link → Option Sight → Option Sight
-sight_after (at_head q) seeks x l s = cond (seeks && begins_walk x l) (table_seen x (current_seen s)) s
-sight_after (at_row r) seeks x l s = s
+-- the walk of a take that begins at this head
+abbrev pub new_walk : Aim → ℕ → Sight → Link → Option Walk → List Stand → Option Walk
+new_walk no_take q s l w ss = None
+new_walk in_bucket q s l w ss = Some (record { head = q; at = l.row; bucket = Some (bucket_seen s); least = None })
+new_walk in_search q s l w ss = Some (record { head = q; at = l.row; bucket = None; least = least_after s.table q w ss })
 
-abbrev pub read_after : Cell → Bool → Option Control → Link → Option Sight → ℕ → ℕ → ℕ
-read_after (at_head q) seeks x l s m read = cond (seeks && begins_walk x l) (cond (is_loaded (current_seen s)) read m) read
-read_after (at_row r) seeks x l s m read = read
+-- it begins at a head that is present and of the table that the take saw
+abbrev pub begins_walk : Sight → Link → Bool
+begins_walk s l = is_val l.mark && (l.generation == s.table.generation)
 
--- the take has read the table of the control word x
+abbrev pub head_walk : Aim → ℕ → Option Sight → Link → Option Walk → List Stand → Option Walk
+head_walk aim q None l w ss = None
+head_walk aim q (Some s) l w ss = cond (begins_walk s l) (new_walk aim q s l w ss) None
+
+abbrev pub walk_after : Cell → Aim → Option Sight → Link → Option Walk → List Stand → Option Walk
+walk_after (at_head q) aim s l w ss = head_walk aim q s l w ss
+walk_after (at_row r) aim s l w ss = cond (is_take aim) (walked l w) None
+
+-- a search reads the table with its first head, when the history had m entries
+abbrev pub read_from : ℕ → Option Sight → ℕ → ℕ → ℕ
+read_from q None m read = read
+read_from q (Some s) m read = cond (q == first_head_of s.table.generation) m read
+
+abbrev pub read_after : Cell → Aim → Option Sight → ℕ → ℕ → ℕ
+read_after (at_head q) in_search s m read = read_from q s m read
+read_after (at_head q) no_take s m read = read
+read_after (at_head q) in_bucket s m read = read
+read_after (at_row r) aim s m read = read
+
+-- the take has seen the table of the control word x
 abbrev pub HasSeen : Control → Option Sight → Type 0
-HasSeen x s = (y : Option Current) × (s ≡ Some (record { table = x; current = y }))
+HasSeen x s = (y : Current) × (s ≡ Some (record { table = x; current = y }))
 
 -- the dead row d is of the cell's list, and stands after the cell, or at it
 abbrev pub is_beyond : Option Control → Cell → List Stand → CutDebt → Bool
@@ -263,8 +307,8 @@ swept_head x (at_head q) ss o = Some q
 swept_head x (at_row r) ss None = None
 swept_head x (at_row r) ss (Some s) = cond (is_passing x r ss s) (Some s.head) None
 
-abbrev pub taken_on : Bool → Option Control → Cell → List Stand → Option Sweep → Option ℕ
-taken_on seeks x cell ss o = cond seeks None (swept_head x cell ss o)
+abbrev pub taken_on : Aim → Option Control → Cell → List Stand → Option Sweep → Option ℕ
+taken_on aim x cell ss o = cond (is_take aim) None (swept_head x cell ss o)
 
 abbrev pub sweep_on : Option ℕ → Link → Event → Option Sweep → Option Sweep
 sweep_on None l e o = o
@@ -274,28 +318,26 @@ abbrev pub clean_on : Option ℕ → Link → List ℕ → List ℕ
 clean_on None l qs = qs
 clean_on (Some q) l qs = cond (is_val l.mark && (l.row == 0)) (q ∷ qs) qs
 
-abbrev pub walks : Cell → Bool → Link → Event → Caller → Caller
-walks cell seeks l e p = record p {
-  position = record { rows = stands_after cell seeks l e p.position.rows; old = p.position.old };
-  sight = sight_after cell seeks p.found.control l p.sight;
-  walk = walk_after cell seeks p.found.control l p.walk;
-  sweep = sweep_on (taken_on seeks p.found.control cell p.position.rows p.sweep) l e p.sweep;
-  clean = clean_on (taken_on seeks p.found.control cell p.position.rows p.sweep) l p.clean;
+abbrev pub walks : Cell → Aim → Link → Event → Caller → Caller
+walks cell aim l e p = record p {
+  position = record { rows = stands_after cell aim (walk_after cell aim p.sight l p.walk p.position.rows) l e p.position.rows; old = p.position.old };
+  walk = walk_after cell aim p.sight l p.walk p.position.rows;
+  sweep = sweep_on (taken_on aim p.found.control cell p.position.rows p.sweep) l e p.sweep;
+  clean = clean_on (taken_on aim p.found.control cell p.position.rows p.sweep) l p.clean;
   debts = renamed p.debts (relieved_names p.found.control cell p.position.rows l e (names_of p.debts));
 }
 
-abbrev pub walked_from : Core → ℕ → Cell → Bool → Core
-walked_from c j cell seeks = let l = link_at c.words.head c.words.link cell in let e = c.words.event l.row in record c {
-  rows = put c.rows j (stands_after cell seeks l e (c.rows j));
-  read = put c.read j (read_after cell seeks (c.found j).control l (c.sight j) (length c.history) (c.read j));
-  sight = put c.sight j (sight_after cell seeks (c.found j).control l (c.sight j));
-  walk = put c.walk j (walk_after cell seeks (c.found j).control l (c.walk j));
-  sweep = put c.sweep j (sweep_on (taken_on seeks (c.found j).control cell (c.rows j) (c.sweep j)) l e (c.sweep j));
-  clean = put c.clean j (clean_on (taken_on seeks (c.found j).control cell (c.rows j) (c.sweep j)) l (c.clean j));
+abbrev pub walked_from : Core → ℕ → Cell → Aim → Core
+walked_from c j cell aim = let l = link_at c.words.head c.words.link cell in let e = c.words.event l.row in record c {
+  rows = put c.rows j (stands_after cell aim (walk_after cell aim (c.sight j) l (c.walk j) (c.rows j)) l e (c.rows j));
+  read = put c.read j (read_after cell aim (c.sight j) (length c.history) (c.read j));
+  walk = put c.walk j (walk_after cell aim (c.sight j) l (c.walk j) (c.rows j));
+  sweep = put c.sweep j (sweep_on (taken_on aim (c.found j).control cell (c.rows j) (c.sweep j)) l e (c.sweep j));
+  clean = put c.clean j (clean_on (taken_on aim (c.found j).control cell (c.rows j) (c.sweep j)) l (c.clean j));
   named = put c.named j (relieved_names (c.found j).control cell (c.rows j) l e (c.named j));
 }
 
--- Link: the row r, which holds the event e, comes after the cell, whose link was l. The event is put, and settled at once
+-- Link: the row r, which holds the event e, comes after the cell, whose link was l. The event is put, and its caller owes it to be settled
 
 abbrev pub unhanded : ℕ → List ℕ → List ℕ
 unhanded = without_row
@@ -305,17 +347,19 @@ abbrev pub forgotten : ℕ → List Wrote → List Wrote
 forgotten r [] = []
 forgotten r (x ∷ xs) = cond (x.row == r) (forgotten r xs) (x ∷ forgotten r xs)
 
-abbrev pub put_entries : ℕ → Event → List Entry
-put_entries j e = Put j e ∷ Settled j e ∷ []
+-- the debt of an event that is linked in a table of this generation and shape
+abbrev pub owed_event : ℕ → Shape → Event → SettleDebt
+owed_event g s e = record { event = e; generation = g; shift = s.shift }
 
-abbrev pub links : ℕ → Event → Caller → Caller
-links r e p = record p { hand = unhanded r p.hand; written = forgotten r p.written; base = None; own = p.own ++ put_entries p.number e }
+abbrev pub links : Control → ℕ → Event → Caller → Caller
+links x r e p = record p { hand = unhanded r p.hand; written = forgotten r p.written; base = None; own = p.own ++ Put p.number e ∷ []; debts = record p.debts { settle = Some (owed_event x.generation (shape_of x) e) } }
 
 abbrev pub linked : Core → ℕ → Cell → Link → ℕ → Event → Core
 linked c j cell l r e = let q = list_in c.shape l.generation e in let new : Link = record l { row = r } in record c {
   words = record c.words { head = heads_set c.words.head cell new; link = links_set c.words.link cell new };
-  history = c.history ++ put_entries j e;
-  own = put c.own j (c.own j ++ put_entries j e);
+  history = c.history ++ Put j e ∷ [];
+  own = put c.own j (c.own j ++ Put j e ∷ []);
+  settling = put c.settling j (Some (owed_event l.generation (c.shape l.generation) e));
   chain = put c.chain q (after_cell cell r (c.chain q));
   holding = put c.holding r (listed q);
   hand = put c.hand j (unhanded r (c.hand j));
@@ -428,11 +472,17 @@ abbrev pub MayWalk : List Stand → Cell → Type 0
 MayWalk ss (at_head q) = IsHead q
 MayWalk ss (at_row r) = (e : Event) × StandsOn ss r e
 
--- a walk of a take begins after the caller's Begin, at the first head of the steady table whose control word was found, or goes on from its row
-abbrev pub MaySeek : List Entry → Option Control → Option Walk → Cell → Bool → Type 0
-MaySeek own found w cell false = Unit {0}
-MaySeek own found w (at_head q) true = EndsInBegin own × ((x : Control) × (found ≡ Some x) × (x.moving ≡ false) × (q ≡ first_head_of x.generation))
-MaySeek own found w (at_row r) true = (x : Walk) × (w ≡ Some x) × (x.at ≡ r)
+-- the head is the next one of a search: the first of the table, or the one behind that of its walk
+abbrev pub IsNextHead : Control → Option Walk → ℕ → Type 0
+IsNextHead x w q = (q ≡ first_head_of x.generation) ⊎ ((y : Walk) × (w ≡ Some y) × (y.bucket ≡ None) × (q ≡ y.head + 1) × IsOpen x q)
+
+-- A walk of a take begins at the head of the bucket of current, as the take saw it, or in a search at the next head; and it goes on from its row
+abbrev pub MaySeek : Option Sight → Option Walk → Cell → Aim → Type 0
+MaySeek s w cell no_take = Unit {0}
+MaySeek s w (at_head q) in_bucket = (y : Sight) × (s ≡ Some y) × (q ≡ head_for y.table.generation (shape_of y.table) (bucket_seen y))
+MaySeek s w (at_head q) in_search = (y : Sight) × (s ≡ Some y) × IsNextHead y.table w q
+MaySeek s w (at_row r) in_bucket = (x : Walk) × (w ≡ Some x) × (x.at ≡ r)
+MaySeek s w (at_row r) in_search = (x : Walk) × (w ≡ Some x) × (x.at ≡ r)
 
 -- the words of the row are those of the event, and it is to be followed by the row next
 pub record IsWritten (written : List Wrote) (r : ℕ) (e : Event) (l : Link) : Type 0 where
@@ -454,6 +504,8 @@ ComesBefore ss n r e = (n ≡ 0) ⊎ ((f : Event) × StandsOn ss n f × (rank e 
 
 pub record MayLink (n : ℕ) (x : Control) (cell : Cell) (l : Link) (r : ℕ) (e : Event) (p : Caller) : Type 0 where
   pub on : IsOn p.guard
+  pub settled : p.debts.settle ≡ None
+  pub permit : p.permit ≡ true
   pub control : p.found.control ≡ Some x
   pub in_hand_is : In r p.hand
   pub event : IsEvent e
@@ -463,13 +515,21 @@ pub record MayLink (n : ℕ) (x : Control) (cell : Cell) (l : Link) (r : ℕ) (e
   pub before : ComesBefore p.position.rows l.row r e
   pub fresh : IsFresh n p.deal.history p.own p.deal.span p.number e
 
--- a take that began may mark the row at which its walk stands. Over one list, each event is of that list
+-- the head is the last one of the table
+abbrev pub IsLastHead : Control → ℕ → Type 0
+IsLastHead x q = q + 1 ≡ first_head_of x.generation + 2 ^ x.log
+
+-- the walk found the row r with the event e to be the first: of its bucket, where it stands there, or of all lists, where it walked them all and that is the least
+abbrev pub FoundFirst : Option ℕ → Control → List Stand → Walk → ℕ → Event → Type 0
+FoundFirst (Some b) x ss w r e = (w.at ≡ r) × (bucket (shape_of x) e.time ≤ b)
+FoundFirst None x ss w r e = IsLastHead x w.head × (best_of w ss ≡ Some (r, e))
+
+-- a take that began may mark the row that its walk found to be the first
 pub record MayMark (x : Control) (r : ℕ) (e : Event) (p : Caller) : Type 0 where
   pub began : EndsInBegin p.own
   pub sight : HasSeen x p.sight
-  pub one_list : x.log ≡ 0
   pub on : StandsOn p.position.rows r e
-  pub walks : (w : Walk) × (p.walk ≡ Some w) × (w.at ≡ r)
+  pub walks : (w : Walk) × (p.walk ≡ Some w) × FoundFirst w.bucket x p.position.rows w r e
   pub free : p.debts.cut ≡ None
 
 -- a caller that has no cut row may cut a row behind a cell, when it found that row dead
@@ -479,9 +539,23 @@ pub record MayCut (cell : Cell) (x : ℕ) (l : Link) (p : Caller) : Type 0 where
   pub on : (s : Stand) × In s p.position.rows × (s.row ≡ x) × (s.last ≡ Some l)
   pub dead : l.mark ≡ Del
 
--- the walk of a take came to its list's end, or to a row that isn't below the limit
-pub record MayMiss (x : Control) (limit : ℕ) (p : Caller) : Type 0 where
+-- the walk is past the bucket b: at its list's end, or at a row of a later bucket
+abbrev pub IsPast : Shape → ℕ → Walk → List Stand → Type 0
+IsPast sh b w ss = (w.at ≡ 0) ⊎ ((e : Event) × StandsOn ss w.at e × (b < bucket sh e.time))
+
+-- the row, if there is one, isn't below the limit
+abbrev pub IsNotBelow : Option (ℕ × Event) → ℕ → Type 0
+IsNotBelow None limit = Unit {0}
+IsNotBelow (Some t) limit = limit ≤ t.1.time
+
+-- the walk found nothing below the limit: the bucket's first row isn't below it, or the walk is past the last bucket that there is; or the search walked all lists, and their least row isn't below it
+abbrev pub EndedWalk : Option ℕ → Control → List Stand → Walk → ℕ → Type 0
+EndedWalk (Some b) x ss w limit = ((e : Event) × StandsOn ss w.at e × (bucket (shape_of x) e.time ≤ b) × (limit ≤ e.time)) ⊎ (IsPast (shape_of x) b w ss × (2 ^ 32 ≤ first_tick (shape_of x) (b + 1)))
+EndedWalk None x ss w limit = IsLastHead x w.head × IsNotBelow (best_of w ss) limit
+
+-- a take that began may miss where current, as it saw it, isn't below the limit, or where its walk found nothing below that
+pub record MayMiss (limit : ℕ) (p : Caller) : Type 0 where
   pub began : EndsInBegin p.own
-  pub sight : HasSeen x p.sight
-  pub one_list : x.log ≡ 0
-  pub walks : (w : Walk) × (p.walk ≡ Some w) × ((w.at ≡ 0) ⊎ ((e : Event) × StandsOn p.position.rows w.at e × (limit ≤ e.time)))
+  pub sight : Sight
+  pub sees : p.sight ≡ Some sight
+  pub nothing : (limit ≤ sight.current.tick) ⊎ ((w : Walk) × (p.walk ≡ Some w) × EndedWalk w.bucket sight.table p.position.rows w limit)

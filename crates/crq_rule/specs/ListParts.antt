@@ -30,8 +30,14 @@ pub record Sizes (start : Start) (control : Control) (shape : ℕ → Shape) (he
   pub rows : (r : ℕ) → IsRow start.layout r → IsOutside holding r → (link r).generation ≤ newest control
 
 -- an event to settle was linked in the open table or an older one, with that table's shift
+pub record DueFits (control : Control) (shape : ℕ → Shape) (d : SettleDebt) : Type 0 where
+  pub generation : d.generation ≤ control.generation
+  pub shift : d.shift ≡ (shape d.generation).shift
+  pub width : d.shift < 2 ^ 5
+  pub event : IsEvent d.event
+
 pub record Dues (n : ℕ) (control : Control) (shape : ℕ → Shape) (settling : ℕ → Option SettleDebt) (copying : ℕ → Option CopyDebt) (names : ℕ → DeadNames) : Type 0 where
-  pub settles : (k : ℕ) (d : SettleDebt) → k < n → settling k ≡ Some d → (d.generation ≤ control.generation) × (d.shift ≡ (shape d.generation).shift)
+  pub settles : (k : ℕ) (d : SettleDebt) → k < n → settling k ≡ Some d → DueFits control shape d
   pub copies : (k : ℕ) (d : CopyDebt) → k < n → copying k ≡ Some d → (d.generation ≤ newest control) × (d.head ≡ list_in shape d.generation d.event)
   pub named : (k : ℕ) (d : CutDebt) → k < n → HasName (names k) d → (d.generation ≤ newest control) × (d.head ≡ list_in shape d.generation d.event)
 

@@ -24,7 +24,7 @@ use Rattle.crq_rule.specs.Core.{Core, caller_of}
 use Rattle.crq_rule.specs.Invariant.{Inv}
 use Rattle.crq_rule.specs.Kinds.{FoundNoRow, makes, new_base, loads_based}
 use Rattle.crq_rule.specs.Ranks.{rank, head_of, IsOpen, Cell, at_head, at_row}
-use Rattle.crq_rule.specs.ListKinds.{StandsOn, walks}
+use Rattle.crq_rule.specs.ListKinds.{Aim, StandsOn, walks}
 use Rattle.crq_rule.specs.CurrentKinds.{loads_current, loads_owed}
 use Rattle.crq_rule.specs.Steps.{Kind, May, After, kind_of}
 use Rattle.crq_rule.specs.Rule.{IsWords}
@@ -46,10 +46,12 @@ pub record Lawful (p : Caller) : Type 0 where
   pub owed_now : (d : CutDebt) (x : Control) → p.debts.cut ≡ Some d → p.found.control ≡ Some x → d.generation ≡ x.generation
   pub owed_fits : (d : CutDebt) → p.debts.cut ≡ Some d → IsRow p.start.layout d.row × IsEvent d.event
   pub one_name : p.debts.second_cut ≡ None
+  -- a caller that owes an event may raise current's epoch for it
+  pub owing : (d : SettleDebt) → p.debts.settle ≡ Some d → IsEvent d.event × (d.shift < 2 ^ 5) × (p.permit ≡ true)
   -- a recovery that found no row began where there were enough events
   pub scarce : (b : Base) → FoundNoRow p b → p.start.layout.rows ≤ 2 * length b.events
   pub sighted : (s : Sight) → p.sight ≡ Some s → IsControl s.table × (s.table.moving ≡ false)
-  pub controlled : (x : Control) → p.found.control ≡ Some x → IsControl x × (x.moving ≡ false) × (x.log ≡ 0)
+  pub controlled : (x : Control) → p.found.control ≡ Some x → IsControl x × (x.moving ≡ false)
   -- a permit leaves an epoch behind the one that was found
   pub permitted : (x : Current) → p.permit ≡ true → p.found.current ≡ Some x → x.epoch + 1 < 2 ^ 32
 
@@ -83,24 +85,23 @@ IsWalkable (at_head q) l p = (x : Control) → p.found.control ≡ Some x → Is
 IsWalkable (at_row r) l p = ((l.mark ≡ Val) ⊎ (l.mark ≡ Del)) × ((x : Control) → p.found.control ≡ Some x → l.generation ≡ x.generation)
 
 -- a walk found the link of the cell, and the event of the row that it names
-pub record Walked (cell : Cell) (seeks : Bool) (found : ℕ) (p q : Caller) : Type 0 where
+pub record Walked (cell : Cell) (aim : Aim) (found : ℕ) (p q : Caller) : Type 0 where
   pub link : Link
   pub event : Event
   pub is_link : IsLink link
   pub word : link_word link ≡ found
-  pub after : walks cell seeks link event p ≡ q
+  pub after : walks cell aim link event p ≡ q
   pub row : 0 < link.row → IsRow p.start.layout link.row × IsEvent event
   pub next : WalksOn cell link event p
   pub marked : IsWalkable cell link p
 
--- a call began, or missed: the control word was found, which is steady, and whose table has one list
+-- a call began, or missed: the control word was found, which is steady
 pub record FoundControl (f : Control → Caller → Caller) (found : ℕ) (p q : Caller) : Type 0 where
   pub control : Control
   pub is_control : IsControl control
   pub word : control_word control ≡ found
   pub after : f control p ≡ q
   pub steady : control.moving ≡ false
-  pub one : control.log ≡ 0
 
 -- current was found, which isn't before any that the caller found, or saw as its take began
 pub record FoundCurrent (walks : Bool) (found : ℕ) (p q : Caller) : Type 0 where
@@ -109,7 +110,7 @@ pub record FoundCurrent (walks : Bool) (found : ℕ) (p q : Caller) : Type 0 whe
   pub word : current_word current ≡ found
   pub after : loads_current walks current p ≡ q
   pub later : (x : Current) → p.found.current ≡ Some x → NotAfter x current
-  pub seen : (s : Sight) (x : Current) → p.sight ≡ Some s → s.current ≡ Some x → NotAfter x current
+  pub seen : (s : Sight) → p.sight ≡ Some s → NotAfter s.current current
 
 -- current was found by a caller that owes an event, which is settled with that, or else isn't ahead of current
 pub record FoundOwed (d : SettleDebt) (found : ℕ) (p q : Caller) : Type 0 where

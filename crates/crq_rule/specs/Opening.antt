@@ -1,5 +1,5 @@
 -- A new table: its words, and the core state that they stand for.
-use Rattle.std.specs.Prelude.{◌≡◌, ℕ, ◌+◌, ◌-◌, ◌*◌, ◌/◌, ◌<◌, ◌≤◌, ◌&&◌, cond, nat_lt, nat_le, List, [], Some, None, false, slice_get, length}
+use Rattle.std.specs.Prelude.{◌≡◌, ℕ, ◌+◌, ◌-◌, ◌*◌, ◌/◌, ◌^◌, ◌<◌, ◌≤◌, ◌&&◌, cond, nat_lt, nat_le, List, [], Some, None, false, slice_get, length}
 use Rattle.std.specs.VecDeque.{deque_capacity}
 use Rattle.crq_base.specs.declared.words.Link.{Link}
 use Rattle.crq_base.specs.declared.words.Mark.TheVariants.{Val, Mov}
@@ -23,15 +23,19 @@ open_head g = record { generation = g; row = 0; mark = Val }
 abbrev pub shut_head : Link
 shut_head = record { generation = 0; row = 0; mark = Mov }
 
--- the head q of a table that was opened in generation g, with one list
+-- a new table has 2 ^ 3 lists
+abbrev pub opening_log : ℕ
+opening_log = 3
+
+-- the head q of a table that was opened in generation g
 abbrev pub opening_head : ℕ → ℕ → Link
-opening_head g q = cond (nat_le (first_head_of g) q && nat_lt q (first_head_of g + 1)) (open_head g) shut_head
+opening_head g q = cond (nat_le (first_head_of g) q && nat_lt q (first_head_of g + 2 ^ opening_log)) (open_head g) shut_head
 
 abbrev pub opening_words : Start → Words
 opening_words s = record {
   epoch = s.first.guard;
   announced = λ _. 0;
-  control = record { generation = s.first.generation; moving = false; log = 0; shift = 0; new_log = 0; new_shift = 0 };
+  control = record { generation = s.first.generation; moving = false; log = opening_log; shift = 0; new_log = 0; new_shift = 0 };
   current = record { epoch = s.first.epoch; tick = 0 };
   pin = record { generation = 0; epoch = 0 };
   head = opening_head s.first.generation;

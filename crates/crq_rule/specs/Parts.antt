@@ -69,7 +69,7 @@ pub record Finds (start : Start) (control : Control) (shape : ℕ → Shape) (cu
   pub controls : (j : ℕ) (x : Control) → j < start.layout.workers → (found j).control ≡ Some x → Fits start control shape x
   pub currents : (j : ℕ) (x : Current) → j < start.layout.workers → (found j).current ≡ Some x → NotAfter x current
   pub sights : (j : ℕ) (s : Sight) → j < start.layout.workers → sight j ≡ Some s → Fits start control shape s.table × (s.table.moving ≡ false)
-  pub views : (j : ℕ) (s : Sight) (x : Current) → j < start.layout.workers → sight j ≡ Some s → s.current ≡ Some x → NotAfter x current
+  pub views : (j : ℕ) (s : Sight) → j < start.layout.workers → sight j ≡ Some s → NotAfter s.current current
 
 -- 3. Guards
 

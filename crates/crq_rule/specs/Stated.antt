@@ -1,12 +1,12 @@
 -- What the invariant says in the end, part by part, in the words of the field. The parts that are kept are stronger, and imply each of these.
-use Rattle.std.specs.Prelude.{◌≡◌, ◌⊎◌, ◌↔◌, ℕ, ◌+◌, ◌-◌, ◌*◌, ◌^◌, ◌<◌, ◌≤◌, List, [], ◌∷◌, ◌++◌, length, take, Some, Contains}
+use Rattle.std.specs.Prelude.{◌≡◌, ◌⊎◌, ◌↔◌, ℕ, ◌+◌, ◌-◌, ◌*◌, ◌^◌, ◌<◌, ◌≤◌, List, [], ◌∷◌, ◌++◌, length, take, drop, true, Some, None, Contains}
 use Rattle.std.specs.declared.cmp.Ordering.TheVariants.{Equal}
 use Rattle.crq_base.specs.declared.event.Event.{Event}
 use Rattle.crq_base.specs.declared.entry.Entry.{Entry}
 use Rattle.crq_base.specs.declared.entry.Entry.TheVariants.{Begin, Put}
 use Rattle.crq_base.specs.Entries.{caller_of as whose}
 use Rattle.crq_base.specs.Keys.{key_cmp}
-use Rattle.crq_base.specs.Histories.{puts, settleds, outs, own as own_of, IsEarlier, IsPending, Began, IsLegal}
+use Rattle.crq_base.specs.Histories.{puts, settleds, outs, table_count, raising_count, own as own_of, IsEarlier, IsPending, Began, IsLegal}
 use Rattle.crq_base.specs.declared.words.Link.{Link}
 use Rattle.crq_base.specs.declared.words.Mark.TheVariants.{Val, Del, Mov}
 use Rattle.crq_base.specs.declared.words.Control.{Control}
@@ -17,6 +17,7 @@ use Rattle.crq_base.specs.Lists.{In, IsOnce}
 use Rattle.crq_base.specs.Sources.{owner_of}
 use Rattle.crq_base.specs.Refusals.{AreCounted}
 use Rattle.crq_rule.specs.declared.debts.CutDebt.{CutDebt}
+use Rattle.crq_rule.specs.declared.debts.SettleDebt.{SettleDebt}
 use Rattle.crq_rule.specs.declared.layout.Layout.{Layout}
 use Rattle.crq_rule.specs.declared.view.Guard.TheVariants.{Off, Entering, On}
 use Rattle.crq_rule.specs.declared.view.CutRow.{CutRow}
@@ -25,10 +26,9 @@ use Rattle.crq_rule.specs.declared.view.Sight.{Sight}
 use Rattle.crq_rule.specs.declared.view.Walk.{Walk}
 use Rattle.crq_rule.specs.Places.{Place, spare, between, epoch, announced, control, current, pin, head, link, stamp, twin, time, source, sequence, load, IsPlace, IsRow, IsHomeRow, IsHead, word_of}
 use Rattle.crq_rule.specs.Core.{Core, DeadNames, Holding, in_hand, listed, cut_by, retired}
-use Rattle.crq_rule.specs.Parts.{ground_of, NotAfter, IsOn, LetsRise, Leads, Names, Reaches, Covers, HasTag}
-use Rattle.crq_rule.specs.Ranks.{shape_of, list_in, head_of, IsOpen}
-use Rattle.crq_rule.specs.HistoryParts.{IsLive, EndsInBegin}
-use Rattle.crq_rule.specs.ListKinds.{HasSeen}
+use Rattle.crq_rule.specs.Parts.{ground_of, newest, NotAfter, IsOn, LetsRise, Leads, Names, Reaches, Covers, HasTag}
+use Rattle.crq_rule.specs.Ranks.{bucket, head_for, shape_of, list_in, head_of, IsOpen}
+use Rattle.crq_rule.specs.HistoryParts.{IsLive, EndsInBegin, IsSought, IsNotBefore}
 use Rattle.crq_rule.specs.Bounds.{permits}
 use Rattle.crq_rule.specs.ScarceParts.{IsLate, pending}
 
@@ -52,7 +52,7 @@ IsSpelling l (source r) w = w < 2 ^ 32
 IsSpelling l (sequence r) w = w < 2 ^ 64
 IsSpelling l (load r) w = w < 2 ^ 64
 
--- Each word is a spelling of its kind, what a caller read of the epoch, of current and of control's generation isn't above what the word has now, and current has an epoch left for each permit
+-- Each word is a spelling of its kind, and what a caller read of the epoch, of current and of control's generation isn't above what the word has now
 pub record WordsHold (c : Core) : Type 0 where
   pub spelled : (p : Place) → IsPlace c.start.layout p → IsSpelling c.start.layout p (word_of c.words p)
   pub epochs : (j e : ℕ) → j < c.start.layout.workers → In e (c.epochs j) → e ≤ c.words.epoch
@@ -61,8 +61,7 @@ pub record WordsHold (c : Core) : Type 0 where
   pub ticks : (j : ℕ) → j < c.start.layout.workers → (c.tick j).loaded ≤ c.words.epoch
   pub tags : (j t : ℕ) (x : CutRow) → j < c.start.layout.workers → c.cut j ≡ Some x → In t x.tags → t ≤ c.words.epoch
   pub currents : (j : ℕ) (x : Current) → j < c.start.layout.workers → (c.found j).current ≡ Some x → NotAfter x c.words.current
-  pub views : (j : ℕ) (s : Sight) (x : Current) → j < c.start.layout.workers → c.sight j ≡ Some s → s.current ≡ Some x → NotAfter x c.words.current
-  pub permits : c.words.current.epoch + permits c.permit c.start.layout.workers ≤ 2 ^ 32 - 48
+  pub views : (j : ℕ) (s : Sight) → j < c.start.layout.workers → c.sight j ≡ Some s → NotAfter s.current c.words.current
   pub generations : (j : ℕ) (x : Control) → j < c.start.layout.workers → (c.found j).control ≡ Some x → x.generation ≤ c.words.control.generation
 
 -- 2. Holders
@@ -182,7 +181,7 @@ pub record CarriersHold (c : Core) : Type 0 where
 -- 7. History
 
 -- The history is legal and goes on from the one that was dealt. What a caller knows as its own are its entries since then, all entries since then are of callers, and each put there is of an event of
--- its caller's sources. Each event that was put is settled
+-- its caller's sources. The events that were put and aren't settled are those that callers owe, each one. The history has as many entries as each caller was told
 pub record HistoryHolds (c : Core) : Type 0 where
   pub legal : IsLegal c.history
   pub since : List Entry
@@ -190,28 +189,53 @@ pub record HistoryHolds (c : Core) : Type 0 where
   pub own : (j : ℕ) → j < c.start.layout.workers → own_of j since ≡ c.own j
   pub callers : (x : Entry) → In x since → whose x < c.start.layout.workers
   pub sources : (j : ℕ) (e : Event) → In (Put j e) since → owner_of c.start.layout.workers c.deal.span e.src ≡ j
-  pub settled : (e : Event) → Contains (puts c.history) e → Contains (settleds c.history) e
+  pub owed : (k : ℕ) (d : SettleDebt) → k < c.start.layout.workers → c.settling k ≡ Some d → In (Put k d.event) c.history × (Contains (settleds c.history) d.event → ⊥)
+  pub unsettled : (e : Event) → Contains (puts c.history) e → (Contains (settleds c.history) e → ⊥) → (k : ℕ) × (k < c.start.layout.workers) × ((d : SettleDebt) × (c.settling k ≡ Some d) × (d.event ≡ e))
+  pub tables : (k : ℕ) → k < c.start.layout.workers → (c.told k).tables ≤ table_count c.history
+  pub raising : (k : ℕ) → k < c.start.layout.workers → (c.told k).settled ≤ raising_count c.history
 
--- 8. Walkers
+-- 8. Current
 
--- the caller k is in a search that it began after `front`, and walks in a table
-pub record IsWalking (c : Core) (k : ℕ) (w : Walk) (x : Control) (front : List Entry) : Type 0 where
+-- Each event that is settled and pending isn't before current
+pub record CurrentHolds (c : Core) : Type 0 where
+  pub ahead : (e : Event) → Contains (settleds c.history) e → IsPending c.history e → c.words.current.tick ≤ e.time
+
+-- 9. Walkers
+
+-- the caller k took current and a table in
+pub record IsTake (c : Core) (k : ℕ) (s : Sight) : Type 0 where
   pub inside : k < c.start.layout.workers
-  pub last : EndsInBegin (c.own k)
-  pub walks : c.walk k ≡ Some w
-  pub sees : HasSeen x (c.sight k)
-  pub began : Began k c.history front
+  pub sees : c.sight k ≡ Some s
 
--- A walk is of a head of the table that its take read, and at its list's end or at a row that its caller's guard covers. Each event of that list that was put before the caller's last Begin and is pending
--- stands in the row at which the walk is, or in one that is reached from it. So where the walk came to the end all those events are out
+-- and walks so in that table
+pub record IsWalking (c : Core) (k : ℕ) (s : Sight) (w : Walk) : Type 0 where
+  pub inside : k < c.start.layout.workers
+  pub sees : c.sight k ≡ Some s
+  pub walks : c.walk k ≡ Some w
+
+-- the event was put before the take of caller k read its table, and is pending
+pub record IsDue (c : Core) (k : ℕ) (e : Event) : Type 0 where
+  pub put : Contains (puts (take (c.read k) c.history)) e
+  pub pending : IsPending c.history e
+
+-- Of a take that saw current for a table: each event that was settled before its caller's last Begin and is pending isn't before that current. While current is that still, and the table open, each event that was put since the take read the table, and is settled, is of a later bucket. An event that is
+-- owed to an older table was put before that. A walk is of a head of that table, which is the head of its bucket, and at its list's end or at a row that its caller's guard covers. Each pending event of that list, and of a bucket that the walk seeks, that was put before the take read the table
+-- stands in the row at which the walk is, or in one that is reached from it. So where the walk came to the end all those events are out. In a search no such event of the lists before is earlier than the least one found there
 pub record WalkersHold (c : Core) : Type 0 where
+  pub above : (k : ℕ) (s : Sight) (front : List Entry) (e : Event) → IsTake c k s → EndsInBegin (c.own k) → Began k c.history front → Contains (settleds front) e → IsPending c.history e → s.current.tick ≤ e.time
+  pub ahead : (k : ℕ) (s : Sight) (e : Event) → IsTake c k s → s.current ≡ c.words.current → s.table.generation ≡ c.words.control.generation → Contains (puts (drop (c.read k) c.history)) e → Contains (settleds c.history) e
+      → bucket (shape_of s.table) s.current.tick < bucket (shape_of s.table) e.time
+  pub owed : (k i : ℕ) (s : Sight) (d : SettleDebt) → IsTake c k s → i < c.start.layout.workers → c.settling i ≡ Some d → d.generation < s.table.generation → Contains (puts (take (c.read k) c.history)) d.event
   pub at : (k : ℕ) (w : Walk) → k < c.start.layout.workers → c.walk k ≡ Some w
       → (s : Sight) × (c.sight k ≡ Some s) × IsHead w.head × IsOpen s.table w.head × ((w.at ≡ 0) ⊎ ((g : ℕ) × IsCovered c k g w.at))
-  pub left : (k : ℕ) (w : Walk) (x : Control) (front : List Entry) (e : Event) → IsWalking c k w x front → head_of x e ≡ w.head → Contains (puts front) e → IsPending c.history e
+  pub of : (k b : ℕ) (s : Sight) (w : Walk) → IsWalking c k s w → w.bucket ≡ Some b → (b ≡ bucket (shape_of s.table) s.current.tick) × (w.head ≡ head_for s.table.generation (shape_of s.table) b)
+  pub left : (k : ℕ) (s : Sight) (w : Walk) (e : Event) → IsWalking c k s w → head_of s.table e ≡ w.head → IsSought w.bucket (bucket (shape_of s.table) e.time) → IsDue c k e
       → (r : ℕ) × (0 < w.at) × StandsIn c e r × Reaches c.words.link c.words.twin w.at r
-  pub ended : (k : ℕ) (w : Walk) (x : Control) (front : List Entry) (e : Event) → IsWalking c k w x front → w.at ≡ 0 → head_of x e ≡ w.head → Contains (puts front) e → Contains (outs c.history) e
+  pub ended : (k : ℕ) (s : Sight) (w : Walk) (e : Event) → IsWalking c k s w → w.at ≡ 0 → head_of s.table e ≡ w.head → IsSought w.bucket (bucket (shape_of s.table) e.time) → Contains (puts (take (c.read k) c.history)) e
+      → Contains (outs c.history) e
+  pub done : (k : ℕ) (s : Sight) (w : Walk) (e : Event) → IsWalking c k s w → w.bucket ≡ None → head_of s.table e < w.head → IsDue c k e → IsNotBefore w.least e
 
--- 9. Scarcity
+-- 10. Scarcity
 
 -- the row r, of the caller k, is late for the epoch g: it is listed, or cut under a guard that found more than g, or retired with a tag above g + 1
 abbrev pub IsLateRow : Core → ℕ → ℕ → ℕ → Type 0
@@ -230,6 +254,17 @@ pub record ScarcityHolds (c : Core) : Type 0 where
   -- a listed home row whose event was out at its caller's last Begin, or at any other, stands in no list that this caller has swept since
   pub swept : (k q r : ℕ) (front back : List Entry) → k < c.start.layout.workers → In q (c.clean k) → IsHead q → IsHomeRow c.start.layout k r → In r (c.chain q) → c.history ≡ front ++ Begin k ∷ back
       → Contains (outs front) (c.words.event r) → ⊥
+
+-- 11. Bounds
+
+-- A generation is left, and the epoch of the guards has room. A caller that owes an event has a permit. Current's epoch and the permits leave 48 epochs, and each rise of that epoch stands in the history. So does each table: the newest one's generation is the first one and their number
+pub record BoundsHold (c : Core) : Type 0 where
+  pub generation : c.words.control.generation ≤ 2 ^ 30 - 2
+  pub opened : newest c.words.control ≡ c.start.first.generation + table_count c.history
+  pub guards : c.words.epoch ≤ 2 ^ 62
+  pub owed : (k : ℕ) (d : SettleDebt) → k < c.start.layout.workers → c.settling k ≡ Some d → c.permit k ≡ true
+  pub permits : c.words.current.epoch + permits c.permit c.start.layout.workers ≤ 2 ^ 32 - 48
+  pub entries : c.words.current.epoch ≤ c.start.first.epoch + raising_count c.history
 
 -- A state that meets the invariant in which the listed row r is covered by a guard, the row s was cut and has a tag, and the row t is retired
 pub record Witness (c : Core) : Type 0 where

@@ -7,7 +7,7 @@ use Rattle.crq_base.specs.declared.words.Link.{Link}
 use Rattle.crq_base.specs.declared.words.Control.{Control}
 use Rattle.crq_base.specs.declared.words.Current.{Current}
 use Rattle.crq_base.specs.declared.entry.Entry.{Entry}
-use Rattle.crq_base.specs.declared.entry.Entry.TheVariants.{Begin as BeginEntry, Settled as SettledEntry, Take as TakeEntry, Miss as MissEntry}
+use Rattle.crq_base.specs.declared.entry.Entry.TheVariants.{Begin as BeginEntry, Put as PutEntry, Settled as SettledEntry, Take as TakeEntry, Miss as MissEntry}
 use Rattle.crq_rule.specs.declared.debts.SettleDebt.{SettleDebt}
 use Rattle.crq_rule.specs.declared.view.Guard.TheVariants.{Off}
 use Rattle.crq_base.specs.declared.words.Mark.TheVariants.{Val}
@@ -18,7 +18,7 @@ use Rattle.crq_rule.specs.Ranks.{Cell, cell_place, link_at}
 use Rattle.crq_rule.specs.Core.{Core, caller_of}
 use Rattle.crq_rule.specs.Kinds.{epoch_loaded, recovery_begun, entered, confirmed, left, scanned, ticked, tick_failed, retired_at, looked, claimed, HasScanned, IsEntering, MayRetire, IsRipe}
 use Rattle.crq_rule.specs.CurrentKinds.{current_loaded, raised, lies_ahead, event_settled, settled_back, MayView, MayRaise, MaySettle}
-use Rattle.crq_rule.specs.ListKinds.{is_cell, Content, IsContent, content_number, row_place, written_at, walked_from, linked, put_entries, control_loaded, begun_by, marked, cut_from, missed, StandsOn, MayWalk, MaySeek, MayLink, MayMark, MayCut, MayMiss}
+use Rattle.crq_rule.specs.ListKinds.{Aim, is_cell, Content, IsContent, content_number, row_place, written_at, walked_from, linked, control_loaded, begun_by, marked, cut_from, missed, StandsOn, MayWalk, MaySeek, MayLink, MayMark, MayCut, MayMiss}
 
 -- the kinds of step with their operands; an exchange that fails is a case of its own. Splitting and joining move parts of views from seat to seat, and leave the core state
 pub data Kind : Type 0 where
@@ -37,7 +37,7 @@ pub data Kind : Type 0 where
   claim : ℕ → ℕ → Kind
   write : ℕ → Content → Kind
   read : ℕ → ℕ → Kind
-  walk : Cell → Bool → Kind
+  walk : Cell → Aim → Kind
   link : Cell → Link → ℕ → Event → Kind
   link_fails : Cell → Kind
   control_load : Kind
@@ -72,7 +72,7 @@ May (look r) c j = IsHomeRow c.start.layout j r
 May (claim r e) c j = In e (c.epochs j) × IsRipe (c.ripening j) r e
 May (write r x) c j = In r (c.hand j) × IsContent x
 May (read r p) c j = (e : Event) × StandsOn (c.rows j) r e
-May (walk cell seeks) c j = IsOn (c.guard j) × MayWalk (c.rows j) cell × MaySeek (c.own j) (c.found j).control (c.walk j) cell seeks
+May (walk cell aim) c j = IsOn (c.guard j) × MayWalk (c.rows j) cell × MaySeek (c.sight j) (c.walk j) cell aim
 May (link cell l r e) c j = ((x : Control) × MayLink c.start.layout.workers x cell l r e (caller_of c j)) × (link_at c.words.head c.words.link cell ≡ l)
 May (link_fails cell) c j = Unit {0}
 May control_load c j = Unit {0}
@@ -88,7 +88,7 @@ May (mark r e) c j = ((x : Control) × MayMark x r e (caller_of c j)) × ((c.wor
 May (mark_fails r) c j = Unit {0}
 May (cut cell x l) c j = MayCut cell x l (caller_of c j) × ((is_cell (link_at c.words.head c.words.link cell).mark ≡ true) × ((link_at c.words.head c.words.link cell).row ≡ x))
 May (cut_fails cell) c j = Unit {0}
-May (miss limit) c j = (x : Control) × MayMiss x limit (caller_of c j)
+May (miss limit) c j = MayMiss limit (caller_of c j)
 
 -- the core state after it
 abbrev pub After : Kind → Core → ℕ → Core
@@ -107,7 +107,7 @@ After (look r) c j = looked c j r
 After (claim r e) c j = claimed c j r
 After (write r x) c j = written_at c j r x
 After (read r p) c j = c
-After (walk cell seeks) c j = walked_from c j cell seeks
+After (walk cell aim) c j = walked_from c j cell aim
 After (link cell l r e) c j = linked c j cell l r e
 After (link_fails cell) c j = c
 After control_load c j = control_loaded c j
@@ -142,7 +142,7 @@ place_of (look r) j = stamp r
 place_of (claim r e) j = stamp r
 place_of (write r x) j = row_place r (content_number x)
 place_of (read r p) j = row_place r p
-place_of (walk cell seeks) j = cell_place cell
+place_of (walk cell aim) j = cell_place cell
 place_of (link cell l r e) j = cell_place cell
 place_of (link_fails cell) j = cell_place cell
 place_of control_load j = control
@@ -177,7 +177,7 @@ kind_of (look r) = Look
 kind_of (claim r e) = Claim
 kind_of (write r x) = Write
 kind_of (read r p) = Read
-kind_of (walk cell seeks) = Walk
+kind_of (walk cell aim) = Walk
 kind_of (link cell l r e) = LinkKind
 kind_of (link_fails cell) = LinkKind
 kind_of control_load = ControlLoad
@@ -197,7 +197,7 @@ kind_of (miss limit) = Miss
 
 -- the entries that it adds to the history
 abbrev pub entries_of : Kind → ℕ → List Entry
-entries_of (link cell l r e) j = put_entries j e
+entries_of (link cell l r e) j = PutEntry j e ∷ []
 entries_of begin j = BeginEntry j ∷ []
 entries_of (settle_now d) j = SettledEntry j d.event ∷ []
 entries_of (settle d y) j = SettledEntry j d.event ∷ []

@@ -13,14 +13,13 @@ ghost use Rattle.crq_rule.specs.declared.view.View.{View};
 ghost use Rattle.crq_rule.specs.Places.{Place, word_of, Shows};
 ghost use Rattle.crq_rule.specs.Core.{Core, caller_of};
 ghost use Rattle.crq_rule.specs.Invariant.{Inv};
-ghost use Rattle.crq_rule.specs.Ahead.{Ahead, KeepsAhead};
 ghost use Rattle.crq_rule.specs.ScarceParts.{pending};
 ghost use Rattle.crq_rule.specs.Kinds.{after_made, new_base, FoundNoRow, IsRipe};
 ghost use Rattle.crq_rule.specs.Steps.{Kind, recovery_load, look, May, After, IsStep, place_of, entries_of};
 ghost use Rattle.crq_rule.specs.Rule.{Stands, first_view, joined, spent, head_view, tail_view, IsFirstApart};
 ghost use Rattle.crq_rule.specs.Deals.{HasAll, LoadsSpare, Gathered, IsSilent, spans};
 ghost use Rattle.crq_rule.specs.Opening.{opening_core, opening_words};
-ghost use Rattle.crq_rule.specs.Stated.{WordsHold, HoldersHold, GuardsHold, CoverHolds, ListsHold, CarriersHold, HistoryHolds, WalkersHold, ScarcityHolds, IsCovered, Witness};
+ghost use Rattle.crq_rule.specs.Stated.{WordsHold, HoldersHold, GuardsHold, CoverHolds, ListsHold, CarriersHold, HistoryHolds, CurrentHolds, WalkersHold, ScarcityHolds, BoundsHold, IsCovered, Witness};
 
 /// Each kind of step keeps the invariant, from every state that meets it. It changes the word of its kind alone, if any,
 /// and what its own caller knows alone, and it adds its entries to the history, which is else as it was.
@@ -62,8 +61,8 @@ pub fn opening_law()
 {}
 
 /// The invariant that is kept implies each of its parts as it is stated: on words, on the holders of rows, on guards, on
-/// covered rows, on lists, on the rows that carry pending events, on the history, on takes that walk, and on recoveries of
-/// rows.
+/// covered rows, on lists, on the rows that carry pending events, on the history, on current, on takes that walk, on
+/// recoveries of rows, and on how far counters may rise.
 pub fn parts_law()
     ensures words { (c : Core) → Inv c → WordsHold c }
     ensures holders { (c : Core) → Inv c → HoldersHold c }
@@ -72,19 +71,15 @@ pub fn parts_law()
     ensures lists { (c : Core) → Inv c → ListsHold c }
     ensures carriers { (c : Core) → Inv c → CarriersHold c }
     ensures history { (c : Core) → Inv c → HistoryHolds c }
+    ensures current { (c : Core) → Inv c → CurrentHolds c }
     ensures walkers { (c : Core) → Inv c → WalkersHold c }
     ensures scarcity { (c : Core) → Inv c → ScarcityHolds c }
+    ensures bounds { (c : Core) → Inv c → BoundsHold c }
 {}
 
 /// Some state in which current was raised meets the invariant.
-///
-/// In a new table no settled event is behind current, and each step keeps that, if an event that is linked isn't before
-/// current, and if no event of a take's bucket or of an earlier one was put and settled since the take loaded current that
-/// it raises.
 pub fn current_law()
-    ensures opening { (start : Start) → Ahead (opening_core start).history (opening_core start).words.current }
-    ensures raised { (c : Core) × Inv c × (0 < c.words.current.tick) }
-    ensures ahead { (k : Kind) (c : Core) (j : ℕ) → Inv c → j < c.start.layout.workers → May k c j → KeepsAhead k c j → Ahead c.history c.words.current → Ahead (After k c j).history (After k c j).words.current }
+    ensures { (c : Core) × Inv c × (0 < c.words.current.tick) }
 {}
 
 /// A recovery of rows begins with a load of the epoch, and notes where the history is and which events are pending there.

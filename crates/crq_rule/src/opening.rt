@@ -26,8 +26,11 @@ pub struct Opened {
     pub places: Vec<Seating>,
 }
 
+/// A new table has 2 to the power of this many lists.
+const LOG: u32 = 3;
+
 /// The number of lists of a new table.
-const LISTS: usize = 1;
+const LISTS: usize = 1 << LOG;
 
 /// As many zeros.
 fn zeros(alloc: Global, count: usize) -> Result<Vec<u64>, AllocError>
@@ -91,7 +94,7 @@ fn words_of(alloc: Global, start: &Start) -> Result<Vec<u64>, AllocError>
     let control = Control {
         generation: start.first.generation,
         moving: false,
-        log: 0,
+        log: LOG,
         shift: 0,
         new_log: 0,
         new_shift: 0,

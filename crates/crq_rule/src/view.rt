@@ -81,18 +81,22 @@ pub struct Base {
     pub looked: u64,
 }
 
-/// What a take knows of the table in which it walks, and where it began.
+/// What a take knows of the table in which it walks.
 pub struct Sight {
     /// The control word that it had found when it read the table; the table didn't move.
     pub table: Control,
-    /// Current, as the take loaded it for that table. None for a take that began with a head, and loaded no current.
-    pub current: Option<Current>,
+    /// Current, as the take loaded it for that table.
+    pub current: Current,
 }
 
 /// How far a take walked the list of a head: to the row `at`, or to the end where that is 0. What it passed was dead.
 pub struct Walk {
     pub head: u64,
     pub at: u64,
+    /// The bucket up to which it walks. None in a search, which has walked the lists of all heads before this one.
+    pub bucket: Option<u64>,
+    /// The least row, with its event, at which the search came to stand in those lists.
+    pub least: Option<(u64, Event)>,
 }
 
 /// How far a caller's sweep came along the list of a head. What it has not passed yet is of this place in the list's order or

@@ -3,10 +3,10 @@ use Rattle.std.specs.Prelude.{◌≡◌, ℕ, ◌<◌, ◌≤◌, List, [], ◌+
 use Rattle.crq_base.specs.declared.event.Event.{Event}
 use Rattle.crq_base.specs.declared.entry.Entry.{Entry}
 use Rattle.crq_base.specs.Entries.{caller_of as whose}
-use Rattle.crq_base.specs.Histories.{puts, settleds, own as own_of, IsLegal}
+use Rattle.crq_base.specs.Histories.{puts, settleds, own as own_of, IsLegal, table_count, raising_count}
 use Rattle.crq_base.specs.Lists.{In}
 use Rattle.crq_base.specs.Refusals.{AreCounted}
-use Rattle.crq_set.specs.Views.{PassView, table_count, raising_count}
+use Rattle.crq_set.specs.Views.{PassView}
 
 -- each of n passes is in its place
 abbrev pub AreThere : ℕ → List (Option PassView) → Type 0

@@ -1,8 +1,7 @@
 -- What is known of a set of events and of a pass of it.
-use Rattle.std.specs.Prelude.{◌≡◌, ℕ, List, Bool, true, false, length, filter}
+use Rattle.std.specs.Prelude.{◌≡◌, ℕ, List}
 use Rattle.crq_base.specs.declared.event.Event.{Event}
 use Rattle.crq_base.specs.declared.entry.Entry.{Entry}
-use Rattle.crq_base.specs.declared.entry.Entry.TheVariants.{Settled, Table}
 use Rattle.crq_base.specs.declared.first.First.{First}
 use Rattle.crq_base.specs.Sources.{IsFresh}
 
@@ -29,22 +28,6 @@ pub record PassView : Type 0 where
 -- the pass may put the event: it is of its sources, and no event of that source and number is in what the pass has seen
 abbrev pub MayPut : Setup → PassView → Event → Type 0
 MayPut setup v e = IsFresh setup.workers v.dealt v.own v.span v.number e
-
--- the Table entries of a history, and its Settled and Table entries together, which are those that raise the epoch of current
-abbrev pub is_table : Entry → Bool
-is_table (Table caller log shift) = true
-is_table _ = false
-
-abbrev pub is_raising : Entry → Bool
-is_raising (Settled caller event) = true
-is_raising (Table caller log shift) = true
-is_raising _ = false
-
-abbrev pub table_count : List Entry → ℕ
-table_count history = length (filter is_table history)
-
-abbrev pub raising_count : List Entry → ℕ
-raising_count history = length (filter is_raising history)
 
 -- a program's set for so many callers with so many rows each: its epoch and the epoch of its guards begin at 0, its generation at 1
 pub record IsSetup (workers rows : ℕ) (setup : Setup) : Type 0 where

@@ -20,8 +20,8 @@ abbrev pub IsTextOfRun : ModelData → ℕ → List ℕ → Type 0
 IsTextOfRun m events text = IsOverWithin m events × (text ≡ trace_text_of (traces_within m events))
 
 -- one more set was closed, and its history is that of the run up to its last window
-abbrev pub HasRun : ModelData → List (List Entry) → List (List Entry) → Type 0
-HasRun m old new = (windows : ℕ) × IsLastWindow m (beginning m) windows × HasOneMore old new (IsRunTo m windows)
+abbrev pub KeepsRun : ModelData → List (List Entry) → List (List Entry) → Type 0
+KeepsRun m old new = (windows : ℕ) × IsLastWindow m (beginning m) windows × HasOneMore old new (IsRunTo m windows)
 
 -- no set was closed, or one was, with a calm history
 abbrev pub HasOneAtMost : List (List Entry) → List (List Entry) → Type 0
@@ -31,7 +31,7 @@ HasOneAtMost old new = (new ≡ old) ⊎ HasOneMore old new (λ history. Unit {0
 pub record LeavesText (m : ModelData) (caps : Caps) (old new : List (List Entry)) (text : List ℕ) : Type 0 where
   pub goes : (stop : Stop) → StopsBy m caps stop → ⊥
   pub is_text : IsTextOfRun m caps.events text
-  pub history : HasRun m old new
+  pub history : KeepsRun m old new
 
 -- what a drive that has no outcome ends a call with
 abbrev pub ending_after : DriveEnd → Ending

@@ -1,4 +1,4 @@
-use Rattle.crq_rule.proofs.Stating.{words_hold, holders_hold, guards_hold, cover_holds}
+use Rattle.crq_rule.proofs.Stating.{words_hold, holders_hold, guards_hold, cover_holds, current_holds, bounds_hold}
 use Rattle.crq_rule.proofs.StatingLists.{lists_hold, carriers_hold, history_holds, walkers_hold}
 use Rattle.crq_rule.proofs.StatingScarcity.{scarcity_holds}
 use Rattle.crq_rule.proofs.laws.parts_law.Goals as goal
@@ -12,6 +12,8 @@ returns c = record {
   lists = lists_hold;
   carriers = carriers_hold;
   history = history_holds;
+  current = current_holds;
   walkers = walkers_hold;
   scarcity = scarcity_holds;
+  bounds = bounds_hold;
 }
