@@ -21,7 +21,7 @@ pub record Viewed (table : Table) (old new : Pass) (walks : Bool) (y : Current) 
   pub is_current : IsCurrent y
   pub part : caller table new ≡ makes (load_made CurrentLoad (index table.start.layout current) (current_word y)) (loads_current walks y (caller table old))
   pub later : (x : Current) → (caller table old).found.current ≡ Some x → NotAfter x y
-  pub seen : (s : Sight) (x : Current) → (caller table old).sight ≡ Some s → s.current ≡ Some x → NotAfter x y
+  pub seen : (s : Sight) → (caller table old).sight ≡ Some s → NotAfter s.current y
 
 -- an exchange of current from y to the next bucket of the table was made; it won, or found another word
 pub record Raised (table : Table) (old new : Pass) (x : Control) (y : Current) (won : Bool) : Type 0 where

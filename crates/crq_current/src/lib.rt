@@ -1,6 +1,4 @@
 //! Current, the position at which takes begin: each atomic step on it as a function of its own.
-//!
-//! No call makes these steps yet.
 #![tactic(auto)]
 
 mod steps;

@@ -17,7 +17,7 @@ use Rattle.crq_rule.specs.Moves.{Lawful}
 use Rattle.crq_rule.specs.Opening.{IsFresh, IsOpening, no_debts}
 use Rattle.crq_rule.proofs.ScarceLaws.{none_base}
 use Rattle.crq_rule.proofs.Counting.{rows_in}
-use Rattle.crq_rule.proofs.ListOpening.{no_sight}
+use Rattle.crq_rule.proofs.ListOpening.{no_sight, no_settle}
 use Rattle.crq_rule.proofs.Openings.{fresh_at, none_control}
 use Rattle.crq_rule.proofs.HolderLaws.{none_some}
 use Rattle.crq_rows.specs.Passes.{first_part, IsOwed, IsNew, AreNew}
@@ -44,6 +44,7 @@ fresh_lawful start n b = record {
   owed_now = λ d x is. absurd (no_debt d is);
   owed_fits = λ d is. absurd (no_debt d is);
   one_name = refl;
+  owing = λ d is. absurd (no_settle d is);
   scarce = λ b vain. absurd (none_base b vain.0);
   sighted = λ s is. absurd (no_sight s is);
   permitted = λ x has _. absurd (false≢true has);
@@ -66,7 +67,7 @@ new_pass table seat n rest b id me new = let parts : seat.me.0.parts ≡ fresh t
         lawful = subst Lawful (sym part) (fresh_lawful table.start n b);
         free = new.free ∙ sym (ap (λ (p : Caller). p.hand) part);
         room = new.room;
-        debts = let owed : rest.debts ≡ no_debts = new.debts in subst (λ (p : Caller). IsOwed rest.debts p.debts) (sym part) (subst (λ d. IsOwed d no_debts) (sym owed) record { settle = refl; copy = refl; cut = inl refl; second_cut = refl });
+        debts = let owed : rest.debts ≡ no_debts = new.debts in subst (λ (p : Caller). IsOwed rest.debts p.debts) (sym part) (subst (λ d. IsOwed d no_debts) (sym owed) record { settle = inl refl; copy = refl; cut = inl refl; second_cut = refl });
       };
       number = refl;
       part = part;

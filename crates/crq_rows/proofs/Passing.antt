@@ -25,7 +25,7 @@ record Sat (table : Table) (old : Pass) (seat : Seat (Unit {0}) View) (m : Made)
   part : caller table (record old { seat = seat }) ≡ makes m after
 
 lawful_made : (m : Made) (q : Caller) → Lawful q → Lawful (makes m q)
-lawful_made m q l = record { inside = l.inside; epochs = l.epochs; hand = l.hand; cut = l.cut; tags = l.tags; ripening = l.ripening; stands = l.stands; last = l.last; apart = l.apart; on = l.on; agree = l.agree; owed_at = l.owed_at; owed_now = l.owed_now; owed_fits = l.owed_fits; one_name = l.one_name; scarce = l.scarce; sighted = l.sighted; controlled = l.controlled; permitted = l.permitted }
+lawful_made m q l = record { inside = l.inside; epochs = l.epochs; hand = l.hand; cut = l.cut; tags = l.tags; ripening = l.ripening; stands = l.stands; last = l.last; apart = l.apart; on = l.on; agree = l.agree; owed_at = l.owed_at; owed_now = l.owed_now; owed_fits = l.owed_fits; one_name = l.one_name; owing = l.owing; scarce = l.scarce; sighted = l.sighted; controlled = l.controlled; permitted = l.permitted }
 
 module _ (table : Table) (old : Pass) (seat : Seat (Unit {0}) View) (m : Made) (R : Caller → Caller → Type 0) where
   sat : IsSeated table old → seat.table_id ≡ old.seat.table_id → FirstTurns R m old.seat.me.0.parts seat.me.0 → seat.me.1 ≡ old.seat.me.1 → Sat table old seat m R

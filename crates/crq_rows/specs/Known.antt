@@ -32,6 +32,10 @@ abbrev pub is_tick : StepKind → Bool
 is_tick Tick = true
 is_tick _ = false
 
+abbrev pub is_link : StepKind → Bool
+is_link Link = true
+is_link _ = false
+
 -- what its word is known to be after the step: what was found, or the new word of an exchange that found what it expected
 abbrev pub known_by : Made → ℕ
 known_by m = cond (is_exchange m.kind) (cond (m.found == m.first) m.second m.found) m.found
@@ -49,15 +53,18 @@ last_known (m ∷ ms) w = rather (last_known ms w) (cond (m.word == w) (Some (kn
 abbrev pub Expects : ℕ → List Made → Made → Type 0
 Expects n made m = is_exchange m.kind ≡ true → (last_known (drop n made) m.word ≡ Some m.first) × (m.first ≢ m.second)
 
--- who the caller is, what it was dealt and found, and its guard stay
+-- who the caller is, what it was dealt, found and told, its guard, its permit and what its take saw stay
 pub record Stays (p q : Caller) : Type 0 where
   pub number : q.number ≡ p.number
   pub start : q.start ≡ p.start
   pub deal : q.deal ≡ p.deal
   pub found : q.found ≡ p.found
   pub guard : q.guard ≡ p.guard
+  pub permit : q.permit ≡ p.permit
+  pub sight : q.sight ≡ p.sight
+  pub told : q.told ≡ p.told
 
--- one step more was made, which expects what it should. The epoch is only raised without a guard
+-- one step more was made, which expects what it should. The epoch is only raised without a guard, and only the step that links a row changes what event is owed
 pub record Works (n : ℕ) (exchanges : Bool) (p q : Caller) : Type 0 where
   pub stays : Stays p q
   pub step : Made
@@ -65,6 +72,7 @@ pub record Works (n : ℕ) (exchanges : Bool) (p q : Caller) : Type 0 where
   pub kind : is_exchange step.kind ≡ exchanges
   pub expects : Expects n p.made step
   pub timed : is_tick step.kind ≡ true → p.guard ≡ Off
+  pub settle : is_link step.kind ≡ false → q.debts.settle ≡ p.debts.settle
 
 -- the exchanges counted after a step
 abbrev pub turns_after : Bool → ℕ → ℕ

@@ -1,5 +1,6 @@
 -- Looking for a free row: what it knows between two steps, and what each step tells.
 use Rattle.std.specs.Prelude.{◌≡◌, ℕ, ◌+◌, ◌-◌, ◌*◌, ◌<◌, ◌≤◌, ◌&&◌, Bool, cond, nat_lt, nat_le, List, [], ◌∷◌, ◌++◌, length, None}
+use Rattle.crq_base.specs.declared.kinds.StepKind.{StepKind}
 use Rattle.crq_base.specs.declared.kinds.StepKind.TheVariants.{EpochLoad, Look, Claim}
 use Rattle.crq_base.specs.Lists.{In}
 use Rattle.crq_rule.specs.declared.layout.Layout.{Layout}
@@ -83,6 +84,12 @@ abbrev pub OwnMakes : Layout → OwnOp → Made → Type 0
 OwnMakes l Load m = (m.kind ≡ EpochLoad) × (m.word ≡ index l epoch)
 OwnMakes l (Looking e row) m = (m.kind ≡ Look) × (m.word ≡ index l (stamp row))
 OwnMakes l (Claiming e row) m = (m.kind ≡ Claim) × (m.word ≡ index l (stamp row))
+
+-- and its kind
+abbrev pub own_kind : OwnOp → StepKind
+own_kind Load = EpochLoad
+own_kind (Looking e row) = Look
+own_kind (Claiming e row) = Claim
 
 -- no more steps than these answer `More` yet
 abbrev pub own_left : Layout → OwnOp → ℕ

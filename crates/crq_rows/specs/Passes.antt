@@ -32,9 +32,9 @@ pub record IsSeated (table : Table) (pass : Pass) : Type 0 where
   pub inside : pass.number < table.start.layout.workers
   pub started : (caller table pass).start ≡ table.start
 
--- the pass owes what its caller does, and maybe a dead row that was cut meanwhile
+-- the pass owes what its caller does, and maybe a dead row that was cut meanwhile. An event that the pass linked just now may have yet to be noted at run time
 pub record IsOwed (run known : Debts) : Type 0 where
-  pub settle : known.settle ≡ run.settle
+  pub settle : (run.settle ≡ None) ⊎ (known.settle ≡ run.settle)
   pub copy : known.copy ≡ run.copy
   pub cut : (known.cut ≡ None) ⊎ (known.cut ≡ run.cut)
   pub second_cut : known.second_cut ≡ run.second_cut

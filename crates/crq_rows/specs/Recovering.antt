@@ -1,5 +1,6 @@
 -- Recovering rows: what it knows between two steps, and what each step tells.
 use Rattle.std.specs.Prelude.{◌≡◌, ◌⊎◌, ℕ, ◌+◌, ◌-◌, ◌*◌, ◌<◌, ◌≤◌, Bool, false, List, [], ◌∷◌, ◌++◌, length, Some, None}
+use Rattle.crq_base.specs.declared.kinds.StepKind.{StepKind}
 use Rattle.crq_base.specs.declared.kinds.StepKind.TheVariants.{Look, Claim}
 use Rattle.crq_base.specs.Lists.{In}
 use Rattle.crq_rule.specs.declared.layout.Layout.{Layout}
@@ -18,7 +19,7 @@ use Rattle.crq_rows.specs.declared.recover.Recover.{Recover}
 use Rattle.crq_rows.specs.declared.recover.Recover.TheVariants.{More, Ready, Held, Rows}
 use Rattle.crq_rows.specs.Passes.{caller, IsPassOf}
 use Rattle.crq_rows.specs.Known.{is_exchange, Expects, turns_after}
-use Rattle.crq_rows.specs.Ticking.{IsTicking, TickBase, TickMakes, tick_exchanges, tick_left, KnowsEpoch, HasLoaded, IsHeldBy, FindsEpoch}
+use Rattle.crq_rows.specs.Ticking.{IsTicking, TickBase, TickMakes, tick_exchanges, tick_kind, tick_left, KnowsEpoch, HasLoaded, IsHeldBy, FindsEpoch}
 use Rattle.crq_rows.specs.Owning.{IsRipeWord, NoneRipe}
 
 -- since a step that found or made the epoch e, the caller looked at its home rows before `next`, in order, and found none ripe under it
@@ -46,6 +47,12 @@ abbrev pub RecoverMakes : Layout → RecoverOp → Made → Type 0
 RecoverMakes l (Ticking n tick) m = TickMakes l tick m
 RecoverMakes l (Visiting e row) m = (m.kind ≡ Look) × (m.word ≡ index l (stamp row))
 RecoverMakes l (Taking e row) m = (m.kind ≡ Claim) × (m.word ≡ index l (stamp row))
+
+-- the kind of the step that it makes
+abbrev pub recover_kind : Layout → RecoverOp → StepKind
+recover_kind l (Ticking n tick) = tick_kind l tick
+recover_kind l (Visiting e row) = Look
+recover_kind l (Taking e row) = Claim
 
 -- whether the step that it makes is an exchange
 abbrev pub recover_exchanges : Layout → RecoverOp → Bool

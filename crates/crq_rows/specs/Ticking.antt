@@ -1,5 +1,6 @@
 -- An attempt to raise the epoch: what it knows between two steps, and what each step tells.
-use Rattle.std.specs.Prelude.{◌≡◌, ◌≢◌, ◌⊎◌, ℕ, ◌+◌, ◌-◌, ◌<◌, ◌≤◌, ◌^◌, ◌==◌, Bool, false, List, [], ◌∷◌, ◌++◌, length, drop, Option, Some, None}
+use Rattle.std.specs.Prelude.{◌≡◌, ◌≢◌, ◌⊎◌, ℕ, ◌+◌, ◌-◌, ◌<◌, ◌≤◌, ◌^◌, ◌==◌, cond, Bool, false, List, [], ◌∷◌, ◌++◌, length, drop, Option, Some, None}
+use Rattle.crq_base.specs.declared.kinds.StepKind.{StepKind}
 use Rattle.crq_base.specs.declared.kinds.StepKind.TheVariants.{EpochLoad, Scan, Tick}
 use Rattle.crq_base.specs.declared.holder.Holder.{Holder}
 use Rattle.crq_base.specs.declared.holder.Holder.TheVariants.{Seat, Last}
@@ -44,6 +45,12 @@ abbrev pub tick_exchanges : Layout → TickOp → Bool
 tick_exchanges l Load = false
 tick_exchanges l (Scanning e next) = next == l.workers
 tick_exchanges l (Passed e) = false
+
+-- and its kind
+abbrev pub tick_kind : Layout → TickOp → StepKind
+tick_kind l Load = EpochLoad
+tick_kind l (Scanning e next) = cond (next == l.workers) Tick Scan
+tick_kind l (Passed e) = EpochLoad
 
 -- no more steps than these answer `More` yet
 abbrev pub tick_left : Layout → TickOp → ℕ
