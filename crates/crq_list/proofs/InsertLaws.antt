@@ -5,6 +5,8 @@ use mathlib.Core.Logic.{dite}
 use native.Mathlib.Decide.{ℕ_discrete}
 use Rattle.crq_base.specs.declared.event.Event.{Event}
 use Rattle.crq_base.specs.declared.entry.Entry.{Entry}
+use Rattle.crq_base.specs.declared.entry.Entry.TheVariants.{Put}
+use Rattle.crq_base.specs.declared.kinds.StepKind.{StepKind}
 use Rattle.crq_base.specs.declared.words.Control.{Control}
 use Rattle.crq_base.specs.declared.words.Link.{Link}
 use Rattle.crq_base.specs.declared.words.Mark.TheVariants.{Val}
@@ -25,7 +27,7 @@ use Rattle.crq_rule.specs.Places.{index, IsRow, IsHead, link}
 use Rattle.crq_rule.specs.Parts.{IsOn, IsEvent}
 use Rattle.crq_rule.specs.Kinds.{makes}
 use Rattle.crq_rule.specs.Ranks.{rank, head_of, at_head, at_row, cell_place}
-use Rattle.crq_rule.specs.ListKinds.{is_cell, Content, no_twin, new_time, new_source, new_sequence, new_load, IsContent, content_number, content_word, event_word, unwritten, wrote, writes, links, put_entries, StandsOn, IsWritten, ComesAfter, ComesBefore, MayLink}
+use Rattle.crq_rule.specs.ListKinds.{is_cell, Content, no_twin, new_time, new_source, new_sequence, new_load, IsContent, content_number, content_word, event_word, unwritten, wrote, writes, links, StandsOn, IsWritten, ComesAfter, ComesBefore, MayLink}
 use Rattle.crq_rows.specs.Passes.{caller, IsPassOf, Stepped, step_made, store_made, counted}
 use Rattle.crq_rows.proofs.Reached.{hand_row, stand_row}
 use Rattle.crq_list.specs.declared.parts.Before.{Before}
@@ -40,18 +42,18 @@ use Rattle.crq_list.specs.declared.insert.InsertOp.{InsertOp}
 use Rattle.crq_list.specs.declared.insert.InsertState.{InsertState}
 use Rattle.crq_list.specs.declared.insert.InsertState.TheVariants.{Writing, Seeking, Placing, Linking}
 use Rattle.crq_list.specs.declared.seek.SeekState.{SeekState}
-use Rattle.crq_list.specs.declared.seek.SeekState.TheVariants.{Load}
+use Rattle.crq_list.specs.declared.seek.SeekState.TheVariants.{Load, Reading, Passing, Cutting, Tagging, Retiring}
 use Rattle.crq_list.specs.declared.seek.SeekEnd.TheVariants.{There}
 use Rattle.crq_list.specs.declared.seek.Sought.{Sought}
 use Rattle.crq_rows.proofs.Knowing.{known_else}
 use Rattle.crq_list.proofs.SweepLaws.{sweep_begins, sweep_stays}
 use Rattle.crq_rows.proofs.Working.{plain_no_tick}
 use Rattle.crq_list.proofs.StepLaws.{rows_apart}
-use Rattle.crq_list.specs.Known.{is_exchange, Stays, Works, turns_after}
+use Rattle.crq_list.specs.Known.{is_exchange, is_link, Stays, Works, turns_after}
 use Rattle.crq_list.specs.Spots.{cell, Target, IsReached, IsAfter, IsBeyondSpot, IsListOf}
 use Rattle.crq_list.specs.Swaps.{LinkSwapped}
-use Rattle.crq_list.specs.Seeking.{IsSeeking, IsThere, SeekStepped}
-use Rattle.crq_list.specs.Inserting.{AreWritten, sought_by, IsInsertingAt, IsInserting, state_exchanges, state_left, InsertStepped}
+use Rattle.crq_list.specs.Seeking.{IsSeeking, IsThere, SeekStepped, seek_kind}
+use Rattle.crq_list.specs.Inserting.{AreWritten, sought_by, IsInsertingAt, IsInserting, state_exchanges, state_left, insert_kind, InsertStepped}
 
 -- What is written
 
@@ -151,6 +153,8 @@ pub may_link : (n : ℕ) (table : Table) (x : Control) (op : InsertOp) (b : Befo
     → MayLink table.start.layout.workers x (cell b.spot) b.link op.row op.event (caller table pass)
 may_link n table x op b pass of i = record {
   on = i.on;
+  settled = i.settled;
+  permit = i.permit;
   control = i.list_is.control;
   in_hand_is = i.held;
   event = i.event;
@@ -175,11 +179,13 @@ pub list_stays : (x : Control) (list : ListAt) (p q : Caller) → q.found ≡ p.
 list_stays x list p q found is = record { control = ap (λ (f : Found). f.control) found ∙ is.control; generation = is.generation; is_head = is.is_head; opened = is.opened }
 
 -- what an insertion knows of its caller besides its place stays with these parts
-pub still_inserting : (n : ℕ) (table : Table) (x : Control) (op : InsertOp) (s s' : InsertState) (p q : Caller) → Stays p q → n ≤ length q.made → q.own ≡ p.own → q.hand ≡ p.hand → IsInsertingAt n table x (record op { state = s' }) s' q
+pub still_inserting : (n : ℕ) (table : Table) (x : Control) (op : InsertOp) (s s' : InsertState) (p q : Caller) → Stays p q → q.debts.settle ≡ p.debts.settle → n ≤ length q.made → q.own ≡ p.own → q.hand ≡ p.hand → IsInsertingAt n table x (record op { state = s' }) s' q
     → IsInserting n table x (record op { state = s }) p → IsInserting n table x (record op { state = s' }) q
-still_inserting n table x op s s' p q stays counted own hand at i = record {
+still_inserting n table x op s s' p q stays settle counted own hand at i = record {
   counted = counted;
   on = subst IsOn (sym stays.guard) i.on;
+  settled = settle ∙ i.settled;
+  permit = stays.permit ∙ i.permit;
   list_is = list_stays x op.list p q stays.found i.list_is;
   of_list = i.of_list;
   held = subst (In op.row) (sym hand) i.held;
@@ -200,21 +206,37 @@ seeks_anew n b table x op s p q works none i = record {
   at = (none, refl);
 }
 
+-- the step is of this kind
+abbrev pub WorksAs : ℕ → Bool → StepKind → Caller → Caller → Type 0
+WorksAs n exchanges kind p q = (w : Works n exchanges p q) × (w.step.kind ≡ kind)
+
+pub seek_no_link : (seek : SeekState) → is_link (seek_kind seek) ≡ false
+seek_no_link (Load spot) = refl
+seek_no_link (Reading b place) = refl
+seek_no_link (Passing b) = refl
+seek_no_link (Cutting b last) = refl
+seek_no_link (Tagging spot row) = refl
+seek_no_link (Retiring spot row tag) = refl
+
 -- Writing a row in hand leaves what is known of a spot that was passed
 
 module _ (m : Made) (r place word : ℕ) (p : Caller) where
   abbrev after_write : Caller
   after_write = makes m (writes r place word p)
 
-  pub write_works : (n : ℕ) (q : Caller) → is_exchange m.kind ≡ false → q ≡ after_write → Works n false p q
-  write_works n q quiet e = subst (λ z. Works n false p z) (sym e) (record {
-    stays = record { number = refl; start = refl; deal = refl; found = refl; guard = refl };
-    step = m;
-    made = refl;
-    kind = quiet;
-    expects = λ is. absurd (cc);
-    timed = λ yes. absurd (false≢true (sym (plain_no_tick m.kind quiet) ∙ yes));
-  })
+  pub write_works : (n : ℕ) (q : Caller) → is_exchange m.kind ≡ false → q ≡ after_write → WorksAs n false m.kind p q
+  write_works n q quiet e = subst (WorksAs n false m.kind p) (sym e) (
+    record {
+      stays = record { number = refl; start = refl; deal = refl; found = refl; guard = refl; permit = refl; sight = refl; told = refl };
+      step = m;
+      made = refl;
+      kind = quiet;
+      expects = λ is. absurd (false≢true (sym quiet ∙ is));
+      timed = λ is. absurd (false≢true (sym (plain_no_tick m.kind quiet) ∙ is));
+      settle = λ _. refl;
+    },
+    refl,
+  )
 
   reached_stays : (x : Control) (q : ℕ) (target : Target) (spot : Spot) → IsReached x q target spot p → IsReached x q target spot after_write
   reached_stays x q target (Head h) is = is
@@ -252,38 +274,40 @@ module _ (n : ℕ) (table : Table) (x : Control) (op : InsertOp) (old new : Pass
   hand_stays of is free = sym is.free ∙ (free ∙ of.free)
 
   -- a step after which there is more to do
-  pub goes_on : (s s' : InsertState) → IsPassOf table old → IsPassOf table new → Works n (state_exchanges s) (caller table old) (caller table new) → new.turns ≡ turns_after (state_exchanges s) old.turns → new.number ≡ old.number
+  pub goes_on : (s s' : InsertState) → IsPassOf table old → IsPassOf table new → WorksAs n (state_exchanges s) (insert_kind s) (caller table old) (caller table new) → (caller table new).debts.settle ≡ (caller table old).debts.settle → new.turns ≡ turns_after (state_exchanges s) old.turns → new.number ≡ old.number
       → new.debts ≡ old.debts → ((caller table new).debts.cut ≡ None) ⊎ ((caller table new).debts.cut ≡ (caller table old).debts.cut) → (caller table new).own ≡ (caller table old).own → new.free.items ≡ old.free.items
       → IsInsertingAt n table x (record op { state = s' }) s' (caller table new) → (state_exchanges s ≡ true) ⊎ (state_left s' (caller table new) < state_left s (caller table old))
       → IsInserting n table x (record op { state = s }) (caller table old) → InsertStepped n table x (record op { state = s }) (record op { state = s' }) old new More
-  goes_on s s' of is works turns number debts owed own free at less i = record {
+  goes_on s s' of is works settle turns number debts owed own free at less i = record {
     is = is;
-    works = works;
+    works = works.0;
+    kind = works.1;
     turns = turns;
     number = number;
     debts = debts;
     owed = owed;
-    answers = (still_inserting n table x op s s' (caller table old) (caller table new) works.stays (counts_on n (state_exchanges s) (caller table old) (caller table new) works i.counted) own (hand_stays of is free) at i, refl, own, free, less);
+    answers = (still_inserting n table x op s s' (caller table old) (caller table new) works.0.stays settle (counts_on n (state_exchanges s) (caller table old) (caller table new) works.0 i.counted) own (hand_stays of is free) at i, refl, own, free, less);
   }
 
   -- the walk goes on
   pub seeks_on : (seek seek' : SeekState) → IsPassOf table old → IsInserting n table x (record op { state = Seeking seek }) (caller table old) → SeekStepped n table x (sought_by op) seek seek' old new More
       → InsertStepped n table x (record op { state = Seeking seek }) (record op { state = Seeking seek' }) old new More
-  seeks_on seek seek' of i s = goes_on (Seeking seek) (Seeking seek') of s.is s.works s.turns s.number s.debts s.owed s.own s.free
+  seeks_on seek seek' of i s = goes_on (Seeking seek) (Seeking seek') of s.is (s.works, s.kind) (s.works.settle (ap is_link s.kind ∙ seek_no_link seek)) s.turns s.number s.debts s.owed s.own s.free
       (s.answers.0, subst (λ w. AreWritten w op.row op.event 6) (sym s.written) i.at.1) (⊎_elim (λ e. inl e) (λ less. inr (omega arith)) s.answers.1) i
 
   -- it came to the row's place
   pub seeks_there : (seek seek' : SeekState) (b : Before) → IsPassOf table old → IsInserting n table x (record op { state = Seeking seek }) (caller table old) → SeekStepped n table x (sought_by op) seek seek' old new (Done (There b))
       → InsertStepped n table x (record op { state = Seeking seek }) (record op { state = Placing b }) old new More
-  seeks_there seek seek' b of i s = goes_on (Seeking seek) (Placing b) of s.is s.works s.turns s.number s.debts s.owed s.own s.free
+  seeks_there seek seek' b of i s = goes_on (Seeking seek) (Placing b) of s.is (s.works, s.kind) (s.works.settle (ap is_link s.kind ∙ seek_no_link seek)) s.turns s.number s.debts s.owed s.own s.free
       (s.answers, subst (λ w. AreWritten w op.row op.event 6) (sym s.written) i.at.1) (inr (omega arith)) i
 
   -- a word of the row was written
-  pub writes_on : (s s' : InsertState) (place word w : ℕ) → state_exchanges s ≡ false → IsPassOf table old → IsInserting n table x (record op { state = s }) (caller table old)
+  pub writes_on : (s s' : InsertState) (place word w : ℕ) → state_exchanges s ≡ false → insert_kind s ≡ Write → IsPassOf table old → IsInserting n table x (record op { state = s }) (caller table old)
       → Stepped table old new (store_made Write w word) (writes op.row place word) → IsInsertingAt n table x (record op { state = s' }) s' (caller table new) → state_left s' (caller table new) < state_left s (caller table old)
       → InsertStepped n table x (record op { state = s }) (record op { state = s' }) old new More
-  writes_on s s' place word w quiet of i t at less = goes_on s s' of t.is
-      (subst (λ b. Works n b (caller table old) (caller table new)) (sym quiet) (write_works (store_made Write w word) op.row place word (caller table old) n (caller table new) refl t.part))
+  writes_on s s' place word w quiet writes of i t at less = goes_on s s' of t.is
+      (subst (λ (z : Bool × StepKind). WorksAs n z.0 z.1 (caller table old) (caller table new)) (λ k. (sym quiet k, sym writes k)) (write_works (store_made Write w word) op.row place word (caller table old) n (caller table new) refl t.part))
+      (ap (λ (y : Caller). y.debts.settle) t.part)
       (ap (λ (y : Pass). y.turns) t.same ∙ ap (λ b. turns_after b old.turns) (sym quiet)) (ap (λ (y : Pass). y.number) t.same) (ap (λ (y : Pass). y.debts) t.same) (inr (ap (λ (y : Caller). y.debts.cut) t.part)) (ap (λ (y : Caller). y.own) t.part)
       (ap (λ (y : Pass). y.free.items) t.same) at (inr less) i
 
@@ -297,12 +321,12 @@ module _ (n : ℕ) (table : Table) (x : Control) (op : InsertOp) (old new : Pass
 
     -- and the next one is to be written
     pub writes_next : place < 5 → InsertStepped n table x (record op { state = Writing place }) (record op { state = Writing (place + 1) }) old new More
-    writes_next low = writes_on (Writing place) (Writing (place + 1)) place word w refl of i t (none, omega arith, omega arith, are) (omega arith)
+    writes_next low = writes_on (Writing place) (Writing (place + 1)) place word w refl refl of i t (none, omega arith, omega arith, are) (omega arith)
 
     -- and it was the last one
     pub writes_last : 5 ≤ place → InsertStepped n table x (record op { state = Writing place }) (record op { state = Seeking (Load (Head op.list.head)) }) old new More
-    writes_last high = let last : place ≡ 5 = omega (arith, i.at.2) in writes_on (Writing place) (Seeking (Load (Head op.list.head))) place word w refl of i t (
-      seeks_anew n false table x op (Writing place) (caller table old) (caller table new) (write_works (store_made Write w word) op.row place word (caller table old) n (caller table new) refl t.part) none i,
+    writes_last high = let last : place ≡ 5 = omega (arith, i.at.2) in writes_on (Writing place) (Seeking (Load (Head op.list.head))) place word w refl refl of i t (
+      seeks_anew n false table x op (Writing place) (caller table old) (caller table new) (write_works (store_made Write w word) op.row place word (caller table old) n (caller table new) refl t.part).0 none i,
       subst (λ z. AreWritten (caller table new).written op.row op.event (z + 1)) last are,
     ) (omega (arith, i.at.2))
 
@@ -310,7 +334,7 @@ module _ (n : ℕ) (table : Table) (x : Control) (op : InsertOp) (old new : Pass
   pub writes_link : (b : Before) (word : ℕ) → word ≡ link_word b.link → IsPassOf table old → IsInserting n table x (record op { state = Placing b }) (caller table old)
       → Stepped table old new (store_made Write (index table.start.layout (link op.row)) word) (writes op.row 0 word) → InsertStepped n table x (record op { state = Placing b }) (record op { state = Linking b }) old new More
   writes_link b word is of i t = let m = store_made Write (index table.start.layout (link op.row)) word in let p = caller table old in
-      writes_on (Placing b) (Linking b) 0 word (index table.start.layout (link op.row)) refl of i t
+      writes_on (Placing b) (Linking b) 0 word (index table.start.layout (link op.row)) refl refl of i t
       (subst (IsInsertingAt n table x (record op { state = Linking b }) (Linking b)) (sym t.part) (
         there_stays m op.row 0 word p n table x (sought_by op) b i.counted (word_apart table.start.layout x op.list.head (sought_by op).target op.row b.spot p (hand_row table old of op.row i.held) i.list_is.is_head (λ s. of.lawful.apart op.row s i.held) i.at.0.passed.reached) i.at.0,
         subst (λ z. IsWritten (wrote op.row 0 z p.written) op.row op.event b.link) (sym is) (written_all p.written op.row op.event b.link i.at.0.passed.present i.at.1),
@@ -326,37 +350,45 @@ module _ (n : ℕ) (table : Table) (x : Control) (op : InsertOp) (old new : Pass
 
     -- the exchange expects the link that was found at the spot
     link_works : (f : Caller → Caller) (found : ℕ) → Stays (caller table old) (f (caller table old)) → (f (caller table old)).made ≡ (caller table old).made
-        → caller table new ≡ makes (step_made LinkKind (index table.start.layout (cell_place (cell b.spot))) (link_word b.link) (link_word (record b.link { row = op.row })) found) (f (caller table old)) → Works n true (caller table old) (caller table new)
+        → caller table new ≡ makes (step_made LinkKind (index table.start.layout (cell_place (cell b.spot))) (link_word b.link) (link_word (record b.link { row = op.row })) found) (f (caller table old)) → WorksAs n true LinkKind (caller table old) (caller table new)
     link_works f found stays made part = let m = step_made LinkKind (index table.start.layout (cell_place (cell b.spot))) (link_word b.link) (link_word (record b.link { row = op.row })) found in
-        subst (λ (q : Caller). Works n true (caller table old) q) (sym part) (record {
-          stays = record { number = stays.number; start = stays.start; deal = stays.deal; found = stays.found; guard = stays.guard };
-          step = m;
-          made = ap (λ ms. ms ++ m ∷ []) made;
-          kind = refl;
-          expects = λ _. (i.at.0.passed.known, rows_apart b.link op.row row_apart);
-          timed = λ yes. absurd (cc);
-        })
+        subst (WorksAs n true LinkKind (caller table old)) (sym part) (
+          record {
+            stays = record { number = stays.number; start = stays.start; deal = stays.deal; found = stays.found; guard = stays.guard; permit = stays.permit; sight = stays.sight; told = stays.told };
+            step = m;
+            made = ap (λ ms. ms ++ m ∷ []) made;
+            kind = refl;
+            expects = λ _. (i.at.0.passed.known, rows_apart b.link op.row row_apart);
+            timed = λ yes. absurd (cc);
+            settle = λ no. absurd (cc);
+          },
+          refl,
+        )
 
     same : Stays (caller table old) (caller table old)
-    same = record { number = refl; start = refl; deal = refl; found = refl; guard = refl }
+    same = record { number = refl; start = refl; deal = refl; found = refl; guard = refl; permit = refl; sight = refl; told = refl }
 
     -- the row was linked
-    pub links_row : LinkSwapped table old new (cell b.spot) b.link op.row op.event true → InsertStepped n table x (record op { state = Linking b }) (record op { state = Linking b }) old new (Done Linked)
+    pub links_row : LinkSwapped table old new (cell b.spot) b.link x op.row op.event true → InsertStepped n table x (record op { state = Linking b }) (record op { state = Linking b }) old new (Done Linked)
     links_row s = record {
       is = s.swapped.is;
-      works = link_works (links op.row op.event) s.swapped.found (record { number = refl; start = refl; deal = refl; found = refl; guard = refl }) refl s.swapped.part;
+      works = (linked s).0;
+      kind = (linked s).1;
       turns = s.swapped.turns;
       number = s.swapped.number;
       debts = s.debts;
       owed = inr (ap (λ (q : Caller). q.debts.cut) s.swapped.part);
-      answers = (ap (λ (q : Caller). q.own) s.swapped.part ∙ ap (λ j. (caller table old).own ++ put_entries j op.event) of.sits.numbered, s.free, ap (λ (q : Caller). q.cut) s.swapped.part ∙ i.at.0.none);
+      answers = (ap (λ (q : Caller). q.own) s.swapped.part ∙ ap (λ j. (caller table old).own ++ Put j op.event ∷ []) of.sits.numbered, s.free, ap (λ (q : Caller). q.cut) s.swapped.part ∙ i.at.0.none, ap (λ (q : Caller). q.debts.settle) s.swapped.part);
     }
+      where
+        linked : LinkSwapped table old new (cell b.spot) b.link x op.row op.event true → WorksAs n true LinkKind (caller table old) (caller table new)
+        linked s = link_works (links x op.row op.event) s.swapped.found (record { number = refl; start = refl; deal = refl; found = refl; guard = refl; permit = refl; sight = refl; told = refl }) refl s.swapped.part
 
     -- the spot's link had changed
-    pub links_not : LinkSwapped table old new (cell b.spot) b.link op.row op.event false → InsertStepped n table x (record op { state = Linking b }) (record op { state = Seeking (Load (Head op.list.head)) }) old new More
+    pub links_not : LinkSwapped table old new (cell b.spot) b.link x op.row op.event false → InsertStepped n table x (record op { state = Linking b }) (record op { state = Seeking (Load (Head op.list.head)) }) old new More
     links_not s = let works = link_works (λ p. p) s.swapped.found same refl s.swapped.part in
-        goes_on (Linking b) (Seeking (Load (Head op.list.head))) of s.swapped.is works s.swapped.turns s.swapped.number s.debts (inr (ap (λ (q : Caller). q.debts.cut) s.swapped.part)) (ap (λ (q : Caller). q.own) s.swapped.part) s.free (
-          seeks_anew n true table x op (Linking b) (caller table old) (caller table new) works (ap (λ (q : Caller). q.cut) s.swapped.part ∙ i.at.0.none) i,
+        goes_on (Linking b) (Seeking (Load (Head op.list.head))) of s.swapped.is works (ap (λ (q : Caller). q.debts.settle) s.swapped.part) s.swapped.turns s.swapped.number s.debts (inr (ap (λ (q : Caller). q.debts.cut) s.swapped.part)) (ap (λ (q : Caller). q.own) s.swapped.part) s.free (
+          seeks_anew n true table x op (Linking b) (caller table old) (caller table new) works.0 (ap (λ (q : Caller). q.cut) s.swapped.part ∙ i.at.0.none) i,
           subst (λ (q : Caller). AreWritten q.written op.row op.event 6) (sym s.swapped.part) (written_back (caller table old).written op.row op.event b.link i.at.1),
         ) (inl refl) i
 

@@ -1,6 +1,10 @@
 pub mod StepLaws
 pub mod InsertLaws
+pub mod Heads
+pub mod TakeLoads
 pub mod TakeLaws
+pub mod TakeMarks
+pub mod TakeUses
 pub mod SweepLaws
 pub mod SeekLaws
 pub mod SeekSteps

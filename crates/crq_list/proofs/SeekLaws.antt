@@ -13,10 +13,11 @@ use Rattle.crq_base.specs.Lists.{In}
 use Rattle.crq_rule.specs.declared.debts.CutDebt.{CutDebt}
 use Rattle.crq_rule.specs.declared.layout.Layout.{Layout}
 use Rattle.crq_rule.specs.declared.view.Stand.{Stand}
-use Rattle.crq_rule.specs.Places.{index, IsHead, link}
+use Rattle.crq_rule.specs.declared.view.Walk.{Walk}
+use Rattle.crq_rule.specs.Places.{index, IsHead, link, current}
 use Rattle.crq_rule.specs.Parts.{IsEvent}
 use Rattle.crq_rule.specs.Ranks.{rank, head_of, Cell, at_head, at_row, cell_place}
-use Rattle.crq_rule.specs.ListKinds.{StandsOn, is_final, is_cell, is_twin, is_beyond, is_past, is_other_front, relieved, new_stand, next_stand, only_row, noted_stand, noted, kept_stands, stands_after, without_stand, event_word, row_place}
+use Rattle.crq_rule.specs.ListKinds.{StandsOn, Aim, no_take, is_take, least_stands, search_stands, is_final, is_cell, is_twin, is_beyond, is_past, is_other_front, relieved, new_stand, next_stand, only_row, noted_stand, noted, kept_stands, stands_after, without_stand, event_word, row_place}
 use Rattle.crq_list.specs.Spots.{rank_at}
 use Rattle.crq_list.specs.Seeking.{HasRead, key_part, part_of}
 
@@ -79,26 +80,38 @@ next_on cell l e some = cond_both (eqb l.row 0) [] (new_stand cell l e ∷ []) (
     (λ yes. let z = eqb-true l.row 0 yes in absurd (omega arith)) (λ _. (new_stand cell l e, inl refl, refl, refl))
 
 -- after a walk its caller stands on the row that the link names
-pub walk_next : (cell : Cell) (seeks : Bool) (l : Link) (e : Event) (ss : List Stand) → 0 < l.row → StandsOn (stands_after cell seeks l e ss) l.row e
-walk_next (at_head q) seeks l e ss some = next_on (at_head q) l e some
-walk_next (at_row r) seeks l e ss some = join_left (next_stand (at_row r) l e) (noted r l (kept_stands seeks r l ss)) l.row e (next_on (at_row r) l e some)
+pub walk_next : (cell : Cell) (aim : Aim) (w : Option Walk) (l : Link) (e : Event) (ss : List Stand) → 0 < l.row → StandsOn (stands_after cell aim w l e ss) l.row e
+walk_next (at_head q) aim w l e ss some = join_right (search_stands w ss) (next_stand (at_head q) l e) l.row e (next_on (at_head q) l e some)
+walk_next (at_row r) aim w l e ss some = join_right (search_stands w ss) (next_stand (at_row r) l e ++ noted r l (kept_stands (is_take aim) r l ss)) l.row e
+    (join_left (next_stand (at_row r) l e) (noted r l (kept_stands (is_take aim) r l ss)) l.row e (next_on (at_row r) l e some))
 
 -- and on the row that it walked from
-pub walk_here : (r : ℕ) (seeks : Bool) (l : Link) (e : Event) (ss : List Stand) (f : Event) → StandsOn ss r f → StandsOn (stands_after (at_row r) seeks l e ss) r f
-walk_here r seeks l e ss f on = let kept = cond_both (seeks || is_cell l.mark) (only_row r ss) ss (λ xs. StandsOn xs r f) (λ _. only_stands r ss f on) (λ _. on) in
-    join_right (next_stand (at_row r) l e) (noted r l (kept_stands seeks r l ss)) r f (noted_stands r l (kept_stands seeks r l ss) r f kept)
+pub walk_here : (r : ℕ) (aim : Aim) (w : Option Walk) (l : Link) (e : Event) (ss : List Stand) (f : Event) → StandsOn ss r f → StandsOn (stands_after (at_row r) aim w l e ss) r f
+walk_here r aim w l e ss f on = let kept = cond_both (is_take aim || is_cell l.mark) (only_row r ss) ss (λ xs. StandsOn xs r f) (λ _. only_stands r ss f on) (λ _. on) in
+    join_right (search_stands w ss) (next_stand (at_row r) l e ++ noted r l (kept_stands (is_take aim) r l ss)) r f
+    (join_right (next_stand (at_row r) l e) (noted r l (kept_stands (is_take aim) r l ss)) r f (noted_stands r l (kept_stands (is_take aim) r l ss) r f kept))
 
-dead_stands : (r : ℕ) (l : Link) (e : Event) (ss : List Stand) → l.mark ≡ Del → stands_after (at_row r) false l e ss ≡ next_stand (at_row r) l e ++ noted r l ss
+-- a search keeps the stands on its least row
+least_here : (least : Option (ℕ × Event)) (ss : List Stand) (t : ℕ × Event) (f : Event) → least ≡ Some t → StandsOn ss t.0 f → StandsOn (least_stands least ss) t.0 f
+least_here least ss t f is on = subst (λ o. StandsOn (least_stands o ss) t.0 f) (sym is) (only_stands t.0 ss f on)
+
+pub walk_least : (cell : Cell) (aim : Aim) (w : Walk) (t : ℕ × Event) (l : Link) (e : Event) (ss : List Stand) (f : Event) → w.least ≡ Some t → StandsOn ss t.0 f → StandsOn (stands_after cell aim (Some w) l e ss) t.0 f
+walk_least (at_head q) aim w t l e ss f is on = join_left (search_stands (Some w) ss) (next_stand (at_head q) l e) t.0 f (least_here w.least ss t f is on)
+walk_least (at_row r) aim w t l e ss f is on = join_left (search_stands (Some w) ss) (next_stand (at_row r) l e ++ noted r l (kept_stands (is_take aim) r l ss)) t.0 f (least_here w.least ss t f is on)
+
+dead_stands : (r : ℕ) (l : Link) (e : Event) (ss : List Stand) → l.mark ≡ Del → next_stand (at_row r) l e ++ noted r l (kept_stands false r l ss) ≡ next_stand (at_row r) l e ++ noted r l ss
 dead_stands r l e ss dead = ap (λ (m : Mark). next_stand (at_row r) l e ++ noted r l (cond (false || is_cell m) (only_row r ss) ss)) dead
 
 -- where the row is dead all stands are kept
-pub dead_kept : (r : ℕ) (l : Link) (e : Event) (ss : List Stand) (s : ℕ) (f : Event) → l.mark ≡ Del → StandsOn ss s f → StandsOn (stands_after (at_row r) false l e ss) s f
-dead_kept r l e ss s f dead on = subst (λ xs. StandsOn xs s f) (sym (dead_stands r l e ss dead)) (join_right (next_stand (at_row r) l e) (noted r l ss) s f (noted_stands r l ss s f on))
+pub dead_kept : (r : ℕ) (w : Option Walk) (l : Link) (e : Event) (ss : List Stand) (s : ℕ) (f : Event) → l.mark ≡ Del → StandsOn ss s f → StandsOn (stands_after (at_row r) no_take w l e ss) s f
+dead_kept r w l e ss s f dead on = join_right (search_stands w ss) (next_stand (at_row r) l e ++ noted r l (kept_stands false r l ss)) s f
+    (subst (λ xs. StandsOn xs s f) (sym (dead_stands r l e ss dead)) (join_right (next_stand (at_row r) l e) (noted r l ss) s f (noted_stands r l ss s f on)))
 
 -- and its last link is known
-pub dead_last : (r : ℕ) (l : Link) (e : Event) (ss : List Stand) (f : Event) → l.mark ≡ Del → StandsOn ss r f
-    → (t : Stand) × In t (stands_after (at_row r) false l e ss) × (t.row ≡ r) × (t.last ≡ Some l)
-dead_last r l e ss f dead on = let t = noted_last r l ss f dead on in (t.0, subst (In t.0) (sym (dead_stands r l e ss dead)) (later (next_stand (at_row r) l e) (noted r l ss) t.0 t.1), t.2, t.3)
+pub dead_last : (r : ℕ) (w : Option Walk) (l : Link) (e : Event) (ss : List Stand) (f : Event) → l.mark ≡ Del → StandsOn ss r f
+    → (t : Stand) × In t (stands_after (at_row r) no_take w l e ss) × (t.row ≡ r) × (t.last ≡ Some l)
+dead_last r w l e ss f dead on = let t = noted_last r l ss f dead on in
+    (t.0, later (search_stands w ss) (next_stand (at_row r) l e ++ noted r l (kept_stands false r l ss)) t.0 (subst (In t.0) (sym (dead_stands r l e ss dead)) (later (next_stand (at_row r) l e) (noted r l ss) t.0 t.1)), t.2, t.3)
   where
     later : (xs ys : List Stand) (t : Stand) → In t ys → In t (xs ++ ys)
     later [] ys t i = i
@@ -156,6 +169,19 @@ IsCell (at_row r) = Unit {0}
 pub link_apart : (l : Layout) (r : ℕ) (cell : Cell) → 0 < r → IsCell cell → ((s : ℕ) → cell ≡ at_row s → s ≢ r) → index l (link r) ≢ index l (cell_place cell)
 link_apart l r (at_head q) some is ne e = omega arith
 link_apart l r (at_row s) some is ne e = ne s refl (omega arith)
+
+-- no word of a list is current's
+pub cell_elsewhere : (l : Layout) (cell : Cell) → index l (cell_place cell) ≢ index l current
+cell_elsewhere l (at_head q) e = omega arith
+cell_elsewhere l (at_row r) e = omega arith
+
+pub word_elsewhere : (l : Layout) (r place : ℕ) → index l (row_place r place) ≢ index l current
+word_elsewhere l r zero e = omega arith
+word_elsewhere l r (suc zero) e = omega arith
+word_elsewhere l r (suc (suc zero)) e = omega arith
+word_elsewhere l r (suc (suc (suc zero))) e = omega arith
+word_elsewhere l r (suc (suc (suc (suc zero)))) e = omega arith
+word_elsewhere l r (suc (suc (suc (suc (suc n))))) e = omega arith
 
 -- a word of an event isn't a link
 pub event_apart : (l : Layout) (r place : ℕ) (cell : Cell) → 0 < r → 2 ≤ place → IsCell cell → index l (row_place r place) ≢ index l (cell_place cell)

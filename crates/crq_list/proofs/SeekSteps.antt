@@ -1,6 +1,6 @@
 -- What each step of a walk to a sought.target tells.
 use Rattle.std.proofs.Common.{◌≡◌, ◌≢◌, ◌⊎◌, ⊎_elim, inl, inr, ℕ, ◌+◌, ◌*◌, ◌^◌, ◌<◌, ◌≤◌, eqb, Bool, true, false, [], ◌∷◌, ◌++◌, drop, length, Option, Some, None, sym, refl, ap, ◌∙◌, subst, arith, eq-eqb}
-use Rattle.std.proofs.lemmas.Bool.{cond_both, eqb-true, eqb-false}
+use Rattle.std.proofs.lemmas.Bool.{false≢true, cond_both, eqb-true, eqb-false}
 use Rattle.std.proofs.lemmas.List.{length-append}
 use Rattle.crq_base.specs.declared.event.Event.{Event}
 use Rattle.crq_base.specs.declared.kinds.StepKind.TheVariants.{Walk, Read, EpochLoad, Retire, Cut}
@@ -13,12 +13,13 @@ use Rattle.crq_rule.specs.declared.debts.CutDebt.{CutDebt}
 use Rattle.crq_rule.specs.declared.pass.Pass.{Pass}
 use Rattle.crq_rule.specs.declared.pass.Table.{Table}
 use Rattle.crq_rule.specs.declared.view.Made.{Made}
+use Rattle.crq_rule.specs.declared.view.Walk.{Walk as TakeWalk}
 use Rattle.crq_rule.specs.declared.view.Caller.{Caller}
 use Rattle.crq_rule.specs.Places.{index, IsHead, epoch, stamp}
 use Rattle.crq_rule.specs.Parts.{IsEvent, IsOn}
 use Rattle.crq_rule.specs.Kinds.{makes, loads_epoch, tagged, retires}
 use Rattle.crq_rule.specs.Ranks.{rank, head_of, IsOpen, Cell, at_head, at_row, cell_place}
-use Rattle.crq_rule.specs.ListKinds.{StandsOn, MayWalk, MayCut, is_beyond, walks, cuts, event_word, row_place, relieved, unnamed}
+use Rattle.crq_rule.specs.ListKinds.{StandsOn, no_take, walk_after, MayWalk, MayCut, is_beyond, walks, cuts, event_word, row_place, relieved, unnamed}
 use Rattle.crq_rule.specs.Moves.{Lawful, WalksOn, IsWalkable}
 use Rattle.crq_rows.specs.Passes.{caller, IsPassOf, Stepped, load_made, store_made, step_made}
 use Rattle.crq_rows.specs.Reading.{stays}
@@ -33,7 +34,7 @@ use Rattle.crq_list.specs.declared.seek.SeekEnd.TheVariants.{There}
 use Rattle.crq_list.specs.declared.parts.Progress.{Progress}
 use Rattle.crq_list.specs.Known.{Works, Stays, turns_after, last_known}
 use Rattle.crq_list.specs.Spots.{cell, Target, IsUpTo, IsAfter, IsReached, IsBeyondSpot, Next, IsPassed, IsListOf, far, left_of}
-use Rattle.crq_list.specs.Seeking.{spot_of, HasRead, IsPassing, IsAt, IsSeeking, next_seek, key_part, part_of, seek_exchanges, seek_left, IsThere, SeekAnswers, KeepsPassing, Keeps, SeekStepped}
+use Rattle.crq_list.specs.Seeking.{spot_of, HasRead, IsPassing, IsAt, IsSeeking, next_seek, key_part, part_of, seek_exchanges, seek_kind, seek_left, IsThere, SeekAnswers, KeepsPassing, Keeps, SeekStepped}
 use Rattle.crq_list.specs.Swaps.{Saw, CutSwapped, where_won}
 use Rattle.crq_list.specs.declared.parts.Progress.TheVariants.{More, Done}
 use Rattle.crq_list.specs.declared.cut.CutEnd.TheVariants.{Clean}
@@ -49,6 +50,7 @@ use Rattle.crq_list.proofs.SeekLaws.{rank_some, rank_limit, rank_at_is, walk_nex
 
 pub record Told (n : ℕ) (table : Table) (x : Control) (sought : Sought) (seek seek' : SeekState) (p q : Caller) (answer : Progress SeekEnd) : Type 0 where
   pub works : Works n (seek_exchanges seek) p q
+  pub kind : works.step.kind ≡ seek_kind seek
   pub own : q.own ≡ p.own
   pub written : q.written ≡ p.written
   pub owed : (q.debts.cut ≡ None) ⊎ (q.debts.cut ≡ p.debts.cut)
@@ -123,17 +125,20 @@ module _ (n : ℕ) (table : Table) (x : Control) (sought : Sought) (p : Caller) 
 
   -- Walks
 
+  abbrev walk_on : Cell → Link → Option TakeWalk
+  walk_on cell l = walk_after cell no_take p.sight l p.walk p.position.rows
+
   abbrev pub seen : Spot → Link → Event → Caller
-  seen spot l e = makes (load_made Walk (index table.start.layout (cell_place (cell spot))) (link_word l)) (walks (cell spot) false l e p)
+  seen spot l e = makes (load_made Walk (index table.start.layout (cell_place (cell spot))) (link_word l)) (walks (cell spot) no_take l e p)
 
   abbrev walk_made : Spot → Link → Made
   walk_made spot l = load_made Walk (index table.start.layout (cell_place (cell spot))) (link_word l)
 
   walk_stays : (spot : Spot) (l : Link) (e : Event) → Stays p (seen spot l e)
-  walk_stays spot l e = record { number = refl; start = refl; deal = refl; found = refl; guard = refl }
+  walk_stays spot l e = record { number = refl; start = refl; deal = refl; found = refl; guard = refl; permit = refl; sight = refl; told = refl }
 
-  walk_works : (spot : Spot) (l : Link) (e : Event) → Works n false p (seen spot l e)
-  walk_works spot l e = record { stays = walk_stays spot l e; step = walk_made spot l; made = refl; kind = refl; expects = λ no. absurd (cc); timed = λ no. absurd (cc) }
+  abbrev walk_works : (spot : Spot) (l : Link) (e : Event) → Works n false p (seen spot l e)
+  walk_works spot l e = record { stays = walk_stays spot l e; step = walk_made spot l; made = refl; kind = refl; expects = λ no. absurd (false≢true no); timed = λ no. absurd (false≢true no); settle = λ _. refl }
 
   -- of the one dead row that is owed
   walk_first : (spot : Spot) (l : Link) (e : Event) → Lawful p → (seen spot l e).debts.cut ≡ relieved p.found.control (cell spot) p.position.rows l e p.debts.cut
@@ -141,7 +146,7 @@ module _ (n : ℕ) (table : Table) (x : Control) (sought : Sought) (p : Caller) 
 
   reached_walk : (spot : Spot) (l : Link) (e : Event) → IsReached x sought.list.head sought.target spot p → IsReached x sought.list.head sought.target spot (seen spot l e)
   reached_walk (Head h) l e reached = reached
-  reached_walk (Row r) l e reached = (reached.0, walk_here r false l e p.position.rows reached.0 reached.1, reached.2, reached.3)
+  reached_walk (Row r) l e reached = (reached.0, walk_here r no_take (walk_on (at_row r) l) l e p.position.rows reached.0 reached.1, reached.2, reached.3)
 
   -- the link of a spot of the list is of its table
   spot_now : (spot : Spot) (l : Link) → IsListOf x sought.list p → IsReached x sought.list.head sought.target spot p → IsWalkable (cell spot) l p → l.generation ≡ x.generation
@@ -158,11 +163,11 @@ module _ (n : ℕ) (table : Table) (x : Control) (sought : Sought) (p : Caller) 
     known = known_here n p.made (load_made Walk (index table.start.layout (cell_place (cell spot))) (link_word l)) (index table.start.layout (cell_place (cell spot))) begun refl;
     reached = reached_walk spot l e reached;
     swept = sweep_passes n p.made (seen spot l e).made (walk_made spot l) refl begun table.start.layout (at_head sought.list.head) (cell spot) l (record { load = refl; bits = bits; present = present }) swept;
-    next = λ some. record { event = e; on = walk_next (cell spot) false l e p.position.rows some; belongs = belongs spot reached next some; beyond = beyond spot law' reached next some };
+    next = λ some. record { event = e; on = walk_next (cell spot) no_take (walk_on (cell spot) l) l e p.position.rows some; belongs = belongs spot reached next some; beyond = beyond spot law' reached next some };
     owed = record {
       ahead = λ d same at owed. let first = sym (walk_first spot l e law) ∙ owed in let now = law.owed_now d x (was_owed p.found.control (cell spot) p.position.rows l e p.debts.cut d first) is.control in
           let ahead = still_ahead p.found.control (cell spot) p.position.rows l e p.debts.cut d present (spot_now spot l is reached walkable ∙ sym now) (past spot reached d same now at) first in
-          (ahead.0, λ f on. subst (λ z. rank z l.row ≤ rank d.event d.row) (one_event (seen spot l e) law' l.row e f (walk_next (cell spot) false l e p.position.rows ahead.0) on) ahead.1);
+          (ahead.0, λ f on. subst (λ z. rank z l.row ≤ rank d.event d.row) (one_event (seen spot l e) law' l.row e f (walk_next (cell spot) no_take (walk_on (cell spot) l) l e p.position.rows ahead.0) on) ahead.1);
     };
   }
     where
@@ -172,7 +177,7 @@ module _ (n : ℕ) (table : Table) (x : Control) (sought : Sought) (p : Caller) 
 
       beyond : (s : Spot) → Lawful (seen s l e) → IsReached x sought.list.head sought.target s p → WalksOn (cell s) l e p → 0 < l.row → IsBeyondSpot s e l.row (seen s l e)
       beyond (Head h) law' reached next some = tt
-      beyond (Row r) law' reached next some = λ f on. subst (λ z. rank z r < rank e l.row) (one_event (seen (Row r) l e) law' r reached.0 f (walk_here r false l e p.position.rows reached.0 reached.1) on) (next reached.0 reached.1 some).0
+      beyond (Row r) law' reached next some = λ f on. subst (λ z. rank z r < rank e l.row) (one_event (seen (Row r) l e) law' r reached.0 f (walk_here r no_take (walk_on (at_row r) l) l e p.position.rows reached.0 reached.1) on) (next reached.0 reached.1 some).0
 
       past : (s : Spot) → IsReached x sought.list.head sought.target s p → (d : CutDebt) → sought.target ≡ Some (d.event, d.row) → d.generation ≡ x.generation → d.head ≡ sought.list.head → is_beyond p.found.control (cell s) p.position.rows d ≡ true
       past (Head h) reached d same now at = eq-eqb d.head h (at ∙ sym reached)
@@ -194,6 +199,7 @@ module _ (n : ℕ) (table : Table) (x : Control) (sought : Sought) (p : Caller) 
       → let b : Before = record { spot = spot; link = l } in Told n table x sought (Load spot) (next_seek b sought.target).0 p (seen spot l e) (next_seek b sought.target).1
   load_val spot l e at law law' bits present walkable next = let b : Before = record { spot = spot; link = l } in record {
     works = walk_works spot l e;
+    kind = refl;
     own = refl;
     written = refl;
     owed = owed_walk spot l e law;
@@ -206,6 +212,7 @@ module _ (n : ℕ) (table : Table) (x : Control) (sought : Sought) (p : Caller) 
   pub load_del : (r : ℕ) (l : Link) (e : Event) → Lawful p → IsSeeking n table x sought (Load (Row r)) p → Told n table x sought (Load (Row r)) (Load (Head sought.list.head)) p (seen (Row r) l e) More
   load_del r l e law at = record {
     works = walk_works (Row r) l e;
+    kind = refl;
     own = refl;
     written = refl;
     owed = owed_walk (Row r) l e law;
@@ -281,11 +288,12 @@ module _ (n : ℕ) (table : Table) (x : Control) (sought : Sought) (p : Caller) 
       let q = seen spot l e in
       let reached = next_row b at.at.1 in let next = at.at.1.passed.next at.at.1.some_row in
       let fits = stand_fits p law b.link.row next.event next.on in
-      let there = walk_here b.link.row false l e p.position.rows next.event next.on in
+      let there = walk_here b.link.row no_take (walk_on (at_row b.link.row) l) l e p.position.rows next.event next.on in
       let here : far spot q ≡ rank next.event b.link.row = rank_at_is q.position.rows b.link.row next.event (λ g h. one_event q law' b.link.row g next.event h there) there in
       let low : far b.spot p < rank next.event b.link.row = far_below law b.spot next.event b.link.row at.at.1.some_row at.at.1.passed.reached next.beyond in
       let high : rank next.event b.link.row < 2 ^ 160 = rank_limit next.event b.link.row fits.1 fits.0 in record {
         works = walk_works spot l e;
+        kind = refl;
         own = refl;
         written = refl;
         owed = owed_walk spot l e law;
@@ -297,26 +305,27 @@ module _ (n : ℕ) (table : Table) (x : Control) (sought : Sought) (p : Caller) 
   -- the link of a dead row doesn't name the row itself
   link_onward : (r : ℕ) (l : Link) (e f : Event) → Lawful (seen (Row r) l e) → 0 < r → l.mark ≡ Del → StandsOn p.position.rows r f → WalksOn (at_row r) l e p → l.row ≢ r
   link_onward r l e f law' pos dead on up same = let some : 0 < l.row = omega arith in let q = seen (Row r) l e in
-      let there = subst (λ z. StandsOn q.position.rows z e) same (walk_next (at_row r) false l e p.position.rows some) in
-      let one = one_event q law' r f e (dead_kept r l e p.position.rows r f dead on) there in
+      let there = subst (λ z. StandsOn q.position.rows z e) same (walk_next (at_row r) no_take (walk_on (at_row r) l) l e p.position.rows some) in
+      let one = one_event q law' r f e (dead_kept r (walk_on (at_row r) l) l e p.position.rows r f dead on) there in
       let high = subst (λ z. rank f r < rank e z) same (up f on some).0 in let even = ap (λ z. rank z r) one in omega arith
 
   pub pass_del : (b : Before) (l : Link) (e : Event) → IsSeeking n table x sought (Passing b) p → Lawful p → Lawful (seen (Row b.link.row) l e) → IsLink l → l.mark ≡ Del → WalksOn (at_row b.link.row) l e p
       → Told n table x sought (Passing b) (Cutting b l) p (seen (Row b.link.row) l e) More
   pass_del b l e at law law' bits dead on = let spot : Spot = Row b.link.row in let q = seen spot l e in
-      let keeps : (s : ℕ) (f : Event) → StandsOn p.position.rows s f → StandsOn q.position.rows s f = λ s f. dead_kept b.link.row l e p.position.rows s f dead in
+      let keeps : (s : ℕ) (f : Event) → StandsOn p.position.rows s f → StandsOn q.position.rows s f = λ s f. dead_kept b.link.row (walk_on (at_row b.link.row) l) l e p.position.rows s f dead in
       let passing = at.at.1 in let next = passing.passed.next passing.some_row in
       let known = known_else n p.made (walk_made spot l) (index table.start.layout (cell_place (cell b.spot))) at.counted
       (link_apart table.start.layout b.link.row (cell b.spot) passing.some_row (spot_fits b.spot at.list_is passing.passed.reached) (spot_apart b.spot next.event b.link.row next.on next.beyond)) in
       let same : far b.spot q ≡ far b.spot p = far_stays q law' keeps law b.spot passing.passed.reached in record {
         works = walk_works spot l e;
+        kind = refl;
         own = refl;
         written = refl;
         owed = owed_walk spot l e law;
         keeps = (refl, keeps);
         answers = (
           go_on (Passing b) (Cutting b l) q (walk_made spot l) refl (walk_stays spot l e) at (swept_on (Passing b) q (walk_made spot l) refl at)
-              (at.at.0, passing_stays q law' keeps b known (sweep_stays n p.made q.made (walk_made spot l) refl at.counted table.start.layout (at_head sought.list.head) (at_row b.link.row)) (λ d owed. was_owed p.found.control (at_row b.link.row) p.position.rows l e p.debts.cut d (sym (walk_first (Row b.link.row) l e law) ∙ owed)) passing, bits, dead, link_onward b.link.row l e next.event law' passing.some_row dead next.on on, dead_last b.link.row l e p.position.rows next.event dead next.on),
+              (at.at.0, passing_stays q law' keeps b known (sweep_stays n p.made q.made (walk_made spot l) refl at.counted table.start.layout (at_head sought.list.head) (at_row b.link.row)) (λ d owed. was_owed p.found.control (at_row b.link.row) p.position.rows l e p.debts.cut d (sym (walk_first (Row b.link.row) l e law) ∙ owed)) passing, bits, dead, link_onward b.link.row l e next.event law' passing.some_row dead next.on on, dead_last b.link.row (walk_on (at_row b.link.row) l) l e p.position.rows next.event dead next.on),
           inr (omega arith),
         );
       }
@@ -331,18 +340,19 @@ module _ (n : ℕ) (table : Table) (x : Control) (sought : Sought) (p : Caller) 
 
   module _ (b : Before) (place word : ℕ) (t : Event × ℕ) (is : sought.target ≡ Some t) (at : IsSeeking n table x sought (Reading b place) p) (law : Lawful p) (law' : Lawful (read_of b.link.row place word))
       (tells : (e : Event) → StandsOn p.position.rows b.link.row e → word ≡ event_word e place) where
-    read_works : Works n false p (read_of b.link.row place word)
+    abbrev read_works : Works n false p (read_of b.link.row place word)
     read_works = record {
-      stays = record { number = refl; start = refl; deal = refl; found = refl; guard = refl };
+      stays = record { number = refl; start = refl; deal = refl; found = refl; guard = refl; permit = refl; sight = refl; told = refl };
       step = read_made b.link.row place word;
       made = refl;
       kind = refl;
-      expects = λ no. absurd (cc);
-      timed = λ no. absurd (cc);
+      expects = λ no. absurd (false≢true no);
+      timed = λ no. absurd (false≢true no);
+      settle = λ _. refl;
     }
 
     read_goes : (seek' : SeekState) → spot_of seek' ≡ b.spot → IsAt n table x sought seek' (read_of b.link.row place word) → IsSeeking n table x sought seek' (read_of b.link.row place word)
-    read_goes seek' spot there = go_on (Reading b place) seek' (read_of b.link.row place word) (read_made b.link.row place word) refl (record { number = refl; start = refl; deal = refl; found = refl; guard = refl }) at
+    read_goes seek' spot there = go_on (Reading b place) seek' (read_of b.link.row place word) (read_made b.link.row place word) refl (record { number = refl; start = refl; deal = refl; found = refl; guard = refl; permit = refl; sight = refl; told = refl }) at
         (subst (λ s. Sweeps (read_of b.link.row place word) (cell s)) (sym spot) (swept_on (Reading b place) (read_of b.link.row place word) (read_made b.link.row place word) refl at)) there
 
     read_passed : IsPassed n table.start.layout x sought b (read_of b.link.row place word)
@@ -357,7 +367,7 @@ module _ (n : ℕ) (table : Table) (x : Control) (sought : Sought) (p : Caller) 
 
     read_told : (seek' : SeekState) (answer : Progress SeekEnd) → SeekAnswers n table x sought (Reading b place) seek' p (read_of b.link.row place word) answer
         → Told n table x sought (Reading b place) seek' p (read_of b.link.row place word) answer
-    read_told seek' answer answers = record { works = read_works; own = refl; written = refl; owed = inr refl; keeps = tt; answers = answers }
+    read_told seek' answer answers = record { works = read_works; kind = refl; own = refl; written = refl; owed = inr refl; keeps = tt; answers = answers }
 
     has_read : (e : Event) → StandsOn p.position.rows b.link.row e → HasRead place e t.0
     has_read e on = let before = at.at.5 in subst (λ (z : Event × ℕ). HasRead place e z.0) (one_target before.0 t (sym before.1 ∙ is)) (before.2 e on)
@@ -414,9 +424,10 @@ module _ (n : ℕ) (table : Table) (x : Control) (sought : Sought) (p : Caller) 
   reached_cut (Row s) e r m on beyond reached = (reached.0, without_stands r p.position.rows s reached.0 (spot_apart (Row s) e r on beyond s refl) reached.1, reached.2, reached.3)
 
   pub cut_won : (b : Before) (last : Link) (found : ℕ) → Lawful p → IsSeeking n table x sought (Cutting b last) p → Told n table x sought (Cutting b last) (Tagging b.spot b.link.row) p (makes (cut_made b last found) (cuts b.link.row p)) More
-  cut_won b last found law at = let passed = at.at.1.passed in let next = passed.next at.at.1.some_row in let stays : Stays p (makes (cut_made b last found) (cuts b.link.row p)) = record { number = refl; start = refl; deal = refl; found = refl; guard = refl } in
+  cut_won b last found law at = let passed = at.at.1.passed in let next = passed.next at.at.1.some_row in let stays : Stays p (makes (cut_made b last found) (cuts b.link.row p)) = record { number = refl; start = refl; deal = refl; found = refl; guard = refl; permit = refl; sight = refl; told = refl } in
       let first = moved_first (unnamed b.link.row p.debts.cut) (unnamed b.link.row p.debts.second_cut) (ap (unnamed b.link.row) law.one_name) in record {
-        works = record { stays = stays; step = cut_made b last found; made = refl; kind = refl; expects = λ _. (passed.known, rows_apart b.link last.row at.at.4); timed = λ no. absurd (cc) };
+        works = record { stays = stays; step = cut_made b last found; made = refl; kind = refl; expects = λ _. (passed.known, rows_apart b.link last.row at.at.4); timed = λ no. absurd (cc); settle = λ _. refl };
+        kind = refl;
         own = refl;
         written = refl;
         owed = ⊎_elim (λ same. inr (first ∙ same)) (λ none. inl (first ∙ none)) (unnamed_is b.link.row p.debts.cut);
@@ -429,8 +440,9 @@ module _ (n : ℕ) (table : Table) (x : Control) (sought : Sought) (p : Caller) 
       }
 
   pub cut_lost : (b : Before) (last : Link) (found : ℕ) → IsSeeking n table x sought (Cutting b last) p → Told n table x sought (Cutting b last) (Load (Head sought.list.head)) p (makes (cut_made b last found) p) More
-  cut_lost b last found at = let stays : Stays p (makes (cut_made b last found) p) = record { number = refl; start = refl; deal = refl; found = refl; guard = refl } in record {
-    works = record { stays = stays; step = cut_made b last found; made = refl; kind = refl; expects = λ _. (at.at.1.passed.known, rows_apart b.link last.row at.at.4); timed = λ no. absurd (cc) };
+  cut_lost b last found at = let stays : Stays p (makes (cut_made b last found) p) = record { number = refl; start = refl; deal = refl; found = refl; guard = refl; permit = refl; sight = refl; told = refl } in record {
+    works = record { stays = stays; step = cut_made b last found; made = refl; kind = refl; expects = λ _. (at.at.1.passed.known, rows_apart b.link last.row at.at.4); timed = λ no. absurd (cc); settle = λ _. refl };
+    kind = refl;
     own = refl;
     written = refl;
     owed = inr refl;
@@ -447,8 +459,9 @@ module _ (n : ℕ) (table : Table) (x : Control) (sought : Sought) (p : Caller) 
   pub tag_told : (spot : Spot) (row e : ℕ) → IsSeeking n table x sought (Tagging spot row) p
       → Told n table x sought (Tagging spot row) (Retiring spot row e) p (makes (load_made EpochLoad (index table.start.layout epoch) e) (loads_epoch e p)) More
   tag_told spot row e at = let m = load_made EpochLoad (index table.start.layout epoch) e in let q = makes m (loads_epoch e p) in let y = at.at.1 in
-      let stays : Stays p q = record { number = refl; start = refl; deal = refl; found = refl; guard = refl } in record {
-        works = record { stays = stays; step = m; made = refl; kind = refl; expects = λ no. absurd (cc); timed = λ no. absurd (cc) };
+      let stays : Stays p q = record { number = refl; start = refl; deal = refl; found = refl; guard = refl; permit = refl; sight = refl; told = refl } in record {
+        works = record { stays = stays; step = m; made = refl; kind = refl; expects = λ no. absurd (cc); timed = λ no. absurd (cc); settle = λ _. refl };
+        kind = refl;
         own = refl;
         written = refl;
         owed = inr refl;
@@ -459,8 +472,9 @@ module _ (n : ℕ) (table : Table) (x : Control) (sought : Sought) (p : Caller) 
   pub retire_told : (spot : Spot) (row tag : ℕ) → IsSeeking n table x sought (Retiring spot row tag) p
       → Told n table x sought (Retiring spot row tag) (Load spot) p (makes (store_made Retire (index table.start.layout (stamp row)) (tag + 1)) (retires p)) More
   retire_told spot row tag at = let m = store_made Retire (index table.start.layout (stamp row)) (tag + 1) in let q = makes m (retires p) in
-      let stays : Stays p q = record { number = refl; start = refl; deal = refl; found = refl; guard = refl } in record {
-        works = record { stays = stays; step = m; made = refl; kind = refl; expects = λ no. absurd (cc); timed = λ no. absurd (cc) };
+      let stays : Stays p q = record { number = refl; start = refl; deal = refl; found = refl; guard = refl; permit = refl; sight = refl; told = refl } in record {
+        works = record { stays = stays; step = m; made = refl; kind = refl; expects = λ no. absurd (cc); timed = λ no. absurd (cc); settle = λ _. refl };
+        kind = refl;
         own = refl;
         written = refl;
         owed = inr refl;
@@ -481,6 +495,7 @@ module _ (n : ℕ) (table : Table) (x : Control) (sought : Sought) (old new : Pa
   stepped seek seek' q answer is same part loads at = let told = subst (λ z. Told n table x sought seek seek' (caller table old) z answer) (sym part) at in record {
     is = is;
     works = told.works;
+    kind = told.kind;
     turns = ap (λ (z : Pass). z.turns) same ∙ ap (λ b. turns_after b old.turns) (sym loads);
     number = ap (λ (z : Pass). z.number) same;
     free = ap (λ (z : Pass). z.free.items) same;
@@ -497,6 +512,7 @@ module _ (n : ℕ) (table : Table) (x : Control) (sought : Sought) (old new : Pa
   exchanged b last won seek' q answer cut part at = let told = subst (λ z. Told n table x sought (Cutting b last) seek' (caller table old) z answer) (sym part) at in record {
     is = cut.swapped.is;
     works = told.works;
+    kind = told.kind;
     turns = cut.swapped.turns;
     number = cut.swapped.number;
     free = cut.free;
@@ -508,26 +524,26 @@ module _ (n : ℕ) (table : Table) (x : Control) (sought : Sought) (old new : Pa
     answers = told.answers;
   }
 
-  pub load_present : (spot : Spot) (l : Link) (to : SeekState × Progress SeekEnd) → IsPassOf table old → Saw table old new (cell spot) false l → l.mark ≡ Val → to ≡ next_seek (record { spot = spot; link = l }) sought.target
+  pub load_present : (spot : Spot) (l : Link) (to : SeekState × Progress SeekEnd) → IsPassOf table old → Saw table old new (cell spot) no_take l → l.mark ≡ Val → to ≡ next_seek (record { spot = spot; link = l }) sought.target
       → IsSeeking n table x sought (Load spot) (caller table old) → SeekStepped n table x sought (Load spot) to.0 old new to.1
   load_present spot l to of saw present is at = let p = caller table old in let b : Before = record { spot = spot; link = l } in
       subst (λ (z : SeekState × Progress SeekEnd). SeekStepped n table x sought (Load spot) z.0 old new z.1) (sym is)
       (stepped (Load spot) (next_seek b sought.target).0 (seen n table x sought p spot l saw.event) (next_seek b sought.target).1 saw.is saw.same saw.part refl
       (load_val n table x sought p spot l saw.event at of.lawful (subst Lawful saw.part saw.is.lawful) saw.is_link present saw.marked saw.next))
 
-  pub load_dead : (spot : Spot) (l : Link) → IsPassOf table old → Saw table old new (cell spot) false l → l.mark ≡ Del → IsSeeking n table x sought (Load spot) (caller table old)
+  pub load_dead : (spot : Spot) (l : Link) → IsPassOf table old → Saw table old new (cell spot) no_take l → l.mark ≡ Del → IsSeeking n table x sought (Load spot) (caller table old)
       → SeekStepped n table x sought (Load spot) (Load (Head sought.list.head)) old new More
   load_dead (Row r) l of saw dead at = stepped (Load (Row r)) (Load (Head sought.list.head)) (seen n table x sought (caller table old) (Row r) l saw.event) More saw.is saw.same saw.part refl (load_del n table x sought (caller table old) r l saw.event of.lawful at)
   load_dead (Head h) l of saw dead at = absurd (val_del l (head_val n table x sought (caller table old) h l at.list_is at.at.1 saw.marked) dead)
 
-  pub pass_present : (b : Before) (l : Link) (to : SeekState × Progress SeekEnd) → IsPassOf table old → Saw table old new (at_row b.link.row) false l → l.mark ≡ Val → to ≡ next_seek (record { spot = Row b.link.row; link = l }) sought.target
+  pub pass_present : (b : Before) (l : Link) (to : SeekState × Progress SeekEnd) → IsPassOf table old → Saw table old new (at_row b.link.row) no_take l → l.mark ≡ Val → to ≡ next_seek (record { spot = Row b.link.row; link = l }) sought.target
       → IsSeeking n table x sought (Passing b) (caller table old) → SeekStepped n table x sought (Passing b) to.0 old new to.1
   pass_present b l to of saw present is at = let p = caller table old in let a : Before = record { spot = Row b.link.row; link = l } in
       subst (λ (z : SeekState × Progress SeekEnd). SeekStepped n table x sought (Passing b) z.0 old new z.1) (sym is)
       (stepped (Passing b) (next_seek a sought.target).0 (seen n table x sought p (Row b.link.row) l saw.event) (next_seek a sought.target).1 saw.is saw.same saw.part refl
       (pass_val n table x sought p b l saw.event at of.lawful (subst Lawful saw.part saw.is.lawful) saw.is_link present saw.marked saw.next))
 
-  pub pass_dead : (b : Before) (l : Link) → IsPassOf table old → Saw table old new (at_row b.link.row) false l → l.mark ≡ Del
+  pub pass_dead : (b : Before) (l : Link) → IsPassOf table old → Saw table old new (at_row b.link.row) no_take l → l.mark ≡ Del
       → IsSeeking n table x sought (Passing b) (caller table old) → SeekStepped n table x sought (Passing b) (Cutting b l) old new More
   pass_dead b l of saw dead at = stepped (Passing b) (Cutting b l) (seen n table x sought (caller table old) (Row b.link.row) l saw.event) More saw.is saw.same saw.part refl
       (pass_del n table x sought (caller table old) b l saw.event at of.lawful (subst Lawful saw.part saw.is.lawful) saw.is_link dead saw.next)
@@ -587,6 +603,7 @@ pub cut_ends : (n : ℕ) (table : Table) (x : Control) (op op' : CutOp) (b : Bef
 cut_ends n table x op op' b old new at = record {
   is = at.is;
   works = at.works;
+  kind = at.kind;
   turns = at.turns;
   number = at.number;
   free = at.free;

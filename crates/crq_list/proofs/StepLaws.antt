@@ -18,12 +18,13 @@ use Rattle.crq_rule.specs.declared.debts.Debts.{Debts}
 use Rattle.crq_rule.specs.declared.layout.Start.{Start}
 use Rattle.crq_rule.specs.declared.pass.Pass.{Pass}
 use Rattle.crq_rule.specs.declared.pass.Table.{Table}
+use Rattle.crq_rule.specs.declared.view.Made.{Made}
 use Rattle.crq_rule.specs.declared.view.Stand.{Stand}
 use Rattle.crq_rule.specs.declared.view.Caller.{Caller}
 use Rattle.crq_rule.specs.Places.{index, Place, control, IsPlace, IsRow}
 use Rattle.crq_rule.specs.Kinds.{makes}
 use Rattle.crq_rule.specs.Ranks.{head_for, bucket, head_of, Cell, at_head, at_row, cell_place}
-use Rattle.crq_rule.specs.ListKinds.{MayWalk, ComesAfter, links, marks, cuts, unhanded, cut_debt, relieved, unnamed, is_past, is_other_front}
+use Rattle.crq_rule.specs.ListKinds.{Aim, MayWalk, ComesAfter, links, marks, cuts, unhanded, cut_debt, relieved, unnamed, is_past, is_other_front}
 use Rattle.crq_rule.specs.Moves.{Lawful, Walked, FoundControl, wins}
 use Rattle.crq_rule.proofs.Placing.{within}
 use Rattle.crq_rows.specs.Passes.{caller, IsSeated, IsOwed, IsPassOf, StaysAside, Turned, Exchanges, load_made, step_made, counted}
@@ -73,8 +74,8 @@ one_moved d first drop keeps one is = let none : drop d.second_cut ≡ None = ap
     ⊎_elim (λ same. inl (λ i. record d { cut = (moved_first first (drop d.second_cut) none ∙ same) i; second_cut = second i })) (λ dropped. inr (λ i. record d { cut = (moved_first first (drop d.second_cut) none ∙ dropped) i; second_cut = second i })) is
 
 -- what the pass has at run time still agrees after a walk
-pub walked_aside : (cell : Cell) (seeks : Bool) (found : ℕ) (p q : Caller) → Lawful p → Walked cell seeks found p q → StaysAside p q
-walked_aside cell seeks found p q law h = subst (StaysAside p) h.after record {
+pub walked_aside : (cell : Cell) (aim : Aim) (found : ℕ) (p q : Caller) → Lawful p → Walked cell aim found p q → StaysAside p q
+walked_aside cell aim found p q law h = subst (StaysAside p) h.after record {
   hand = refl;
   debts = one_moved p.debts (relieved p.found.control cell p.position.rows h.link h.event p.debts.cut) (relieved p.found.control cell p.position.rows h.link h.event) refl law.one_name (relieved_is p.found.control cell p.position.rows h.link h.event p.debts.cut);
 }
@@ -88,9 +89,9 @@ cut_aside expected r found p law = go (found == expected)
     go false = record { hand = refl; debts = inl refl }
 
 -- the link that was found is the one that the word spells
-pub saw : (table : Table) (old new : Pass) (cell : Cell) (seeks : Bool) (word found : ℕ) (l : Link) → IsPassOf table old → word ≡ index table.start.layout (cell_place cell) → IsLink l → link_word l ≡ found
-    → Turned table old new (load_made Walk word found) (Walked cell seeks found) → Saw table old new cell seeks l
-saw table old new cell seeks word found l of at bits spells t = let w = t.after.1 in subst (Saw table old new cell seeks) (link_one w.link l w.is_link bits (w.word ∙ sym spells)) record {
+pub saw : (table : Table) (old new : Pass) (cell : Cell) (aim : Aim) (word found : ℕ) (l : Link) → IsPassOf table old → word ≡ index table.start.layout (cell_place cell) → IsLink l → link_word l ≡ found
+    → Turned table old new (load_made Walk word found) (Walked cell aim found) → Saw table old new cell aim l
+saw table old new cell aim word found l of at bits spells t = let w = t.after.1 in subst (Saw table old new cell aim) (link_one w.link l w.is_link bits (w.word ∙ sym spells)) record {
   is = t.is;
   same = t.same;
   event = w.event;
@@ -110,7 +111,6 @@ controlled kind table old new f word found x at bits spells t = let w = t.after.
   is_control = w.is_control;
   part = t.after.2 ∙ (λ i. makes (load_made kind (at i) (sym w.word i)) (sym w.after i));
   steady = w.steady;
-  one = w.one;
 }
 
 -- the list of an event, as shifts of 32 bits give it
@@ -131,32 +131,32 @@ swapped kind table old new cell l next f word from to found won at is_from is_to
 }
 
 module _ (table : Table) (old mid new : Pass) (cell : Cell) (word from to found : ℕ) (won : Bool) where
-  -- Link: the row leaves the free ones where it won
-  pub linked : (l : Link) (r : ℕ) (e : Event) → IsPassOf table old → word ≡ index table.start.layout (cell_place cell) → from ≡ link_word l → to ≡ link_word (record l { row = r })
-      → Exchanges table old mid (step_made LinkKind word from to found) (wins (link_word l) (links r e) found) → (found == from) ≡ won
-      → new ≡ record mid { free = new.free } → new.free.items ≡ cond won (unhanded r mid.free.items) mid.free.items → deque_capacity new.free ≡ deque_capacity mid.free → LinkSwapped table old new cell l r e won
-  linked l r e of at is_from is_to x how same free room = let p : Caller = caller table old in
-      let part : caller table new ≡ makes (step_made LinkKind word from to found) (wins (link_word l) (links r e) found p) = ap (caller table) same ∙ x.part in
-      let mine : mid.free.items ≡ p.hand = ap (λ (q : Pass). q.free.items) x.same ∙ of.free in
-      let after : caller table new ≡ makes (step_made LinkKind word from to found) (cond won (links r e p) p) = part ∙ (λ i. makes (step_made LinkKind word from to found) (cond ((ap (λ z. found == z) (sym is_from) ∙ how) i) (links r e p) p)) in record {
-        swapped = swapped LinkKind table old new cell l (record l { row = r }) (links r e) word from to found won at is_from is_to record {
-          sits = subst (IsSeated table) (sym same) record { seated = x.sits.seated; bare = x.sits.bare; one = x.sits.one; numbered = x.sits.numbered; inside = x.sits.inside; started = x.sits.started };
-          lawful = subst Lawful (sym (ap (caller table) same)) x.lawful;
+  -- Link: the row leaves the free ones where it won. The pass owes no event at run time
+  pub linked : (l : Link) (x : Control) (r : ℕ) (e : Event) → IsPassOf table old → (caller table old).debts.settle ≡ None → word ≡ index table.start.layout (cell_place cell) → from ≡ link_word l → to ≡ link_word (record l { row = r })
+      → Exchanges table old mid (step_made LinkKind word from to found) (wins (link_word l) (links x r e) found) → (found == from) ≡ won
+      → new ≡ record mid { free = new.free } → new.free.items ≡ cond won (unhanded r mid.free.items) mid.free.items → deque_capacity new.free ≡ deque_capacity mid.free → LinkSwapped table old new cell l x r e won
+  linked l x r e of settled at is_from is_to step how same free room = let p : Caller = caller table old in
+      let part : caller table new ≡ makes (step_made LinkKind word from to found) (wins (link_word l) (links x r e) found p) = ap (caller table) same ∙ step.part in
+      let mine : mid.free.items ≡ p.hand = ap (λ (q : Pass). q.free.items) step.same ∙ of.free in
+      let after : caller table new ≡ makes (step_made LinkKind word from to found) (cond won (links x r e p) p) = part ∙ (λ i. makes (step_made LinkKind word from to found) (cond ((ap (λ z. found == z) (sym is_from) ∙ how) i) (links x r e p) p)) in record {
+        swapped = swapped LinkKind table old new cell l (record l { row = r }) (links x r e) word from to found won at is_from is_to record {
+          sits = subst (IsSeated table) (sym same) record { seated = step.sits.seated; bare = step.sits.bare; one = step.sits.one; numbered = step.sits.numbered; inside = step.sits.inside; started = step.sits.started };
+          lawful = subst Lawful (sym (ap (caller table) same)) step.lawful;
           free = free ∙ (sym (hands won p mine) ∙ sym (ap (λ (q : Caller). q.hand) after));
-          room = subst (λ z. table.start.layout.home ≤ z) (sym (room ∙ ap (λ (q : Pass). deque_capacity q.free) x.same)) of.room;
-          debts = subst (λ (z : Debts × Debts). IsOwed z.0 z.1) (λ i. (sym (ap (λ (q : Pass). q.debts) same ∙ ap (λ (q : Pass). q.debts) x.same) i, sym (ap (λ (q : Caller). q.debts) after ∙ owes won p) i)) of.debts;
-        } (ap (λ (q : Pass). q.turns) same ∙ x.turns) (ap (λ (q : Pass). q.number) same ∙ ap (λ (q : Pass). q.number) x.same) part how;
-        free = free ∙ ap (λ (q : Pass). cond won (unhanded r q.free.items) q.free.items) x.same;
-        debts = ap (λ (q : Pass). q.debts) same ∙ ap (λ (q : Pass). q.debts) x.same;
+          room = subst (λ z. table.start.layout.home ≤ z) (sym (room ∙ ap (λ (q : Pass). deque_capacity q.free) step.same)) of.room;
+          debts = subst (λ (z : Debts × Debts). IsOwed z.0 z.1) (λ i. (sym (ap (λ (q : Pass). q.debts) same ∙ ap (λ (q : Pass). q.debts) step.same) i, sym (ap (λ (q : Caller). q.debts) after) i)) (owes won p of.debts settled);
+        } (ap (λ (q : Pass). q.turns) same ∙ step.turns) (ap (λ (q : Pass). q.number) same ∙ ap (λ (q : Pass). q.number) step.same) part how;
+        free = free ∙ ap (λ (q : Pass). cond won (unhanded r q.free.items) q.free.items) step.same;
+        debts = ap (λ (q : Pass). q.debts) same ∙ ap (λ (q : Pass). q.debts) step.same;
       }
     where
-      hands : (b : Bool) (p : Caller) → mid.free.items ≡ p.hand → (cond b (links r e p) p).hand ≡ cond b (unhanded r mid.free.items) mid.free.items
+      hands : (b : Bool) (p : Caller) → mid.free.items ≡ p.hand → (cond b (links x r e p) p).hand ≡ cond b (unhanded r mid.free.items) mid.free.items
       hands true p mine = ap (unhanded r) (sym mine)
       hands false p mine = sym mine
 
-      owes : (b : Bool) (p : Caller) → (cond b (links r e p) p).debts ≡ p.debts
-      owes true p = refl
-      owes false p = refl
+      owes : (b : Bool) (p : Caller) → IsOwed old.debts p.debts → p.debts.settle ≡ None → IsOwed old.debts (cond b (links x r e p) p).debts
+      owes true p o none = record { settle = inl (⊎_elim (λ run. run) (λ same. sym same ∙ none) o.settle); copy = o.copy; cut = o.cut; second_cut = o.second_cut }
+      owes false p o none = o
 
   -- Mark: the row is owed to be cut where it won
   pub marked : (l : Link) (x : Control) (r : ℕ) (e : Event) → IsPassOf table old → word ≡ index table.start.layout (cell_place cell) → from ≡ link_word l → to ≡ link_word (record l { mark = Del })
@@ -185,6 +185,21 @@ module _ (table : Table) (old mid new : Pass) (cell : Cell) (word from to found 
       owes : (b : Bool) (p : Caller) → IsOwed old.debts p.debts → IsOwed (cond b (record old.debts { cut = Some (cut_debt x r e) }) old.debts) (cond b (marks x r e p) p).debts
       owes true p o = record { settle = o.settle; copy = o.copy; cut = inr refl; second_cut = o.second_cut }
       owes false p o = o
+
+-- what linking changes, by the control word that the caller found
+abbrev pub links_by : Option Control → ℕ → Event → Caller → Caller
+links_by None r e p = p
+links_by (Some x) r e p = links x r e p
+
+abbrev pub links_found : ℕ → Event → Caller → Caller
+links_found r e p = links_by p.found.control r e p
+
+pub wins_found : (x : Control) (expected r : ℕ) (e : Event) (found : ℕ) (p : Caller) → p.found.control ≡ Some x → wins expected (links_found r e) found p ≡ wins expected (links x r e) found p
+wins_found x expected r e found p is = ap (λ o. cond (found == expected) (links_by o r e p) p) is
+
+pub exchanges_found : (table : Table) (old mid : Pass) (m : Made) (x : Control) (expected r : ℕ) (e : Event) (found : ℕ) → (caller table old).found.control ≡ Some x
+    → Exchanges table old mid m (wins expected (links_found r e) found) → Exchanges table old mid m (wins expected (links x r e) found)
+exchanges_found table old mid m x expected r e found is step = record { sits = step.sits; lawful = step.lawful; same = step.same; turns = step.turns; id = step.id; part = step.part ∙ ap (makes m) (wins_found x expected r e found (caller table old) is) }
 
 -- the first row of the list that is r leaves it
 pub unhanded_at : (r : ℕ) (xs : List ℕ) (i : ℕ) → ((k : ℕ) → k < i → slice_index xs k ≢ r) → i < length xs → slice_index xs i ≡ r → unhanded r xs ≡ remove xs i

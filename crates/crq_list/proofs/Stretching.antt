@@ -16,13 +16,13 @@ use Rattle.crq_list.specs.declared.insert.InsertState.{InsertState}
 use Rattle.crq_list.specs.declared.insert.InsertState.TheVariants.{Seeking}
 use Rattle.crq_list.specs.declared.insert.InsertEnd.{InsertEnd}
 use Rattle.crq_list.specs.declared.cut.CutOp.{CutOp}
+use Rattle.crq_list.specs.declared.take.MarkEnd.{MarkEnd}
+use Rattle.crq_list.specs.declared.take.TakeOp.{TakeOp}
+use Rattle.crq_list.specs.declared.take.TakeState.{TakeState}
 use Rattle.crq_list.specs.Stretches.{Stretch, ends, goes_on}
 use Rattle.crq_list.specs.Seeking.{IsSeeking, SeekStepped, SeekStretch, seek_exchanges}
 use Rattle.crq_list.specs.Cutting.{CutStepped, CutStretch, progress_of}
 use Rattle.crq_list.specs.Inserting.{sought_by, IsInserting, InsertStepped, InsertStretch, after_seek, insert_exchanges}
-use Rattle.crq_list.specs.declared.take.MarkEnd.{MarkEnd}
-use Rattle.crq_list.specs.declared.take.TakeOp.{TakeOp}
-use Rattle.crq_list.specs.declared.take.TakeState.{TakeState}
 use Rattle.crq_list.specs.Taking.{IsTaking, TakeStepped, TakeStretch, take_exchanges}
 use Rattle.crq_list.proofs.SeekSteps.{cut_ends}
 use Rattle.crq_list.proofs.InsertLaws.{seeks_on, seeks_there}
@@ -59,7 +59,7 @@ fell exchanges left less plain told = ⊎_elim (λ yes. absurd (false≢true (sy
 
 pub cut_told : (n : ℕ) (table : Table) (x : Control) (op : CutOp) (seek seek' : SeekState) (old new : Pass) (answer : Progress SeekEnd) → op.swept ≡ false → SeekStepped n table x op.sought seek seek' old new answer
     → CutStepped n table x (record op { state = seek }) (record op { state = seek' }) old new (progress_of answer)
-cut_told n table x op seek seek' old new More plain s = record { is = s.is; works = s.works; turns = s.turns; number = s.number; free = s.free; debts = s.debts; own = s.own; owed = s.owed; answers = ((s.answers.0, λ swept. absurd (false≢true (sym plain ∙ swept))), refl, s.answers.1) }
+cut_told n table x op seek seek' old new More plain s = record { is = s.is; works = s.works; kind = s.kind; turns = s.turns; number = s.number; free = s.free; debts = s.debts; own = s.own; owed = s.owed; answers = ((s.answers.0, λ swept. absurd (false≢true (sym plain ∙ swept))), refl, s.answers.1) }
 cut_told n table x op seek seek' old new (Done (There b)) plain s = cut_ends n table x (record op { state = seek }) (record op { state = seek' }) b old new s
 cut_told n table x op seek seek' old new (Done FoundFrozen) plain s = absurd s.answers
 

@@ -90,6 +90,7 @@ module _ (n : ℕ) (table : Table) (x : Control) (op : CutOp) (old new : Pass) w
   swept_told seek' More swept at s = record {
     is = s.is;
     works = s.works;
+    kind = s.kind;
     turns = s.turns;
     number = s.number;
     free = s.free;
@@ -109,6 +110,7 @@ module _ (n : ℕ) (table : Table) (x : Control) (op : CutOp) (old new : Pass) w
       let c = subst (λ z. CutsSwept n table.start.layout op.sought z (caller table old)) is (at.1 swept) in record {
         is = s'.is;
         works = s'.works;
+        kind = s'.kind;
         turns = s'.turns;
         number = s'.number;
         free = s'.free;

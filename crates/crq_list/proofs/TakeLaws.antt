@@ -1,18 +1,16 @@
--- What is known of a word after one step more, how far a take's walk is, and what each step of a take tells.
-use Rattle.std.proofs.Common.{◌≡◌, ◌≢◌, ◌⊎◌, ⊎_elim, inl, inr, ℕ, zero, suc, ◌+◌, ◌-◌, ◌*◌, ◌/◌, ◌%◌, ◌^◌, ◌<◌, ◌≤◌, ◌==◌, cond, Bool, true, false, List, [], ◌∷◌, ◌++◌, length, drop, Option, Some, None, le_refl, eq-eqb, ne_eqb, sym, refl, ap, ◌∙◌, subst, arith, eqb, ◌||◌, ◌&&◌}
-use Rattle.std.proofs.lemmas.Bool.{false≢true, cond_both, eqb-true}
-use Rattle.std.proofs.lemmas.List.{length-append}
+-- What is known of a take's words, stands and walk after one step more, and what each step that loads a head, a row or a word of its event tells.
+use Rattle.std.proofs.Common.{◌≢◌, ◌≡◌, ⊎_elim, inl, inr, ℕ, ◌+◌, ◌<◌, ◌≤◌, ltb, leb, ◌&&◌, cond, true, List, [], ◌∷◌, ◌++◌, length, drop, Option, Some, None, eq-eqb, ne_eqb, sym, refl, ap, ◌∙◌, subst, arith}
+use Rattle.std.proofs.lemmas.Bool.{cond_both, ltb-true, ltb-false, leb-true, leb-false}
 use mathlib.Core.Logic.{dite}
 use native.Mathlib.Decide.{ℕ_discrete}
 use Rattle.crq_base.specs.declared.event.Event.{Event}
-use Rattle.crq_base.specs.declared.entry.Entry.TheVariants.{Take}
-use Rattle.crq_base.specs.declared.kinds.StepKind.TheVariants.{Walk as WalkKind, Read, Mark as MarkKind}
+use Rattle.crq_base.specs.declared.kinds.StepKind.TheVariants.{Walk as WalkKind, Read}
 use Rattle.crq_base.specs.declared.words.Link.{Link}
-use Rattle.crq_base.specs.declared.words.Mark.TheVariants.{Val, Del}
+use Rattle.crq_base.specs.declared.words.Mark.TheVariants.{Val}
 use Rattle.crq_base.specs.declared.words.Control.{Control}
-use Rattle.crq_base.specs.Words.{IsLink, link_word}
-use Rattle.crq_base.specs.Lists.{In}
-use Rattle.crq_rule.specs.Core.{DeadNames, names_of, renamed}
+use Rattle.crq_base.specs.declared.words.Current.{Current}
+use Rattle.crq_base.specs.Words.{IsLink, IsControl, link_word}
+use Rattle.crq_rule.specs.Core.{names_of, renamed}
 use Rattle.crq_rule.specs.declared.layout.Layout.{Layout}
 use Rattle.crq_rule.specs.declared.pass.Pass.{Pass}
 use Rattle.crq_rule.specs.declared.pass.Table.{Table}
@@ -22,228 +20,61 @@ use Rattle.crq_rule.specs.declared.view.Stand.{Stand}
 use Rattle.crq_rule.specs.declared.view.Sight.{Sight}
 use Rattle.crq_rule.specs.declared.view.Walk.{Walk}
 use Rattle.crq_rule.specs.declared.view.Caller.{Caller}
-use Rattle.crq_rule.specs.Places.{index, link as link_place, IsHead}
-use Rattle.crq_rule.specs.Parts.{IsEvent, rows_of}
+use Rattle.crq_rule.specs.Places.{index, current, link as link_place, IsHead}
+use Rattle.crq_rule.specs.Parts.{IsEvent}
 use Rattle.crq_rule.specs.Kinds.{makes}
-use Rattle.crq_rule.specs.Ranks.{rank, head_of, head_for, bucket, IsOpen, Cell, at_head, at_row, cell_place}
-use Rattle.crq_rule.specs.ListKinds.{StandsOn, MayMiss, is_passed, is_val, is_twin, new_stand, next_stand, only_row, noted_stand, noted, stands_after, begins_walk, walk_after, walks, HasSeen, current_seen, table_seen, sight_after, row_place, event_word, marks, cut_debt, relieved_names}
+use Rattle.crq_rule.specs.Ranks.{rank, bucket, shape_of, first_head_of, head_for, head_of, Cell, at_head, at_row, cell_place}
+use Rattle.crq_rule.specs.ListKinds.{StandsOn, MaySeek, EndedWalk, FoundFirst, is_take, is_passed, is_val, stands_after, begins_walk, new_walk, bucket_seen, least_after, walked, walk_after, walks, best_of, swept_head, taken_on, sweep_on, clean_on, row_place, event_word, relieved_names}
 use Rattle.crq_rule.specs.Moves.{Lawful}
-use Rattle.crq_rule.proofs.Standings.{rows_in, in_rows, row_stays, row_next}
-use Rattle.crq_rows.specs.Passes.{caller, load_made, step_made, IsPassOf, Stepped}
+use Rattle.crq_rows.specs.Passes.{caller, load_made, IsPassOf, Stepped}
 use Rattle.crq_rows.specs.Reading.{stays}
-use Rattle.crq_list.specs.declared.parts.Before.{Before}
-use Rattle.crq_list.specs.declared.parts.Spot.TheVariants.{Head}
+use Rattle.crq_rows.proofs.Knowing.{known_here, known_else}
+use Rattle.crq_list.specs.declared.parts.Place.{Place}
+use Rattle.crq_list.specs.declared.parts.Place.TheVariants.{Bucket, Search}
 use Rattle.crq_list.specs.declared.parts.Progress.{Progress}
 use Rattle.crq_list.specs.declared.parts.Progress.TheVariants.{More, Done}
-use Rattle.crq_list.specs.declared.cut.CutOp.{CutOp}
-use Rattle.crq_list.specs.declared.seek.SeekState.{SeekState}
-use Rattle.crq_list.specs.declared.seek.SeekState.TheVariants.{Load as Begins, Passing}
 use Rattle.crq_list.specs.declared.take.MarkEnd.{MarkEnd}
-use Rattle.crq_list.specs.declared.take.MarkEnd.TheVariants.{Marked, Beyond, Nothing, Lost}
+use Rattle.crq_list.specs.declared.take.MarkEnd.TheVariants.{Beyond, Nothing}
+use Rattle.crq_list.specs.declared.take.Candidate.{Candidate}
 use Rattle.crq_list.specs.declared.take.TakeOp.{TakeOp}
-use Rattle.crq_list.specs.declared.take.TakeState.{TakeState}
 use Rattle.crq_list.specs.declared.take.TakeState.TheVariants.{Load, Walking, Reading, Marking}
-use Rattle.crq_rows.proofs.Knowing.{known_here, known_else}
-use Rattle.crq_rows.proofs.Working.{plain_no_tick}
-use Rattle.crq_list.proofs.StepLaws.{marks_apart}
-use Rattle.crq_list.proofs.SweepLaws.{sweep_begins, sweep_stays, sweep_passes, past_on}
-use Rattle.crq_list.proofs.SeekLaws.{walk_next, walk_here, link_apart, event_apart}
-use Rattle.crq_list.proofs.SeekSteps.{one_event, one_target}
-use Rattle.crq_list.specs.Known.{is_exchange, Works, turns_after}
-use Rattle.crq_list.specs.Spots.{cell, rank_at, SweptPast}
+use Rattle.crq_list.specs.Spots.{take_aim, rank_at, SweptPast}
 use Rattle.crq_list.specs.Sweeps.{SweepsTo}
-use Rattle.crq_list.specs.Seeking.{IsAt, IsSeeking, spot_of}
-use Rattle.crq_list.specs.Cutting.{CutsSwept, IsCutting, head_link}
-use Rattle.crq_list.specs.Swaps.{Saw, MarkSwapped, where_won}
-use Rattle.crq_list.specs.Taking.{IsPresent, IsRead, IsTakingAt, NamesFirst, IsFirstKnown, IsTaking, taking_exchanges, taking_left, cut_of, StopsAt, TakeAnswers, TakeStepped, SeesTable}
+use Rattle.crq_list.specs.Cutting.{head_link}
+use Rattle.crq_list.specs.Swaps.{Saw}
+use Rattle.crq_list.specs.Taking.{bucket_in, row_of, lesser_of, take_at, goes_past, row_read, IsPresent, IsBest, KeepsBest, IsWalkAt, IsAtHead, IsRead, NamesFirst, IsFirstIn, SeesPlace, IsTaking, list_left, TakeStepped}
+use Rattle.crq_list.proofs.Heads.{best_at_row, lesser_holds}
+use Rattle.crq_list.proofs.SweepLaws.{sweep_begins, sweep_stays, sweep_passes, past_on}
+use Rattle.crq_list.proofs.SeekLaws.{rank_limit, rank_at_is, walk_next, walk_here, walk_least, link_apart, event_apart, cell_elsewhere, word_elsewhere}
+use Rattle.crq_list.proofs.SeekSteps.{one_event}
+use Rattle.crq_list.proofs.TakeLoads.{moved, no_names, Loads, in_place, stays_on, nothing, beyond, goes_next, goes_on_past}
 
--- the words of a row's event are other words than its link
-other_word : (l : Layout) (r place : ℕ) → 2 ≤ place → place < 6 → index l (row_place r place) ≢ index l (link_place r)
-other_word l r zero low high e = absurd (omega arith)
-other_word l r (suc zero) low high e = absurd (omega arith)
-other_word l r (suc (suc zero)) low high e = omega arith
-other_word l r (suc (suc (suc zero))) low high e = omega arith
-other_word l r (suc (suc (suc (suc zero)))) low high e = omega arith
-other_word l r (suc (suc (suc (suc (suc zero))))) low high e = omega arith
-other_word l r (suc (suc (suc (suc (suc (suc n)))))) low high e = absurd (omega arith)
+-- Words
 
--- How far a walk is
+-- the words of a row's event are other words than links
+pub read_apart : (l : Layout) (r place s : ℕ) → 0 < r → 2 ≤ place → index l (row_place r place) ≢ index l (link_place s)
+read_apart l r place s some low = event_apart l r place (at_row s) some low tt
 
--- no rank reaches the end of the list
-rank_low : (e : Event) (r : ℕ) → IsEvent e → r < 2 ^ 24 → rank e r < 2 ^ 160
-unfolding rank
-rank_low e r is low = let t = is.time in let s = is.src in let q = is.seq in omega arith
+-- the link of a row is another word than a head
+pub row_apart : (l : Layout) (q r : ℕ) → 0 < r → IsHead q → index l (link_place r) ≢ index l (cell_place (at_head q))
+row_apart l q r some head = link_apart l r (at_head q) some head (λ s e. absurd (cc))
 
--- the first stand on a row has its rank
-first_stand : (ss : List Stand) (r : ℕ) → In r (rows_of ss) → (g : Event) × StandsOn ss r g × (rank_at ss r ≡ rank g r)
-first_stand [] r i = absurd i
-first_stand (t ∷ ts) r i = dite (ℕ_discrete t.row r)
-    (λ e. (t.event, (t, inl refl, e, refl), ap (λ b. cond b (rank t.event r) (rank_at ts r)) (eq-eqb t.row r e)))
-    (λ ne. let h = first_stand ts r (⊎_elim (λ (e : r ≡ t.row). absurd (ne (sym e))) (λ k. k) i) in
-    (h.0, (h.1.0, inr h.1.1, h.1.2, h.1.3), ap (λ b. cond b (rank t.event r) (rank_at ts r)) (ne_eqb t.row r ne) ∙ h.2))
-
-only_rank : (r : ℕ) (ss : List Stand) → rank_at (only_row r ss) r ≡ rank_at ss r
-only_rank r [] = refl
-only_rank r (t ∷ ts) = cond_both (eqb t.row r || is_twin r t.twin) (t ∷ only_row r ts) (only_row r ts) (λ xs. rank_at xs r ≡ rank_at (t ∷ ts) r)
-    (λ _. ap (cond (eqb t.row r) (rank t.event r)) (only_rank r ts))
-    (λ no. only_rank r ts ∙ sym (ap (λ b. cond b (rank t.event r) (rank_at ts r)) (ne_eqb t.row r (λ e. false≢true (sym no ∙ ap (λ b. b || is_twin r t.twin) (eq-eqb t.row r e))))))
-
--- what is noted of a row leaves all ranks
-noted_rank : (r : ℕ) (l : Link) (ss : List Stand) (s : ℕ) → rank_at (noted r l ss) s ≡ rank_at ss s
-noted_rank r l [] s = refl
-noted_rank r l (t ∷ ts) s = cond_both (eqb t.row r) (noted_stand l t) t (λ z. cond (eqb z.row s) (rank z.event s) (rank_at (noted r l ts) s) ≡ cond (eqb t.row s) (rank t.event s) (rank_at ts s))
-    (λ _. ap (cond (eqb t.row s) (rank t.event s)) (noted_rank r l ts s)) (λ _. ap (cond (eqb t.row s) (rank t.event s)) (noted_rank r l ts s))
-
-next_is : (cell : Cell) (l : Link) (e : Event) → 0 < l.row → next_stand cell l e ≡ new_stand cell l e ∷ []
-next_is cell l e some = ap (λ b. cond b [] (new_stand cell l e ∷ [])) (ne_eqb l.row 0 (omega arith))
-
-next_rank : (cell : Cell) (l : Link) (e : Event) (ss : List Stand) → 0 < l.row → rank_at (next_stand cell l e ++ ss) l.row ≡ rank e l.row
-next_rank cell l e ss some = ap (λ ns. rank_at (ns ++ ss) l.row) (next_is cell l e some) ∙ ap (λ b. cond b (rank e l.row) (rank_at ss l.row)) (eq-eqb l.row l.row refl)
-
--- the walk of a row that goes on to the next comes nearer to the end
-nearer : (cell : Cell) (l : Link) (e : Event) (ss rest : List Stand) (r : ℕ) → IsLink l → IsEvent e → 0 < l.row → In r (rows_of ss) → ((f : Event) → StandsOn ss r f → rank f r < rank e l.row)
-    → (2 ^ 160 - rank_at (next_stand cell l e ++ rest) l.row) * 16 + 12 < (2 ^ 160 - rank_at ss r) * 16 + 12
-nearer cell l e ss rest r bits is some on up = let g = first_stand ss r on in let high = up g.0 g.1 in let low = rank_low e l.row is bits.row in let new = next_rank cell l e rest some in let old = g.2 in omega arith
-
--- a row that was found present is as far as before
-as_far : (l : Link) (e : Event) (ss : List Stand) (r : ℕ) → In r (rows_of ss) → (0 < l.row → (f : Event) → StandsOn ss r f → rank f r < rank e l.row)
-    → rank_at ss r ≤ rank_at (next_stand (at_row r) l e ++ noted r l (only_row r ss)) r
-as_far l e ss r on up = let rest = noted r l (only_row r ss) in let same = noted_rank r l (only_row r ss) r ∙ only_rank r ss in dite (ℕ_discrete l.row 0)
-    (λ z. let is = ap (λ b. rank_at (cond b [] (new_stand (at_row r) l e ∷ []) ++ rest) r) (eq-eqb l.row 0 z) in omega arith)
-    (λ nz. let is = ap (λ ns. rank_at (ns ++ rest) r) (next_is (at_row r) l e (omega arith)) in dite (ℕ_discrete l.row r)
-    (λ q. let here = ap (λ b. cond b (rank e r) (rank_at rest r)) (eq-eqb l.row r q) in let g = first_stand ss r on in let high = up (omega arith) g.0 g.1 in let to = ap (rank e) q in let old = g.2 in omega arith)
-    (λ nq. let here = ap (λ b. cond b (rank e r) (rank_at rest r)) (ne_eqb l.row r nq) in omega arith))
-
--- Steps that load
-
--- the caller with another position, walk, table that it read, and names of dead rows
-abbrev pub moved : Position → Option Walk → Option Sight → DeadNames → Caller → Caller
-moved a w v names p = record p { position = a; walk = w; sight = v; debts = renamed p.debts names }
-
-abbrev pub no_names : DeadNames
-no_names = record { first = None; second = None }
-
--- a caller that owes no dead row has no name
-unnamed_all : (p : Caller) → Lawful p → p.debts.cut ≡ None → names_of p.debts ≡ no_names
-unnamed_all p law free = λ i. record { first = free i; second = law.one_name i }
-
--- one load was made with the pass, which moved its caller so
-pub record Loads (table : Table) (old new : Pass) (m : Made) (a : Position) (w : Option Walk) (v : Option Sight) : Type 0 where
-  pub is : IsPassOf table new
-  pub same : new ≡ record old { seat = new.seat }
-  pub load : is_exchange m.kind ≡ false
-  pub part : caller table new ≡ makes m (moved a w v no_names (caller table old))
-
-module _ (n : ℕ) (table : Table) (x : Control) (op : TakeOp) (s : TakeState) (old new : Pass) (m : Made) (a : Position) (w : Option Walk) (v : Option Sight) (h : Loads table old new m a w v) (no : taking_exchanges s ≡ false) (sees : HasSeen x v)
-    (t : IsTaking n table x (record op { state = s }) (caller table old)) where
-  abbrev before : Caller
-  before = caller table old
-
-  abbrev now : Caller
-  now = makes m (moved a w v no_names before)
-
-  abbrev is_op : TakeOp
-  is_op = record op { state = s }
-
-  taken : (s' : TakeState) → ((r : ℕ) (l : Link) (e : Event) (f : ℕ) → s' ≡ Marking r l e f → e.time < op.limit) → IsFirstKnown n table.start.layout op.found.generation op.head s' now → IsTakingAt n table s' now → IsTaking n table x (record op { state = s' }) now
-  taken s' below first at = record {
-    counted = let c = t.counted in let longer = length-append before.made (m ∷ []) in omega arith;
-    on = t.on;
-    began = t.began;
-    control = t.control;
-    one = t.one;
-    is_head = t.is_head;
-    opened = t.opened;
-    control_is = t.control_is;
-    uncut = t.uncut;
-    free = refl;
-    below = below;
-    sees = table_seen s';
-    first = first;
-    at = at;
-  }
-    where
-      table_seen : (s' : TakeState) → SeesTable s' x now
-      table_seen Load = tt
-      table_seen (Walking r f) = sees
-      table_seen (Reading r l place read f) = sees
-      table_seen (Marking r l e f) = sees
-
-  loaded : (op' : TakeOp) (answer : Progress MarkEnd) → TakeAnswers n table x is_op op' old new answer → TakeStepped n table x is_op op' old new answer
-  loaded op' answer answers = record {
-    is = h.is;
-    works = subst (Works n (taking_exchanges s) before) (sym h.part) record {
-      stays = record { number = refl; start = refl; deal = refl; found = refl; guard = refl };
-      step = m;
-      made = refl;
-      kind = h.load ∙ sym no;
-      expects = λ yes. absurd (false≢true (sym h.load ∙ yes));
-      timed = λ yes. absurd (false≢true (sym (plain_no_tick m.kind h.load) ∙ yes));
-    };
-    turns = ap (λ (z : Pass). z.turns) h.same ∙ sym (ap (λ b. turns_after b old.turns) no);
-    number = ap (λ (z : Pass). z.number) h.same;
-    free = ap (λ (z : Pass). z.free.items) h.same;
-    answers = answers;
-  }
-
-  -- it goes on
-  pub more : (s' : TakeState) → ((r : ℕ) (l : Link) (e : Event) (f : ℕ) → s' ≡ Marking r l e f → e.time < op.limit) → IsFirstKnown n table.start.layout op.found.generation op.head s' now → IsTakingAt n table s' now
-      → taking_left s' now < taking_left s before → TakeStepped n table x is_op (record op { state = s' }) old new More
-  more s' below first at less = loaded (record op { state = s' }) More (
-    subst (IsTaking n table x (record op { state = s' })) (sym h.part) (taken s' below first at),
-    refl,
-    ap (λ (z : Caller). z.own) h.part,
-    ap (λ (z : Pass). z.debts) h.same,
-    inr (subst (λ z. taking_left s' z < taking_left s before) (sym h.part) less),
-  )
-
-  missing : (limit : ℕ) → ((y : Walk) × (w ≡ Some y) × ((y.at ≡ 0) ⊎ ((e : Event) × StandsOn a.rows y.at e × (limit ≤ e.time)))) → MayMiss x limit (caller table new)
-  missing limit walks = subst (MayMiss x limit) (sym h.part) record { began = t.began; sight = sees; one_list = t.one; walks = walks }
-
-  -- its walk is at the end of the list
-  pub nothing : (y : Walk) → w ≡ Some y → y.at ≡ 0 → TakeStepped n table x is_op (record op { state = Load }) old new (Done Nothing)
-  nothing y walks end = loaded (record op { state = Load }) (Done Nothing) (
-    ap (λ (z : Caller). z.own) h.part,
-    ap (λ (z : Pass). z.debts) h.same,
-    λ limit. missing limit (y, walks, inl end),
-    ap (λ (z : Caller). z.cut) h.part ∙ t.uncut,
-    ap (λ (z : Caller). z.debts.cut) h.part,
-  )
-
-  -- or at a row that isn't below the limit
-  pub past : (y : Walk) (e : Event) → w ≡ Some y → StandsOn a.rows y.at e → op.limit ≤ e.time → StopsAt n table e now → TakeStepped n table x is_op (record op { state = Load }) old new (Done (Beyond e))
-  past y e walks on high stops = loaded (record op { state = Load }) (Done (Beyond e)) (
-    ap (λ (z : Caller). z.own) h.part,
-    ap (λ (z : Pass). z.debts) h.same,
-    missing op.limit (y, walks, inr (e, on, high)),
-    high,
-    ap (λ (z : Caller). z.cut) h.part ∙ t.uncut,
-    ap (λ (z : Caller). z.debts.cut) h.part,
-    subst (StopsAt n table e) (sym h.part) stops,
-  )
-
-walking_no : (r f r' f' : ℕ) (l : Link) (e : Event) → Walking r f ≡ Marking r' l e f' → ⊥
-walking_no r f r' f' l e q = cc
-
-reading_no : (r r' place f f' : ℕ) (l l' : Link) (e e' : Event) → Reading r l place e f ≡ Marking r' l' e' f' → ⊥
-reading_no r r' place f f' l l' e e' q = cc
-
-marking_one : (r r' f f' : ℕ) (l l' : Link) (e e' : Event) → Marking r l e f ≡ Marking r' l' e' f' → e ≡ e'
-marking_one r r' f f' l l' e e' q = cc
+-- and than that of another row
+pub rows_apart : (l : Layout) (r s : ℕ) → 0 < r → s ≢ r → index l (link_place s) ≢ index l (link_place r)
+rows_apart l r s some ne e = link_apart l r (at_row s) some tt (λ t is. λ same. ne (one_row s t is ∙ same)) (sym e)
+  where
+    one_row : (s t : ℕ) → at_row s ≡ at_row t → s ≡ t
+    one_row s t e = cc
 
 -- The row that the head names
 
 -- a step on another word leaves what is known of it
-names_on : (l : Layout) (generation q f n : ℕ) (made : List Made) (m : Made) → n ≤ length made → m.word ≢ index l (cell_place (at_head q)) → NamesFirst l generation q f (drop n made) → NamesFirst l generation q f (drop n (made ++ m ∷ []))
+pub names_on : (l : Layout) (generation q f n : ℕ) (made : List Made) (m : Made) → n ≤ length made → m.word ≢ index l (cell_place (at_head q)) → NamesFirst l generation q f (drop n made) → NamesFirst l generation q f (drop n (made ++ m ∷ []))
 names_on l generation q f n made m counted other s = record {
   bits = s.bits;
   known = known_else n made m (index l (cell_place (at_head q))) counted other ∙ s.known;
   swept = sweep_stays n made (made ++ m ∷ []) m refl counted l (at_head q) (at_row f) s.swept;
 }
-
--- the link of a row is another word than a head
-row_apart : (l : Layout) (q r : ℕ) → 0 < r → IsHead q → index l (link_place r) ≢ index l (cell_place (at_head q))
-row_apart l q r some head = link_apart l r (at_head q) some head (λ s e. absurd (cc))
 
 -- the load of the head makes it known
 names_first : (l : Layout) (generation q n : ℕ) (made : List Made) (found : Link) → n ≤ length made → IsLink found → found.mark ≡ Val → found.generation ≡ generation
@@ -254,285 +85,345 @@ names_first l generation q n made found counted bits val same = let m = load_mad
   swept = sweep_passes n made (made ++ m ∷ []) m refl counted l (at_head q) (at_head q) found (record { load = refl; bits = bits; present = val }) (sweep_begins l (at_head q) (drop n made));
 }
 
--- a walk of a caller that owes no dead row moves it
-saw_loads : (table : Table) (old new : Pass) (cell : Cell) (l : Link) (saw : Saw table old new cell true l) (w : Option Walk) (v : Option Sight) → Lawful (caller table old) → (caller table old).debts.cut ≡ None
-    → walk_after cell true (caller table old).found.control l (caller table old).walk ≡ w → sight_after cell true (caller table old).found.control l (caller table old).sight ≡ v
+-- Walks
+
+pub takes : (place : Place) → is_take (take_aim place) ≡ true
+takes (Bucket b) = refl
+takes Search = refl
+
+-- a caller that owes no dead row has no name
+unnamed_all : (p : Caller) → Lawful p → p.debts.cut ≡ None → names_of p.debts ≡ no_names
+unnamed_all p law free = λ i. record { first = free i; second = law.one_name i }
+
+-- a walk of a take of a caller that owes no dead row moves it
+saw_loads : (table : Table) (old new : Pass) (cell : Cell) (place : Place) (l : Link) (saw : Saw table old new cell (take_aim place) l) (w : Option Walk) → Lawful (caller table old) → (caller table old).debts.cut ≡ None
+    → walk_after cell (take_aim place) (caller table old).sight l (caller table old).walk (caller table old).position.rows ≡ w
     → Loads table old new (load_made WalkKind (index table.start.layout (cell_place cell)) (link_word l))
-    (record { rows = stands_after cell true l saw.event (caller table old).position.rows; old = (caller table old).position.old }) w v
-saw_loads table old new cell l saw w v law free walks sees = let p = caller table old in let rows = stands_after cell true l saw.event p.position.rows in record {
-  is = saw.is;
-  same = saw.same;
-  load = refl;
-  part = saw.part ∙ (λ i. makes (load_made WalkKind (index table.start.layout (cell_place cell)) (link_word l))
-      (moved (record { rows = rows; old = p.position.old }) (walks i) (sees i) (ap (relieved_names p.found.control cell p.position.rows l saw.event) (unnamed_all p law free) i) p));
-}
-
--- what is answered after a head or row that was passed
-abbrev Onward : Link → ℕ → TakeState × Progress MarkEnd → Type 0
-Onward l f r = ((l.row ≡ 0) × (r ≡ (Load, Done Nothing))) ⊎ ((0 < l.row) × (r ≡ (Walking l.row f, More)))
-
--- Load: the head is present
-pub head_stepped : (n : ℕ) (table : Table) (x : Control) (op : TakeOp) (old new : Pass) (l : Link) (r : TakeState × Progress MarkEnd) → Lawful (caller table old) → Saw table old new (at_head op.head) true l → l.mark ≡ Val → Onward l l.row r
-    → IsTaking n table x (record op { state = Load }) (caller table old) → TakeStepped n table x (record op { state = Load }) (record op { state = r.0 }) old new r.1
-head_stepped n table x op old new l r law saw val onward t = let y : Walk = record { head = op.head; at = l.row } in
-    let p = caller table old in let at = (saw.marked x t.control t.opened).1 in
-    let begins : begins_walk p.found.control l ≡ true = ap (λ c. begins_walk c l) t.control ∙ (λ i. is_val (val i) && eq-eqb l.generation x.generation at i) in
-    let mine : Option Sight = Some (record { table = x; current = current_seen p.sight }) in
-    let seen : sight_after (at_head op.head) true p.found.control l p.sight ≡ mine = ap (λ b. cond b (table_seen p.found.control (current_seen p.sight)) p.sight) begins ∙ ap (λ o. table_seen o (current_seen p.sight)) t.control in
-    let h = saw_loads table old new (at_head op.head) l saw (Some y) mine law t.free (ap (λ b. cond b (Some y) None) begins) seen in ⊎_elim
-    (λ end. subst (λ z. TakeStepped n table x (record op { state = Load }) (record op { state = z.0 }) old new z.1) (sym end.1) (nothing n table x op Load old new _ _ _ _ h refl (current_seen p.sight, refl) t y refl end.0))
-    (λ some. subst (λ z. TakeStepped n table x (record op { state = Load }) (record op { state = z.0 }) old new z.1) (sym some.1)
-    (more n table x op Load old new _ _ _ _ h refl (current_seen p.sight, refl) t (Walking l.row l.row) (λ r l' e f q. absurd (walking_no l.row l.row r f l' e q))
-    (names_first table.start.layout op.found.generation op.head n (caller table old).made l t.counted saw.is_link val (at ∙ sym (ap (λ (z : Control). z.generation) t.control_is)))
-    (y, refl, refl, some.0, head_on l saw.event some.0) (omega arith))) onward
-  where
-    head_on : (l : Link) (e : Event) → 0 < l.row → (f : Event) × StandsOn (next_stand (at_head op.head) l e) l.row f
-    head_on l e some = subst (λ ss. (f : Event) × StandsOn ss l.row f) (sym (next_is (at_head op.head) l e some)) (e, (new_stand (at_head op.head) l e, inl refl, refl, refl))
-
--- the rows on which the caller stands
-stood : (ss : List Stand) (r : ℕ) → (e : Event) × StandsOn ss r e → In r (rows_of ss)
-stood ss r on = subst (λ z. In z (rows_of ss)) on.1.2 (rows_in ss on.1.0 on.1.1)
-
-stands : (ss : List Stand) (r : ℕ) → In r (rows_of ss) → (e : Event) × StandsOn ss r e
-stands ss r i = let s = in_rows ss r i in (s.0.event, (s.0, s.1, s.2, refl))
-
--- Walking: the row is dead
-pub dead_stepped : (n : ℕ) (table : Table) (x : Control) (op : TakeOp) (r first : ℕ) (old new : Pass) (l : Link) (to : TakeState × Progress MarkEnd) → Lawful (caller table old) → Saw table old new (at_row r) true l → is_passed l.mark ≡ true → Onward l first to
-    → IsTaking n table x (record op { state = Walking r first }) (caller table old) → TakeStepped n table x (record op { state = Walking r first }) (record op { state = to.0 }) old new to.1
-dead_stepped n table x op r first old new l to law saw dead onward t = let p = caller table old in let ss = p.position.rows in let e = saw.event in let y : Walk = record t.at.0 { at = l.row } in let i = stood ss r t.at.4 in
-    let h = saw_loads table old new (at_row r) l saw (Some y) p.sight law t.free (ap (walk_after (at_row r) true p.found.control l) t.at.1 ∙ ap (λ b. Some (cond b y t.at.0)) dead) refl in ⊎_elim
-    (λ end. subst (λ z. TakeStepped n table x (record op { state = Walking r first }) (record op { state = z.0 }) old new z.1) (sym end.1) (nothing n table x op (Walking r first) old new _ _ _ _ h refl t.sees t y refl end.0))
-    (λ some. let on = ⊎_elim (λ (z : l.row ≡ 0). absurd (omega arith)) (λ k. k) (row_next r true l e ss) in let up : (f : Event) → StandsOn ss r f → rank f r < rank e l.row = λ f k. (saw.next f k some.0).0 in
-    subst (λ z. TakeStepped n table x (record op { state = Walking r first }) (record op { state = z.0 }) old new z.1) (sym some.1)
-    (more n table x op (Walking r first) old new _ _ _ _ h refl t.sees t (Walking l.row first) (λ r l' e f q. absurd (walking_no l.row first r f l' e q))
-    (names_on table.start.layout op.found.generation op.head first n p.made (load_made WalkKind (index table.start.layout (link_place r)) (link_word l)) t.counted (row_apart table.start.layout op.head r t.at.3 t.is_head) t.first)
-    (y, refl, refl, some.0, stands (stands_after (at_row r) true l e ss) l.row on) (nearer (at_row r) l e ss _ r saw.is_link (saw.row some.0).1 some.0 i up))) onward
-
--- a sweep that came to a row that was found present goes on past it
-past_row : (n : ℕ) (table : Table) (q r : ℕ) (old new : Pass) (l : Link) (saw : Saw table old new (at_row r) true l) → l.mark ≡ Val → n ≤ length (caller table old).made → ((e : Event) × StandsOn (caller table old).position.rows r e)
-    → SweepsTo table.start.layout (at_head q) (drop n (caller table old).made) (at_row r) → {w : Option Walk} {v : Option Sight} → let p = caller table old in let m = load_made WalkKind (index table.start.layout (link_place r)) (link_word l) in
-    let a : Position = record { rows = stands_after (at_row r) true l saw.event p.position.rows; old = p.position.old } in (f : Event) → StandsOn a.rows r f → SweptPast n table.start.layout q f r (makes m (moved a w v no_names p))
-past_row n table q r old new l saw val counted stood swept {w} {v} f on = let p = caller table old in let ss = p.position.rows in let e = saw.event in let m = load_made WalkKind (index table.start.layout (link_place r)) (link_word l) in
-    let law = subst Lawful saw.part saw.is.lawful in record {
-      next = l.row;
-      sweeps = sweep_passes n p.made (p.made ++ m ∷ []) m refl counted table.start.layout (at_head q) (at_row r) l (record { load = refl; bits = saw.is_link; present = val }) swept;
-      ends = dite (ℕ_discrete l.row 0) inl (λ ne. let some : 0 < l.row = omega arith in inr (
-        e,
-        walk_next (at_row r) true l e ss some,
-        subst (λ z. rank z r < rank e l.row) (one_event (makes m (walks (at_row r) true l e p)) law r stood.0 f (walk_here r true l e ss stood.0 stood.1) on) (saw.next stood.0 stood.1 some).0,
-      ));
+    (record { rows = stands_after cell (take_aim place) w l saw.event (caller table old).position.rows; old = (caller table old).position.old }) w
+saw_loads table old new cell place l saw w law free walks = let p = caller table old in let aim = take_aim place in let ss = p.position.rows in
+    let none : taken_on aim p.found.control cell ss p.sweep ≡ None = ap (λ b. cond b None (swept_head p.found.control cell ss p.sweep)) (takes place) in record {
+      is = saw.is;
+      same = saw.same;
+      load = refl;
+      elsewhere = cell_elsewhere table.start.layout cell;
+      part = saw.part ∙ (λ i. makes (load_made WalkKind (index table.start.layout (cell_place cell)) (link_word l)) (record p {
+        position = record { rows = stands_after cell aim (walks i) l saw.event ss; old = p.position.old };
+        walk = walks i;
+        sweep = sweep_on (none i) l saw.event p.sweep;
+        clean = clean_on (none i) l p.clean;
+        debts = renamed p.debts (ap (relieved_names p.found.control cell ss l saw.event) (unnamed_all p law free) i);
+      }));
     }
 
--- or present
-pub present_stepped : (n : ℕ) (table : Table) (x : Control) (op : TakeOp) (r first : ℕ) (old new : Pass) (l : Link) (unread : Event) → Lawful (caller table old) → Saw table old new (at_row r) true l → l.mark ≡ Val
-    → IsTaking n table x (record op { state = Walking r first }) (caller table old) → TakeStepped n table x (record op { state = Walking r first }) (record op { state = Reading r l 2 unread first }) old new More
-present_stepped n table x op r first old new l unread law saw val t = let p = caller table old in let ss = p.position.rows in let e = saw.event in let y = t.at.0 in let i = stood ss r t.at.4 in
-    let h = saw_loads table old new (at_row r) l saw (Some y) p.sight law t.free (ap (walk_after (at_row r) true p.found.control l) t.at.1 ∙ ap (λ k. Some (cond (is_passed k) (record y { at = l.row }) y)) val) refl in
-    let far = as_far l e ss r i (λ some f k. (saw.next f k some).0) in
-    more n table x op (Walking r first) old new _ _ _ _ h refl t.sees t (Reading r l 2 unread first) (λ r' l' e' f q. absurd (reading_no r r' 2 first f l l' unread e' q)) (
-      names_on table.start.layout op.found.generation op.head first n p.made (load_made WalkKind (index table.start.layout (link_place r)) (link_word l)) t.counted (row_apart table.start.layout op.head r t.at.3 t.is_head) t.first,
-      λ is f on. past_row n table op.head r old new l saw val t.counted t.at.4 (subst (λ z. SweepsTo table.start.layout (at_head op.head) (drop n p.made) (at_row z)) is t.first.swept) f on,
-    ) (
-      record {
-        at = (y, refl, t.at.2, t.at.3, stands (stands_after (at_row r) true l e ss) r (row_stays r true l e ss i));
-        bits = saw.is_link;
-        present = val;
-        known = known_here n p.made (load_made WalkKind (index table.start.layout (link_place r)) (link_word l)) (index table.start.layout (link_place r)) t.counted refl;
-      },
-      omega arith,
-      omega arith,
-      λ f k. (λ b. absurd (omega arith), λ b. absurd (omega arith), λ b. absurd (omega arith)),
-    )
-    (omega arith)
+-- what a new walk of a take is, which begins at its head
+pub record Begun (op : TakeOp) (place : Place) (l : Link) (w : Option Walk) : Type 0 where
+  pub walk : Walk
+  pub is : w ≡ Some walk
+  pub head : walk.head ≡ op.head
+  pub bucket : walk.bucket ≡ bucket_in place
+  pub least : walk.least ≡ row_of op.best
+  pub at : walk.at ≡ l.row
+
+module _ (op : TakeOp) (l : Link) (y : Current) (ss : List Stand) where
+  abbrev seen : Sight
+  seen = record { table = op.found; current = y }
+
+  begun_in : (b : ℕ) (w : Option Walk) → b ≡ bucket (shape_of op.found) y.tick → op.best ≡ None → Begun op (Bucket b) l (new_walk (take_aim (Bucket b)) op.head seen l w ss)
+  begun_in b w of none = record { walk = record { head = op.head; at = l.row; bucket = Some (bucket_seen seen); least = None }; is = refl; head = refl; bucket = ap Some (sym of); least = sym (ap row_of none); at = refl }
+
+  least_first : (w : Option Walk) → op.head ≡ first_head_of op.found.generation → least_after op.found op.head w ss ≡ None
+  least_first None at = refl
+  least_first (Some w) at = ap (λ b. cond b None (best_of w ss)) (eq-eqb op.head (first_head_of op.found.generation) at)
+
+  least_next : (w : Option Walk) (before : Walk) → w ≡ Some before → first_head_of op.found.generation < op.head → least_after op.found op.head w ss ≡ best_of before ss
+  least_next w before is later = ap (λ o. least_after op.found op.head o ss) is ∙ ap (λ b. cond b None (best_of before ss)) (ne_eqb op.head (first_head_of op.found.generation) (omega arith))
+
+  begun_search : (w : Option Walk) → least_after op.found op.head w ss ≡ row_of op.best → Begun op Search l (new_walk (take_aim Search) op.head seen l w ss)
+  begun_search w least = record { walk = record { head = op.head; at = l.row; bucket = None; least = least_after op.found op.head w ss }; is = refl; head = refl; bucket = refl; least = least; at = refl }
+
+  begun_at : (place : Place) (p : Caller) → p.position.rows ≡ ss → p.sight ≡ Some seen → SeesPlace op.found place p → ((b : ℕ) → place ≡ Bucket b → b ≡ bucket (shape_of op.found) y.tick) → IsAtHead op.found place op.head op.best p → Begun op place l (new_walk (take_aim place) op.head seen l p.walk ss)
+  begun_at (Bucket b) p rows sight sees of at = begun_in b p.walk (of b refl) at.1
+  begun_at Search p rows sight sees of at = begun_search p.walk (⊎_elim (λ f. least_first p.walk f.0 ∙ sym (ap row_of f.1)) (λ g. least_next p.walk g.1.walk g.1.walks g.0 ∙ (ap (best_of g.1.walk) (sym rows) ∙ g.1.least)) at)
+
+of_bucket : (x : Control) (place : Place) (p : Caller) (sees : SeesPlace x place p) (b : ℕ) → place ≡ Bucket b → b ≡ bucket (shape_of x) sees.0.tick
+of_bucket x (Bucket c) p sees b is = sym (same c b is) ∙ sees.2
+  where
+    same : (c b : ℕ) → Bucket c ≡ Bucket b → c ≡ b
+    same c b is = cc
+of_bucket x Search p sees b is = absurd (cc)
+
+-- Load: the walk may begin, and at a present head of the table it does
+pub head_seeks : (n : ℕ) (table : Table) (op : TakeOp) (p : Caller) (place : Place) → IsTaking n table op.found (take_at (in_place op place) Load) p → MaySeek p.sight p.walk (at_head op.head) (take_aim place)
+head_seeks n table op p (Bucket b) t = (record { table = op.found; current = t.sees.0 }, t.sees.1, t.at.1.0 ∙ ap (head_for op.found.generation (shape_of op.found)) t.sees.2)
+head_seeks n table op p Search t = (record { table = op.found; current = t.sees.0 }, t.sees.1, ⊎_elim (λ f. inl f.0) (λ g. inr (g.1.walk, g.1.walks, g.1.bucket, g.1.next, t.opened)) t.at.1)
+
+head_begun : (n : ℕ) (table : Table) (op : TakeOp) (p : Caller) (place : Place) (l : Link) → IsTaking n table op.found (take_at (in_place op place) Load) p → l.mark ≡ Val → l.generation ≡ op.found.generation
+    → Begun op place l (walk_after (at_head op.head) (take_aim place) p.sight l p.walk p.position.rows)
+head_begun n table op p place l t val same = let y = t.sees.0 in let s : Sight = record { table = op.found; current = y } in
+    let begins : begins_walk s l ≡ true = λ i. is_val (val i) && eq-eqb l.generation op.found.generation same i in
+    let is : walk_after (at_head op.head) (take_aim place) p.sight l p.walk p.position.rows ≡ new_walk (take_aim place) op.head s l p.walk p.position.rows =
+    ap (λ o. walk_after (at_head op.head) (take_aim place) o l p.walk p.position.rows) t.sees.1 ∙ ap (λ b. cond b (new_walk (take_aim place) op.head s l p.walk p.position.rows) None) begins in
+    subst (Begun op place l) (sym is) (begun_at op l y p.position.rows place p refl t.sees.1 t.sees (of_bucket op.found place p t.sees) t.at.1)
+
+-- Walking: the walk may go on from its row
+pub row_seeks : (x : Control) (op : TakeOp) (r : ℕ) (p : Caller) (place : Place) → IsWalkAt x place op.head op.best r p → MaySeek p.sight p.walk (at_row r) (take_aim place)
+row_seeks x op r p (Bucket b) w = (w.walk, w.walks, w.at)
+row_seeks x op r p Search w = (w.walk, w.walks, w.at)
+
+row_walked : (p : Caller) (place : Place) (r : ℕ) (l : Link) (w : Walk) → p.walk ≡ Some w → walk_after (at_row r) (take_aim place) p.sight l p.walk p.position.rows ≡ Some (cond (is_passed l.mark) (record w { at = l.row }) w)
+row_walked p place r l w is = ap (λ b. cond b (walked l p.walk) None) (takes place) ∙ ap (walked l) is
+
+-- The least row is kept
+
+-- after a walk that knows it
+best_on : (n : ℕ) (table : Table) (x : Control) (head : ℕ) (best : Option Candidate) (p : Caller) (cell : Cell) (place : Place) (y : Walk) (l : Link) (e : Event) (a : Position) (m : Made) → n ≤ length p.made → y.least ≡ row_of best
+    → a.rows ≡ stands_after cell (take_aim place) (Some y) l e p.position.rows → ((c : Candidate) → best ≡ Some c → IsPresent n table c.row c.link c.event p → head_of x c.event < head → m.word ≢ index table.start.layout (link_place c.row))
+    → {w : Option Walk} → ((c : Candidate) → best ≡ Some c → IsBest n table x head c p) → (c : Candidate) → best ≡ Some c → IsBest n table x head c (makes m (moved a w no_names p))
+best_on n table x head best p cell place y l e a m counted least rows apart keeps c is = let k = keeps c is in record {
+  present = record {
+    some_row = k.present.some_row;
+    bits = k.present.bits;
+    present = k.present.present;
+    known = known_else n p.made m (index table.start.layout (link_place c.row)) counted (apart c is k.present k.earlier) ∙ k.present.known;
+    on = subst (λ ss. StandsOn ss c.row c.event) (sym rows) (walk_least cell (take_aim place) y (c.row, c.event) l e p.position.rows c.event (least ∙ ap row_of is) k.present.on);
+  };
+  earlier = k.earlier;
+}
+
+-- a row of a list before is another row
+other_row : (x : Control) (p : Caller) → Lawful p → (r : ℕ) (e : Event) (c : Candidate) (head : ℕ) → StandsOn p.position.rows r e → head_of x e ≡ head → StandsOn p.position.rows c.row c.event → head_of x c.event < head → r ≢ c.row
+other_row x p law r e c head on belongs least earlier same = let is = one_event p law c.row e c.event (subst (λ z. StandsOn p.position.rows z e) same on) least in let q = ap (head_of x) is in omega arith
+
+-- Ranks
+
+-- how far a row is on which the caller stands
+pub far_is : (p : Caller) → Lawful p → (r : ℕ) (e : Event) → StandsOn p.position.rows r e → rank_at p.position.rows r ≡ rank e r
+far_is p law r e on = rank_at_is p.position.rows r e (λ g k. one_event p law r g e k on) on
+
+-- Load: the head is present
+
+module _ (n : ℕ) (table : Table) (op : TakeOp) (old new : Pass) (l : Link) (place : Place) (control : IsControl op.found) (law : Lawful (caller table old)) (saw : Saw table old new (at_head op.head) (take_aim place) l) (val : l.mark ≡ Val)
+    (t : IsTaking n table op.found (take_at (in_place op place) Load) (caller table old)) where
+  abbrev head_made : Made
+  head_made = load_made WalkKind (index table.start.layout (cell_place (at_head op.head))) (link_word l)
+
+  same_table : l.generation ≡ op.found.generation
+  same_table = (saw.marked op.found t.control t.opened).1
+
+  first_in : (place : Place) (a : Position) (w : Option Walk) → IsFirstIn place n table.start.layout (take_at (in_place op place) (Walking l.row l.row)) (Walking l.row l.row) (makes head_made (moved a w no_names (caller table old)))
+  first_in (Bucket b) a w = names_first table.start.layout op.found.generation op.head n (caller table old).made l t.counted saw.is_link val same_table
+  first_in Search a w = tt
+
+  pub head_stepped : TakeStepped n table op.found (take_at (in_place op place) Load) (goes_past (in_place op place) l l.row).0 old new (goes_past (in_place op place) l l.row).1
+  head_stepped = let p = caller table old in let y = head_begun n table op p place l t val same_table in let h = saw_loads table old new (at_head op.head) place l saw (Some y.walk) law t.free y.is in
+      goes_on_past n table op Load old new head_made _ (Some y.walk) h refl refl control (omega arith) y.walk refl y.head y.least place t y.bucket l l.row y.at
+      (best_on n table op.found op.head op.best p (at_head op.head) place y.walk l saw.event _ head_made t.counted y.least refl (λ c is k low e. row_apart table.start.layout op.head c.row k.some_row t.is_head (sym e)) t.at.0)
+      (λ some. (saw.event, walk_next (at_head op.head) (take_aim place) (Some y.walk) l saw.event p.position.rows some, saw.next op.found t.control some))
+      (first_in place _ _)
+      (λ some. omega arith)
+
+-- Walking
+
+module _ (n : ℕ) (table : Table) (op : TakeOp) (old new : Pass) (l : Link) (r first : ℕ) (place : Place) (control : IsControl op.found) (law : Lawful (caller table old)) (saw : Saw table old new (at_row r) (take_aim place) l)
+    (t : IsTaking n table op.found (take_at (in_place op place) (Walking r first)) (caller table old)) where
+  abbrev row_made : Made
+  row_made = load_made WalkKind (index table.start.layout (link_place r)) (link_word l)
+
+  abbrev was : Caller
+  was = caller table old
+
+  abbrev at_now : IsWalkAt op.found place op.head op.best r was
+  at_now = t.at.1
+
+  row_loads : (y : Walk) → Some (cond (is_passed l.mark) (record at_now.walk { at = l.row }) at_now.walk) ≡ Some y
+      → Loads table old new row_made (record { rows = stands_after (at_row r) (take_aim place) (Some y) l saw.event was.position.rows; old = was.position.old }) (Some y)
+  row_loads y is = saw_loads table old new (at_row r) place l saw (Some y) law t.free (row_walked was place r l at_now.walk at_now.walks ∙ is)
+
+  -- the least row is another one
+  best_row : (y : Walk) → y.least ≡ row_of op.best → {w : Option Walk} → KeepsBest n table op.found op (makes row_made (moved (record { rows = stands_after (at_row r) (take_aim place) (Some y) l saw.event was.position.rows; old = was.position.old }) w no_names was))
+  best_row y least = best_on n table op.found op.head op.best was (at_row r) place y l saw.event _ row_made t.counted least refl
+      (λ c is k low. rows_apart table.start.layout c.row r k.some_row (other_row op.found was law r at_now.event c op.head at_now.on at_now.belongs k.on low)) t.at.0
+
+  -- what the caller is after the step is lawful
+  now_lawful : (y : Walk) → Some (cond (is_passed l.mark) (record at_now.walk { at = l.row }) at_now.walk) ≡ Some y
+      → Lawful (makes row_made (moved (record { rows = stands_after (at_row r) (take_aim place) (Some y) l saw.event was.position.rows; old = was.position.old }) (Some y) no_names was))
+  now_lawful y is = let h = row_loads y is in subst Lawful h.part h.is.lawful
+
+  names_stay : (place : Place) → IsFirstIn place n table.start.layout (take_at (in_place op place) (Walking r first)) (Walking r first) was → (q : Caller) → q.made ≡ was.made ++ row_made ∷ []
+      → IsFirstIn place n table.start.layout (take_at (in_place op place) (Walking l.row first)) (Walking l.row first) q
+  names_stay (Bucket b) known q made = subst (λ ms. NamesFirst table.start.layout op.found.generation op.head first (drop n ms)) (sym made)
+      (names_on table.start.layout op.found.generation op.head first n was.made row_made t.counted (row_apart table.start.layout op.head r at_now.some_row t.is_head) known)
+  names_stay Search known q made = tt
+
+  -- the row is dead
+  pub dead_stepped : is_passed l.mark ≡ true → TakeStepped n table op.found (take_at (in_place op place) (Walking r first)) (goes_past (in_place op place) l first).0 old new (goes_past (in_place op place) l first).1
+  dead_stepped dead = let y : Walk = record at_now.walk { at = l.row } in let is = ap (λ b. Some (cond b y at_now.walk)) dead in let h = row_loads y is in let e = saw.event in let law' = now_lawful y is in
+      goes_on_past n table op (Walking r first) old new row_made _ (Some y) h refl refl control (omega arith) y refl at_now.head_is at_now.least place t at_now.bucket l first refl
+      (best_row y at_now.least)
+      (λ some. (e, walk_next (at_row r) (take_aim place) (Some y) l e was.position.rows some, (saw.next at_now.event at_now.on some).1 op.found t.control ∙ at_now.belongs))
+      (names_stay place t.first _ refl)
+      (λ some. let up = (saw.next at_now.event at_now.on some).0 in let low = rank_limit e l.row (saw.row some).1 saw.is_link.row in
+      let far = far_is was law r at_now.event at_now.on in let near = far_is _ law' l.row e (walk_next (at_row r) (take_aim place) (Some y) l e was.position.rows some) in omega arith)
+
+  -- a sweep that came to a row that was found present goes on past it
+  past_row : (y : Walk) → Some (cond (is_passed l.mark) (record at_now.walk { at = l.row }) at_now.walk) ≡ Some y → l.mark ≡ Val → SweepsTo table.start.layout (at_head op.head) (drop n was.made) (at_row r) → (f : Event)
+      → StandsOn (stands_after (at_row r) (take_aim place) (Some y) l saw.event was.position.rows) r f
+      → SweptPast n table.start.layout op.head f r (makes row_made (moved (record { rows = stands_after (at_row r) (take_aim place) (Some y) l saw.event was.position.rows; old = was.position.old }) (Some y) no_names was))
+  past_row y is val swept f on = let e = saw.event in let law' = now_lawful y is in record {
+    next = l.row;
+    sweeps = sweep_passes n was.made (was.made ++ row_made ∷ []) row_made refl t.counted table.start.layout (at_head op.head) (at_row r) l (record { load = refl; bits = saw.is_link; present = val }) swept;
+    ends = dite (ℕ_discrete l.row 0) inl (λ ne. let some : 0 < l.row = omega arith in inr (
+      e,
+      walk_next (at_row r) (take_aim place) (Some y) l e was.position.rows some,
+      subst (λ z. rank z r < rank e l.row) (one_event _ law' r at_now.event f (walk_here r (take_aim place) (Some y) l e was.position.rows at_now.event at_now.on) on) (saw.next at_now.event at_now.on some).0,
+    ));
+  }
+
+  swept_row : (place' : Place) → IsFirstIn place' n table.start.layout (take_at (in_place op place') (Walking r first)) (Walking r first) was → (unread : Event) (y : Walk) → Some (cond (is_passed l.mark) (record at_now.walk { at = l.row }) at_now.walk) ≡ Some y → l.mark ≡ Val
+      → IsFirstIn place' n table.start.layout (take_at (in_place op place') (Reading r l 2 unread first)) (Reading r l 2 unread first)
+      (makes row_made (moved (record { rows = stands_after (at_row r) (take_aim place) (Some y) l saw.event was.position.rows; old = was.position.old }) (Some y) no_names was))
+  swept_row (Bucket b) known unread y is val = (
+    names_on table.start.layout op.found.generation op.head first n was.made row_made t.counted (row_apart table.start.layout op.head r at_now.some_row t.is_head) known,
+    λ at f on. past_row y is val (subst (λ z. SweepsTo table.start.layout (at_head op.head) (drop n was.made) (at_row z)) at known.swept) f on,
+  )
+  swept_row Search known unread y is val = tt
+
+  -- or present
+  pub present_stepped : (unread : Event) → l.mark ≡ Val → TakeStepped n table op.found (take_at (in_place op place) (Walking r first)) (take_at (in_place op place) (Reading r l 2 unread first)) old new More
+  present_stepped unread val = let y = at_now.walk in let is = ap (λ k. Some (cond (is_passed k) (record y { at = l.row }) y)) val in let h = row_loads y is in let e = saw.event in let law' = now_lawful y is in
+      let on = walk_here r (take_aim place) (Some y) l e was.position.rows at_now.event at_now.on in
+      stays_on n table (in_place op place) (Walking r first) old new row_made _ (Some y) h refl refl t (Reading r l 2 unread first) (swept_row place t.first unread y is val) (
+        best_row y at_now.least,
+        (
+          record { walk = y; walks = refl; head_is = at_now.head_is; bucket = at_now.bucket; least = at_now.least; at = at_now.at; some_row = at_now.some_row; event = at_now.event; on = on; belongs = at_now.belongs },
+          record { some_row = at_now.some_row; bits = saw.is_link; present = val; known = known_here n was.made row_made (index table.start.layout (link_place r)) t.counted refl; on = on },
+          (λ b. absurd (omega arith), λ b. absurd (omega arith), λ b. absurd (omega arith)),
+        ),
+        omega arith,
+        omega arith,
+      ) (let far = far_is was law r at_now.event at_now.on in let near = far_is _ law' r at_now.event on in omega arith)
 
 -- Reading: one word more
 
-read_loads : (table : Table) (old new : Pass) (w found : ℕ) → Lawful (caller table old) → (caller table old).debts.cut ≡ None → Stepped table old new (load_made Read w found) stays → Loads table old new (load_made Read w found) (caller table old).position (caller table old).walk (caller table old).sight
-read_loads table old new w found law free h = let p = caller table old in record {
+read_loads : (table : Table) (old new : Pass) (w found : ℕ) → w ≢ index table.start.layout current → Lawful (caller table old) → (caller table old).debts.cut ≡ None → Stepped table old new (load_made Read w found) stays → Loads table old new (load_made Read w found) (caller table old).position (caller table old).walk
+read_loads table old new w found elsewhere law free h = let p = caller table old in record {
   is = h.is;
   same = h.same;
   load = refl;
-  part = h.part ∙ ap (λ names. makes (load_made Read w found) (moved p.position p.walk p.sight names p)) (unnamed_all p law free);
-}
-
--- what was known of the present row stays known
-still : (n : ℕ) (table : Table) (r place : ℕ) (l : Link) (found : ℕ) (p : Caller) → n ≤ length p.made → 2 ≤ place → place < 6 → IsPresent n table r l p
-    → IsPresent n table r l (makes (load_made Read (index table.start.layout (row_place r place)) found) (moved p.position p.walk p.sight no_names p))
-still n table r place l found p low two six h = record {
-  at = h.at;
-  bits = h.bits;
-  present = h.present;
-  known = known_else n p.made (load_made Read (index table.start.layout (row_place r place)) found) (index table.start.layout (link_place r)) low (other_word table.start.layout r place two six) ∙ h.known;
+  elsewhere = elsewhere;
+  part = h.part ∙ ap (λ names. makes (load_made Read w found) (moved p.position p.walk names p)) (unnamed_all p law free);
 }
 
 -- what is to be said of the word that was read
 abbrev pub HasGot : Event → ℕ → ℕ → Event → Type 0
 HasGot read place found got = (e : Event) → IsEvent e → found ≡ event_word e place → IsRead place read e → IsRead (place + 1) got e × (place ≡ 5 → got ≡ e)
 
--- each event that the caller knows of the row is one
-is_event : (table : Table) (pass : Pass) (r : ℕ) (e : Event) → IsPassOf table pass → StandsOn (caller table pass).position.rows r e → IsEvent e
-is_event table pass r e of on = subst IsEvent on.3 (of.lawful.stands on.0 on.1).1
+-- each event that the caller knows of the row is one, and the row has its bits
+pub is_event : (table : Table) (pass : Pass) (r : ℕ) (e : Event) → IsPassOf table pass → StandsOn (caller table pass).position.rows r e → IsEvent e × (r < 16777216)
+is_event table pass r e of on = let s = of.lawful.stands on.0 on.1 in let row = s.0.1 in let all = (caller table pass).start.layout.all_fit in let is = on.2 in (subst IsEvent on.3 s.1, omega arith)
 
--- the word that was read is that of an event
-pub some_word : (n : ℕ) (table : Table) (r : ℕ) (l : Link) (place : ℕ) (old : Pass) (found : ℕ) → IsPassOf table old → ((e : Event) → StandsOn (caller table old).position.rows r e → found ≡ event_word e place)
-    → IsPresent n table r l (caller table old) → (e : Event) × IsEvent e × (found ≡ event_word e place)
-some_word n table r l place old found of word h = let on = h.at.4 in (on.0, is_event table old r on.0 of on.1, word on.0 on.1)
+module _ (n : ℕ) (table : Table) (op : TakeOp) (r : ℕ) (l : Link) (number : ℕ) (read : Event) (first : ℕ) (place : Place) (old new : Pass) (found : ℕ) (got : Event) (of : IsPassOf table old)
+    (h : Stepped table old new (load_made Read (index table.start.layout (row_place r number)) found) stays) (word : (e : Event) → StandsOn (caller table old).position.rows r e → found ≡ event_word e number) (gets : HasGot read number found got)
+    (t : IsTaking n table op.found (take_at (in_place op place) (Reading r l number read first)) (caller table old)) where
+  abbrev word_made : Made
+  word_made = load_made Read (index table.start.layout (row_place r number)) found
 
-module _ (n : ℕ) (table : Table) (x : Control) (op : TakeOp) (r : ℕ) (l : Link) (place : ℕ) (read : Event) (first : ℕ) (old new : Pass) (found : ℕ) (got : Event) (of : IsPassOf table old)
-    (h : Stepped table old new (load_made Read (index table.start.layout (row_place r place)) found) stays) (word : (e : Event) → StandsOn (caller table old).position.rows r e → found ≡ event_word e place) (gets : HasGot read place found got)
-    (t : IsTaking n table x (record op { state = Reading r l place read first }) (caller table old)) where
-  now_read : (e : Event) → StandsOn (caller table old).position.rows r e → IsRead (place + 1) got e × (place ≡ 5 → got ≡ e)
-  now_read e on = gets e (is_event table old r e of on) (word e on) (t.at.3 e on)
+  abbrev reader : Caller
+  reader = caller table old
 
-  still_first : NamesFirst table.start.layout op.found.generation op.head first (drop n ((caller table old).made ++ load_made Read (index table.start.layout (row_place r place)) found ∷ []))
-  still_first = names_on table.start.layout op.found.generation op.head first n (caller table old).made (load_made Read (index table.start.layout (row_place r place)) found) t.counted (event_apart table.start.layout r place (at_head op.head) t.at.0.at.3 t.at.1 t.is_head) t.first.0
+  abbrev read_at : IsWalkAt op.found place op.head op.best r reader
+  read_at = t.at.1.0
 
-  still_past : (e : Event) → StandsOn (caller table old).position.rows r e → first ≡ r
-      → SweptPast n table.start.layout op.head e r (makes (load_made Read (index table.start.layout (row_place r place)) found) (moved (caller table old).position (caller table old).walk (caller table old).sight no_names (caller table old)))
-  still_past e on is = past_on n table.start.layout op.head e r (caller table old) (makes (load_made Read (index table.start.layout (row_place r place)) found) (moved (caller table old).position (caller table old).walk (caller table old).sight no_names (caller table old)))
-      (load_made Read (index table.start.layout (row_place r place)) found) refl t.counted (λ t f less on. on) (t.first.1 is e on)
+  now_read : IsRead (number + 1) got read_at.event × (number ≡ 5 → got ≡ read_at.event)
+  now_read = gets read_at.event (is_event table old r read_at.event of read_at.on).0 (word read_at.event read_at.on) t.at.1.2
+
+  word_loads : Loads table old new word_made reader.position reader.walk
+  word_loads = read_loads table old new _ found (word_elsewhere table.start.layout r number) of.lawful t.free h
+
+  abbrev reader_now : Caller
+  reader_now = makes word_made (moved reader.position reader.walk no_names reader)
+
+  -- what was known of a row that was found present stays known
+  still : (s : ℕ) (k : Link) (e : Event) → IsPresent n table s k e reader → IsPresent n table s k e reader_now
+  still s k e p = record { some_row = p.some_row; bits = p.bits; present = p.present; known = known_else n reader.made word_made (index table.start.layout (link_place s)) t.counted (read_apart table.start.layout r number s read_at.some_row t.at.2) ∙ p.known; on = p.on }
+
+  best_still : KeepsBest n table op.found op reader_now
+  best_still c is = let k = t.at.0 c is in record { present = still c.row c.link c.event k.present; earlier = k.earlier }
+
+  head_still : NamesFirst table.start.layout op.found.generation op.head first (drop n reader.made) → NamesFirst table.start.layout op.found.generation op.head first (drop n reader_now.made)
+  head_still known = names_on table.start.layout op.found.generation op.head first n reader.made word_made t.counted (event_apart table.start.layout r number (at_head op.head) read_at.some_row t.at.2 t.is_head) known
+
+  past_still : (e : Event) → SweptPast n table.start.layout op.head e r reader → SweptPast n table.start.layout op.head e r reader_now
+  past_still e s = past_on n table.start.layout op.head e r reader reader_now word_made refl t.counted (λ t f less on. on) s
 
   -- there are more words to read
-  pub read_stepped : place < 5 → TakeStepped n table x (record op { state = Reading r l place read first }) (record op { state = Reading r l (place + 1) got first }) old new More
-  read_stepped five = let two = t.at.1 in more n table x op (Reading r l place read first) old new _ _ _ _ (read_loads table old new _ found of.lawful t.free h) refl t.sees t (Reading r l (place + 1) got first) (λ r' l' e' f q. absurd (reading_no r r' (place + 1) first f l l' got e' q))
-      (still_first, λ is e on. still_past e on is) (still n table r place l found (caller table old) t.counted t.at.1 t.at.2 t.at.0, omega arith, omega arith, λ e on. (now_read e on).0) (omega arith)
+  first_still : (place : Place) → IsFirstIn place n table.start.layout (take_at (in_place op place) (Reading r l number read first)) (Reading r l number read first) reader
+      → IsFirstIn place n table.start.layout (take_at (in_place op place) (Reading r l (number + 1) got first)) (Reading r l (number + 1) got first) reader_now
+  first_still (Bucket b) known = (head_still known.0, λ is e on. past_still e (known.1 is e on))
+  first_still Search known = tt
+
+  pub read_stepped : number < 5 → TakeStepped n table op.found (take_at (in_place op place) (Reading r l number read first)) (take_at (in_place op place) (Reading r l (number + 1) got first)) old new More
+  read_stepped five = stays_on n table (in_place op place) (Reading r l number read first) old new word_made reader.position reader.walk word_loads refl refl t (Reading r l (number + 1) got first) (first_still place t.first) (
+    best_still,
+    (
+      record { walk = read_at.walk; walks = read_at.walks; head_is = read_at.head_is; bucket = read_at.bucket; least = read_at.least; at = read_at.at; some_row = read_at.some_row; event = read_at.event; on = read_at.on; belongs = read_at.belongs },
+      still r l read_at.event t.at.1.1,
+      now_read.0,
+    ),
+    (let two = t.at.2 in omega arith),
+    omega arith,
+  ) (let two = t.at.2 in omega arith)
 
   -- the event is read, and it is the row's
-  whole : 5 ≤ place → StandsOn (caller table old).position.rows r got
-  whole five = let on = t.at.0.at.4 in let last : place ≡ 5 = (let high = t.at.2 in omega arith) in subst (StandsOn (caller table old).position.rows r) (sym ((now_read on.0 on.1).1 last)) on.1
+  whole : 5 ≤ number → got ≡ read_at.event
+  whole five = now_read.1 (let six = t.at.3 in omega arith)
 
-  pub beyond_stepped : 5 ≤ place → op.limit ≤ got.time → TakeStepped n table x (record op { state = Reading r l place read first }) (record op { state = Load }) old new (Done (Beyond got))
-  beyond_stepped five high = let y = t.at.0.at in past n table x op (Reading r l place read first) old new _ _ _ _ (read_loads table old new _ found of.lawful t.free h) refl t.sees t y.0 got y.1
-      (subst (λ z. StandsOn (caller table old).position.rows z got) (sym y.2) (whole five)) high (r, l, still n table r place l found (caller table old) t.counted t.at.1 t.at.2 t.at.0, whole five)
+  whole_on : 5 ≤ number → IsPresent n table r l got reader_now
+  whole_on five = subst (λ z. IsPresent n table r l z reader_now) (sym (whole five)) (still r l read_at.event t.at.1.1)
 
-  pub whole_stepped : 5 ≤ place → got.time < op.limit → TakeStepped n table x (record op { state = Reading r l place read first }) (record op { state = Marking r l got first }) old new More
-  whole_stepped five low = more n table x op (Reading r l place read first) old new _ _ _ _ (read_loads table old new _ found of.lawful t.free h) refl t.sees t (Marking r l got first) (λ r' l' e' f q. subst (λ (z : Event). z.time < op.limit) (marking_one r r' first f l l' got e' q) low)
-      (still_first, still_past got (whole five)) (still n table r place l found (caller table old) t.counted t.at.1 t.at.2 t.at.0, whole five) (let high = t.at.2 in omega arith)
+  whole_belongs : 5 ≤ number → head_of op.found got ≡ op.head
+  whole_belongs five = ap (head_of op.found) (whole five) ∙ read_at.belongs
 
--- Marking
+  left_some : 0 < list_left (Reading r l number read first) reader
+  left_some = let six = t.at.3 in omega arith
 
--- where a table has one list, each event is of it
-only_list : (x : Control) (q : ℕ) (e : Event) → x.log ≡ 0 → IsOpen x q → head_of x e ≡ q
-unfolding head_for bucket
-only_list x q e one opened = let low = opened.0 in let high = subst (λ z. q < x.generation % 2 * 32768 + 2 ^ z) one opened.1 in
-    let none = subst (λ z. e.time / 2 ^ x.shift % 2 ^ z ≡ 0) (sym one) (mod_one (e.time / 2 ^ x.shift)) in omega arith
-  where
-    mod_one : (m : ℕ) → m % 2 ^ 0 ≡ 0
-    mod_one m = omega arith
+  -- in a bucket
+  bucket_read : (b : ℕ) → IsTaking n table op.found (take_at (in_place op (Bucket b)) (Reading r l number read first)) reader → 5 ≤ number
+      → TakeStepped n table op.found (take_at (in_place op (Bucket b)) (Reading r l number read first)) (row_read (Bucket b) (in_place op (Bucket b)) r l got first).0 old new (row_read (Bucket b) (in_place op (Bucket b)) r l got first).1
+  bucket_read b u five = let o = in_place op (Bucket b) in let s = Reading r l number read first in let p = whole_on five in let w = u.at.1.0 in
+      let at : StandsOn reader.position.rows w.walk.at got = subst (λ z. StandsOn reader.position.rows z got) (sym w.at) p.on in
+      let sh = shape_of op.found in
+      cond_both (ltb b (bucket sh got.time)) (take_at o Load, Done Nothing) (cond (leb op.limit got.time) (take_at o Load, Done (Beyond got)) (take_at o (Marking r l got first), More)) (λ (z : TakeOp × Progress MarkEnd). TakeStepped n table op.found (take_at o s) z.0 old new z.1)
+      (λ past. nothing n table o s old new word_made reader.position reader.walk word_loads refl refl u (u.sees.0, u.sees.1, u.sees.2, (w.walk, w.walks, w.bucket, inr (got, at, ltb-true b (bucket sh got.time) past))))
+      (λ up. let up_to = ltb-false b (bucket sh got.time) up in
+      cond_both (leb op.limit got.time) (take_at o Load, Done (Beyond got)) (take_at o (Marking r l got first), More) (λ (z : TakeOp × Progress MarkEnd). TakeStepped n table op.found (take_at o s) z.0 old new z.1)
+      (λ yes. let high = leb-true op.limit got.time yes in beyond n table o s old new word_made reader.position reader.walk word_loads refl refl u got (record {
+        began = u.began;
+        sight = record { table = op.found; current = u.sees.0 };
+        sees = u.sees.1;
+        nothing = inr (w.walk, w.walks, subst (λ k. EndedWalk k op.found reader.position.rows w.walk op.limit) (sym w.bucket) (inl (got, at, up_to, high)));
+      }) high (r, l, p) up_to)
+      (λ low. stays_on n table o s old new word_made reader.position reader.walk word_loads refl refl u (Marking r l got first)
+      (head_still u.first.0, whole_belongs five, λ is. past_still got (u.first.1 is got p.on))
+      (p, (w.walk, w.walks, w.bucket, subst (λ k. FoundFirst k op.found reader.position.rows w.walk r got) (sym w.bucket) (w.at, up_to)), leb-false op.limit got.time low) left_some))
 
-module _ (n : ℕ) (table : Table) (x : Control) (op : TakeOp) (r : ℕ) (l : Link) (e : Event) (first : ℕ) (old new : Pass) (of : IsPassOf table old)
-    (t : IsTaking n table x (record op { state = Marking r l e first }) (caller table old)) where
-  abbrev mark_made : ℕ → Made
-  mark_made found = step_made MarkKind (index table.start.layout (link_place r)) (link_word l) (link_word (record l { mark = Del })) found
-
-  -- the exchange expects the link that was found, and is to make the row dead
-  mark_works : (found : ℕ) (won : Bool) → caller table new ≡ makes (mark_made found) (where_won won (marks op.found r e) (caller table old)) → Works n true (caller table old) (caller table new)
-  mark_works found won part = subst (Works n true (caller table old)) (sym part) (go won)
+  -- in a search
+  search_read : IsControl op.found → IsTaking n table op.found (take_at (in_place op Search) (Reading r l number read first)) reader → 5 ≤ number
+      → TakeStepped n table op.found (take_at (in_place op Search) (Reading r l number read first)) (row_read Search (in_place op Search) r l got first).0 old new (row_read Search (in_place op Search) r l got first).1
+  search_read control u five = let c : Candidate = record { row = r; link = l; event = got } in let p = whole_on five in let w = u.at.1.0 in
+      goes_next n table op (Reading r l number read first) old new word_made reader.position reader.walk word_loads refl refl control left_some u w.walk w.walks w.bucket w.head_is (Some (lesser_of op.best c))
+      (best_at_row w.walk reader.position.rows op.best c w.at w.some_row w.least (λ g on. one_event reader of.lawful r g got on p.on) p.on)
+      (λ d is. subst (λ z. IsPresent n table z.row z.link z.event reader_now × (head_of op.found z.event ≤ op.head)) (one_best (lesser_of op.best c) d is)
+      (lesser_holds op.best c (λ z. IsPresent n table z.row z.link z.event reader_now × (head_of op.found z.event ≤ op.head)) (λ a e. let k = best_still a e in (k.present, let low = k.earlier in omega arith)) (p, let here = whole_belongs five in omega arith)))
     where
-      go : (won : Bool) → Works n true (caller table old) (makes (mark_made found) (where_won won (marks op.found r e) (caller table old)))
-      go true = record { stays = record { number = refl; start = refl; deal = refl; found = refl; guard = refl }; step = mark_made found; made = refl; kind = refl; expects = λ _. (t.at.0.known, marks_apart l t.at.0.present); timed = λ yes. absurd (cc) }
-      go false = record { stays = record { number = refl; start = refl; deal = refl; found = refl; guard = refl }; step = mark_made found; made = refl; kind = refl; expects = λ _. (t.at.0.known, marks_apart l t.at.0.present); timed = λ yes. absurd (cc) }
+      one_best : (a b : Candidate) → Some a ≡ Some b → a ≡ b
+      one_best a b e = cc
 
-  -- the caller once the row is marked
-  abbrev now_marked : ℕ → Caller
-  now_marked found = makes (mark_made found) (marks op.found r e (caller table old))
-
-  abbrev seen_first : ℕ → Before
-  seen_first f = record { spot = Head op.head; link = head_link op.found.generation f }
-
-  cut_at : (found : ℕ) (seek : SeekState) → spot_of seek ≡ Head op.head → IsAt n table x (cut_of op r e first).sought seek (now_marked found) → IsSeeking n table x (cut_of op r e first).sought seek (now_marked found)
-  cut_at found seek head at = record {
-    counted = let c = t.counted in let longer = length-append (caller table old).made (mark_made found ∷ []) in omega arith;
-    on = t.on;
-    list_is = record { control = t.control; generation = ap (λ (z : Control). z.generation) t.control_is; is_head = t.is_head; opened = t.opened };
-    target_is = only_list x op.head e t.one t.opened;
-    swept = subst (λ z. SweepsTo table.start.layout (at_head op.head) (drop n (now_marked found).made) (cell z)) (sym head) (sweep_begins table.start.layout (at_head op.head) (drop n (now_marked found).made));
-    at = at;
-  }
-
-  -- at the head
-  cut_anew : (found : ℕ) → IsSeeking n table x (cut_of op r e first).sought (Begins (Head op.head)) (now_marked found)
-  cut_anew found = cut_at found (Begins (Head op.head)) refl (t.uncut, refl)
-
-  -- or at the link that was found there, where it named the row
-  cut_first : (found : ℕ) → Lawful (now_marked found) → first ≡ r → IsSeeking n table x (cut_of op r e first).sought (Passing (seen_first r)) (now_marked found)
-  cut_first found law is = let one : (g : Event) → StandsOn (now_marked found).position.rows r g → e ≡ g = λ g on. one_event (now_marked found) law r e g t.at.1 on in
-      let names = subst (λ f. NamesFirst table.start.layout op.found.generation op.head f (drop n (now_marked found).made)) is
-      (names_on table.start.layout op.found.generation op.head first n (caller table old).made (mark_made found) t.counted (row_apart table.start.layout op.head r t.at.0.at.3 t.is_head) t.first.0) in
-      cut_at found (Passing (seen_first r)) refl (
-        t.uncut,
-        record {
-          passed = record {
-            bits = names.bits;
-            present = refl;
-            generation = ap (λ (z : Control). z.generation) t.control_is;
-            known = names.known;
-            reached = refl;
-            swept = names.swept;
-            next = λ some. record { event = e; on = t.at.1; belongs = only_list x op.head e t.one t.opened; beyond = tt };
-            owed = record { ahead = λ d is at owed. (t.at.0.at.3, λ g on. let same = one_target (e, r) (d.event, d.row) is in subst (λ (z : Event × ℕ). rank g r ≤ rank z.0 z.1) same (subst (λ z. rank z r ≤ rank e r) (one g on) (le_refl (rank e r)))) };
-          };
-          some_row = t.at.0.at.3;
-          up_to = λ g on. subst (λ z. rank z r ≤ rank e r) (one g on) (le_refl (rank e r));
-        },
-      )
-
-  -- the list was swept past the row before it was marked
-  swept_first : (found : ℕ) → first ≡ r → CutsSwept n table.start.layout (cut_of op r e first).sought (Passing (seen_first r)) (now_marked found)
-  swept_first found is = record {
-    event = e;
-    row = r;
-    target_is = refl;
-    past = past_on n table.start.layout op.head e r (caller table old) (now_marked found) (mark_made found) refl t.counted (λ t f less on. on) (t.first.1 is);
-    at = refl;
-  }
-
-  module _ {won : Bool} (s : MarkSwapped table old new (at_row r) l op.found r e won) where
-    mark_part : {b : Bool} → won ≡ b → caller table new ≡ makes (mark_made s.swapped.found) (where_won b (marks op.found r e) (caller table old))
-    mark_part is = s.swapped.part ∙ ap (λ b. makes (mark_made s.swapped.found) (where_won b (marks op.found r e) (caller table old))) is
-
-    marked_so : (answer : Progress MarkEnd) → TakeAnswers n table x (record op { state = Marking r l e first }) (record op { state = Load }) old new answer
-        → TakeStepped n table x (record op { state = Marking r l e first }) (record op { state = Load }) old new answer
-    marked_so answer answers = record { is = s.swapped.is; works = mark_works s.swapped.found won s.swapped.part; turns = s.swapped.turns; number = s.swapped.number; free = s.free; answers = answers }
-
-    -- the cut of the row may begin
-    cuts_row : won ≡ true → IsCutting n table x (cut_of op r e first) (caller table new)
-    cuts_row is = let law = subst Lawful (mark_part is) s.swapped.is.lawful in let found = s.swapped.found in subst (IsCutting n table x (cut_of op r e first)) (sym (mark_part is))
-        (cond_both (first == r) (Passing (seen_first r)) (Begins (Head op.head))
-        (λ (z : SeekState). IsSeeking n table x (cut_of op r e first).sought z (now_marked found) × ((first == r) ≡ true → CutsSwept n table.start.layout (cut_of op r e first).sought z (now_marked found)))
-        (λ yes. let at = eqb-true first r yes in (cut_first found law at, λ _. swept_first found at)) (λ no. (cut_anew found, λ yes. absurd (false≢true (sym no ∙ yes)))))
-
-    pub marks_row : (c : CutOp) → c ≡ cut_of op r e first → won ≡ true → TakeStepped n table x (record op { state = Marking r l e first }) (record op { state = Load }) old new (Done (Marked r e c))
-    marks_row c cut is = marked_so (Done (Marked r e c)) (
-      ap (λ (q : Caller). q.own) (mark_part is) ∙ ap (λ j. (caller table old).own ++ Take j e ∷ []) of.sits.numbered,
-      t.below r l e first refl,
-      s.debts ∙ (ap (λ b. cond b (record old.debts { cut = Some (cut_debt op.found r e) }) old.debts) is ∙ ap (λ y. record old.debts { cut = Some (cut_debt y r e) }) t.control_is),
-      ap (λ (q : Caller). q.cut) (mark_part is) ∙ t.uncut,
-      subst (λ z. IsCutting n table x z (caller table new)) (sym cut) (cuts_row is),
-      ap (λ (z : CutOp). z.sought.target) cut,
-    )
-
-    pub marks_not : won ≡ false → TakeStepped n table x (record op { state = Marking r l e first }) (record op { state = Load }) old new (Done Lost)
-    marks_not is = marked_so (Done Lost) (
-      ap (λ (q : Caller). q.own) (mark_part is),
-      s.debts ∙ ap (λ b. cond b (record old.debts { cut = Some (cut_debt op.found r e) }) old.debts) is,
-      refl,
-      ap (λ (q : Caller). q.cut) (mark_part is) ∙ t.uncut,
-      ap (λ (q : Caller). q.debts.cut) (mark_part is) ∙ t.free,
-      (
-        step_made MarkKind (index table.start.layout (cell_place (at_row r))) (link_word l) (link_word (record l { mark = Del })) s.swapped.found,
-        ap (λ (q : Caller). q.made) (mark_part is),
-        refl,
-        λ found. absurd (false≢true (sym is ∙ (sym s.swapped.won_is ∙ eq-eqb s.swapped.found (link_word l) found))),
-      ),
-    )
-
--- the step of the state at which the take is
-pub step_is : (n : ℕ) (table : Table) (x : Control) (op : TakeOp) (s : TakeState) (old new after : Pass) (to answer : TakeState × Progress MarkEnd) → op.state ≡ s → after ≡ new → answer ≡ to
-    → (IsTaking n table x (record op { state = s }) (caller table old) → TakeStepped n table x (record op { state = s }) (record op { state = to.0 }) old new to.1)
-    → IsTaking n table x op (caller table old) → TakeStepped n table x op (record op { state = answer.0 }) old after answer.1
-step_is n table x op s old new after to answer at pass_is to_is step t =
-    subst (λ z. TakeStepped n table x op (record op { state = answer.0 }) old z answer.1) (sym pass_is)
-    (subst (λ (z : TakeState × Progress MarkEnd). TakeStepped n table x op (record op { state = z.0 }) old new z.1) (sym to_is)
-    (subst (λ z. TakeStepped n table x (record op { state = z }) (record op { state = to.0 }) old new to.1) (sym at)
-    (step (subst (λ z. IsTaking n table x (record op { state = z }) (caller table old)) at t))))
+  pub whole_stepped : IsControl op.found → 5 ≤ number
+      → TakeStepped n table op.found (take_at (in_place op place) (Reading r l number read first)) (row_read place (in_place op place) r l got first).0 old new (row_read place (in_place op place) r l got first).1
+  whole_stepped control five = go place t
+    where
+      go : (place' : Place) → IsTaking n table op.found (take_at (in_place op place') (Reading r l number read first)) reader
+          → TakeStepped n table op.found (take_at (in_place op place') (Reading r l number read first)) (row_read place' (in_place op place') r l got first).0 old new (row_read place' (in_place op place') r l got first).1
+      go (Bucket b) u = bucket_read b u five
+      go Search u = search_read control u five

@@ -29,7 +29,7 @@ use Rattle.crq_list.specs.Stretches.{Stretch}
 use Rattle.crq_list.specs.Operations.{Operation}
 use Rattle.crq_list.specs.Sweeps.{SweepsTo}
 use Rattle.crq_list.specs.Spots.{Target, IsAfter, SweptPast}
-use Rattle.crq_list.specs.Seeking.{IsSeeking, seek_exchanges, seek_left}
+use Rattle.crq_list.specs.Seeking.{IsSeeking, seek_exchanges, seek_kind, seek_left}
 
 -- on the way from the dead row r to its retirement
 abbrev pub IsOnRow : SeekState → ℕ → Caller → Type 0
@@ -104,6 +104,7 @@ CutAnswers n table x op op' p q (Done Frozen) = ⊥
 pub record CutStepped (n : ℕ) (table : Table) (x : Control) (op op' : CutOp) (old new : Pass) (answer : Progress CutEnd) : Type 0 where
   pub is : IsPassOf table new
   pub works : Works n (seek_exchanges op.state) (caller table old) (caller table new)
+  pub kind : works.step.kind ≡ seek_kind op.state
   pub turns : new.turns ≡ turns_after (seek_exchanges op.state) old.turns
   pub number : new.number ≡ old.number
   pub free : new.free.items ≡ old.free.items

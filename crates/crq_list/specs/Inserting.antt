@@ -1,6 +1,9 @@
 -- Inserting a row: what is known between two steps, and what each step tells.
-use Rattle.std.specs.Prelude.{◌≡◌, ◌⊎◌, ℕ, ◌+◌, ◌-◌, ◌*◌, ◌^◌, ◌<◌, ◌≤◌, Bool, true, false, List, ◌++◌, length, Some, None}
+use Rattle.std.specs.Prelude.{◌≡◌, ◌⊎◌, ℕ, ◌+◌, ◌-◌, ◌*◌, ◌^◌, ◌<◌, ◌≤◌, Bool, true, false, List, [], ◌∷◌, ◌++◌, length, Some, None}
 use Rattle.crq_base.specs.declared.event.Event.{Event}
+use Rattle.crq_base.specs.declared.entry.Entry.TheVariants.{Put}
+use Rattle.crq_base.specs.declared.kinds.StepKind.{StepKind}
+use Rattle.crq_base.specs.declared.kinds.StepKind.TheVariants.{Write, Link}
 use Rattle.crq_base.specs.declared.words.Control.{Control}
 use Rattle.crq_base.specs.Lists.{In}
 use Rattle.crq_base.specs.Sources.{IsFresh}
@@ -9,8 +12,8 @@ use Rattle.crq_rule.specs.declared.pass.Table.{Table}
 use Rattle.crq_rule.specs.declared.view.Wrote.{Wrote}
 use Rattle.crq_rule.specs.declared.view.Caller.{Caller}
 use Rattle.crq_rule.specs.Parts.{IsOn, IsEvent}
-use Rattle.crq_rule.specs.Ranks.{head_of}
-use Rattle.crq_rule.specs.ListKinds.{IsWritten, event_word, put_entries, unhanded}
+use Rattle.crq_rule.specs.Ranks.{head_of, shape_of}
+use Rattle.crq_rule.specs.ListKinds.{IsWritten, event_word, owed_event, unhanded}
 use Rattle.crq_rows.specs.Passes.{caller, IsPassOf}
 use Rattle.crq_list.specs.declared.parts.Progress.{Progress}
 use Rattle.crq_list.specs.declared.parts.Progress.TheVariants.{More, Done}
@@ -27,7 +30,7 @@ use Rattle.crq_list.specs.Known.{Works, turns_after}
 use Rattle.crq_list.specs.Stretches.{Stretch}
 use Rattle.crq_list.specs.Operations.{Operation}
 use Rattle.crq_list.specs.Spots.{IsListOf}
-use Rattle.crq_list.specs.Seeking.{IsSeeking, IsThere, seek_exchanges, seek_left}
+use Rattle.crq_list.specs.Seeking.{IsSeeking, IsThere, seek_exchanges, seek_kind, seek_left}
 
 -- the words at the places 1 to before `upto` were written into the row: no twin, and the event
 abbrev pub AreWritten : List Wrote → ℕ → Event → ℕ → Type 0
@@ -43,10 +46,12 @@ IsInsertingAt n table x op (Seeking seek) p = IsSeeking n table x (sought_by op)
 IsInsertingAt n table x op (Placing b) p = IsThere n table x (sought_by op) b p × AreWritten p.written op.row op.event 6
 IsInsertingAt n table x op (Linking b) p = IsThere n table x (sought_by op) b p × IsWritten p.written op.row op.event b.link
 
--- a caller that inserts its row in hand, with a fresh event of its sources, into the event's list of the table that it found
+-- a caller that inserts its row in hand, with a fresh event of its sources, into the event's list of the table that it found. It owes no event, and has a permit to raise current's epoch for this one
 pub record IsInserting (n : ℕ) (table : Table) (x : Control) (op : InsertOp) (p : Caller) : Type 0 where
   pub counted : n ≤ length p.made
   pub on : IsOn p.guard
+  pub settled : p.debts.settle ≡ None
+  pub permit : p.permit ≡ true
   pub list_is : IsListOf x op.list p
   pub of_list : head_of x op.event ≡ op.list.head
   pub held : In op.row p.hand
@@ -63,6 +68,13 @@ state_exchanges (Linking b) = true
 abbrev pub insert_exchanges : InsertOp → Bool
 insert_exchanges op = state_exchanges op.state
 
+-- the kind of its next step
+abbrev pub insert_kind : InsertState → StepKind
+insert_kind (Writing place) = Write
+insert_kind (Seeking seek) = seek_kind seek
+insert_kind (Placing b) = Write
+insert_kind (Linking b) = Link
+
 abbrev pub state_left : InsertState → Caller → ℕ
 state_left (Writing place) p = (2 ^ 160) * 32 + (16 - place)
 state_left (Seeking seek) p = seek_left seek p + 8
@@ -75,18 +87,21 @@ after_seek seek More = (Seeking seek, More)
 after_seek seek (Done (There b)) = (Placing b, More)
 after_seek seek (Done FoundFrozen) = (Seeking seek, Done Frozen)
 
+-- Once the row is linked the caller owes the event. The pass has yet to note that at run time, since an insertion doesn't know how wide the table's buckets are
 abbrev pub InsertAnswers : ℕ → Table → Control → InsertOp → InsertOp → Pass → Pass → Progress InsertEnd → Type 0
 InsertAnswers n table x op op' old new More =
     IsInserting n table x op' (caller table new) × (op' ≡ record op { state = op'.state }) × ((caller table new).own ≡ (caller table old).own) × (new.free.items ≡ old.free.items)
     × ((insert_exchanges op ≡ true) ⊎ (state_left op'.state (caller table new) < state_left op.state (caller table old)))
 InsertAnswers n table x op op' old new (Done Linked) =
-    ((caller table new).own ≡ (caller table old).own ++ put_entries old.number op.event) × (new.free.items ≡ unhanded op.row old.free.items) × ((caller table new).cut ≡ None)
+    ((caller table new).own ≡ (caller table old).own ++ Put old.number op.event ∷ []) × (new.free.items ≡ unhanded op.row old.free.items) × ((caller table new).cut ≡ None)
+    × ((caller table new).debts.settle ≡ Some (owed_event x.generation (shape_of x) op.event))
 InsertAnswers n table x op op' old new (Done Frozen) = ⊥
 
 -- one step of it was made
 pub record InsertStepped (n : ℕ) (table : Table) (x : Control) (op op' : InsertOp) (old new : Pass) (answer : Progress InsertEnd) : Type 0 where
   pub is : IsPassOf table new
   pub works : Works n (insert_exchanges op) (caller table old) (caller table new)
+  pub kind : works.step.kind ≡ insert_kind op.state
   pub turns : new.turns ≡ turns_after (insert_exchanges op) old.turns
   pub number : new.number ≡ old.number
   pub debts : new.debts ≡ old.debts

@@ -1,6 +1,8 @@
 -- Walking a list to a target, with dead rows cut on the way: what is known between two steps, and what each step tells.
 use Rattle.std.specs.Prelude.{◌≡◌, ◌≢◌, ◌⊎◌, ℕ, ◌+◌, ◌-◌, ◌*◌, ◌^◌, ◌<◌, ◌≤◌, ◌==◌, ◌/◌, cond, Bool, true, false, length, drop, Some, None}
 use Rattle.crq_base.specs.declared.event.Event.{Event}
+use Rattle.crq_base.specs.declared.kinds.StepKind.{StepKind}
+use Rattle.crq_base.specs.declared.kinds.StepKind.TheVariants.{Walk, Read, Cut, EpochLoad, Retire}
 use Rattle.crq_base.specs.declared.words.Mark.TheVariants.{Del}
 use Rattle.crq_base.specs.declared.words.Control.{Control}
 use Rattle.crq_base.specs.Words.{IsLink}
@@ -85,6 +87,15 @@ abbrev pub seek_exchanges : SeekState → Bool
 seek_exchanges (Cutting b last) = true
 seek_exchanges _ = false
 
+-- the kind of its next step
+abbrev pub seek_kind : SeekState → StepKind
+seek_kind (Load spot) = Walk
+seek_kind (Reading b place) = Read
+seek_kind (Passing b) = Walk
+seek_kind (Cutting b last) = Cut
+seek_kind (Tagging spot row) = EpochLoad
+seek_kind (Retiring spot row tag) = Retire
+
 -- whether it is on the way from a row to its retirement
 abbrev pub is_on_way : SeekState → Bool
 is_on_way (Load spot) = false
@@ -151,6 +162,7 @@ Keeps (Retiring spot row tag) seek' p q = KeepsAll p q × (q.cut ≡ None)
 pub record SeekStepped (n : ℕ) (table : Table) (x : Control) (sought : Sought) (seek seek' : SeekState) (old new : Pass) (answer : Progress SeekEnd) : Type 0 where
   pub is : IsPassOf table new
   pub works : Works n (seek_exchanges seek) (caller table old) (caller table new)
+  pub kind : works.step.kind ≡ seek_kind seek
   pub turns : new.turns ≡ turns_after (seek_exchanges seek) old.turns
   pub number : new.number ≡ old.number
   pub free : new.free.items ≡ old.free.items

@@ -11,14 +11,25 @@ use Rattle.crq_rule.specs.declared.view.Caller.{Caller}
 use Rattle.crq_rule.specs.Places.{index, IsHead}
 use Rattle.crq_rule.specs.Parts.{IsEvent}
 use Rattle.crq_rule.specs.Ranks.{rank, head_of, IsOpen, Cell, at_head, at_row, cell_place}
-use Rattle.crq_rule.specs.ListKinds.{StandsOn}
+use Rattle.crq_rule.specs.ListKinds.{StandsOn, Aim, no_take, in_bucket, in_search}
 use Rattle.crq_list.specs.declared.parts.ListAt.{ListAt}
 use Rattle.crq_list.specs.declared.seek.Sought.{Sought}
+use Rattle.crq_list.specs.declared.parts.Place.{Place}
+use Rattle.crq_list.specs.declared.parts.Place.TheVariants.{Bucket, Search}
 use Rattle.crq_list.specs.declared.parts.Spot.{Spot}
 use Rattle.crq_list.specs.declared.parts.Spot.TheVariants.{Head, Row}
 use Rattle.crq_list.specs.declared.parts.Before.{Before}
 use Rattle.crq_list.specs.Known.{last_known}
 use Rattle.crq_list.specs.Sweeps.{SweepsTo}
+
+-- what a walk is for, by what the take that makes it walks; a walk of no take has none
+abbrev pub take_aim : Place → Aim
+take_aim (Bucket b) = in_bucket
+take_aim Search = in_search
+
+abbrev pub aim_of : Option Place → Aim
+aim_of None = no_take
+aim_of (Some place) = take_aim place
 
 abbrev pub cell : Spot → Cell
 cell (Head q) = at_head q

@@ -14,17 +14,17 @@ use Rattle.crq_rule.specs.Places.{index, control, IsRow}
 use Rattle.crq_rule.specs.Parts.{IsEvent}
 use Rattle.crq_rule.specs.Kinds.{makes}
 use Rattle.crq_rule.specs.Ranks.{Cell, cell_place}
-use Rattle.crq_rule.specs.ListKinds.{walks, links, marks, cuts, unhanded, cut_debt}
+use Rattle.crq_rule.specs.ListKinds.{Aim, walks, links, marks, cuts, unhanded, cut_debt}
 use Rattle.crq_rule.specs.Moves.{WalksOn, IsWalkable}
 use Rattle.crq_rows.specs.Passes.{caller, IsPassOf, load_made, step_made, counted}
 
 -- the link l of the cell was found
-pub record Saw (table : Table) (old new : Pass) (cell : Cell) (seeks : Bool) (l : Link) : Type 0 where
+pub record Saw (table : Table) (old new : Pass) (cell : Cell) (aim : Aim) (l : Link) : Type 0 where
   pub is : IsPassOf table new
   pub same : new ≡ record old { seat = new.seat }
   pub event : Event
   pub is_link : IsLink l
-  pub part : caller table new ≡ makes (load_made Walk (index table.start.layout (cell_place cell)) (link_word l)) (walks cell seeks l event (caller table old))
+  pub part : caller table new ≡ makes (load_made Walk (index table.start.layout (cell_place cell)) (link_word l)) (walks cell aim l event (caller table old))
   pub row : 0 < l.row → IsRow table.start.layout l.row × IsEvent event
   pub next : WalksOn cell l event (caller table old)
   pub marked : IsWalkable cell l (caller table old)
@@ -41,9 +41,9 @@ pub record Swapped (kind : StepKind) (table : Table) (old new : Pass) (cell : Ce
   pub won_is : (found == link_word l) ≡ won
   pub part : caller table new ≡ makes (step_made kind (index table.start.layout (cell_place cell)) (link_word l) (link_word new_link) found) (where_won won f (caller table old))
 
--- Link: where it won, the row is taken out of the free ones
-pub record LinkSwapped (table : Table) (old new : Pass) (cell : Cell) (l : Link) (r : ℕ) (e : Event) (won : Bool) : Type 0 where
-  pub swapped : Swapped LinkKind table old new cell l (record l { row = r }) (links r e) won
+-- Link: where it won, the row is taken out of the free ones. What the pass owes at run time has yet to follow
+pub record LinkSwapped (table : Table) (old new : Pass) (cell : Cell) (l : Link) (x : Control) (r : ℕ) (e : Event) (won : Bool) : Type 0 where
+  pub swapped : Swapped LinkKind table old new cell l (record l { row = r }) (links x r e) won
   pub free : new.free.items ≡ cond won (unhanded r old.free.items) old.free.items
   pub debts : new.debts ≡ old.debts
 
@@ -66,4 +66,3 @@ pub record Controlled (kind : StepKind) (table : Table) (old new : Pass) (f : Co
   pub is_control : IsControl x
   pub part : caller table new ≡ makes (load_made kind (index table.start.layout control) (control_word x)) (f x (caller table old))
   pub steady : x.moving ≡ false
-  pub one : x.log ≡ 0

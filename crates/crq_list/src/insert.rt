@@ -19,7 +19,8 @@ use crq_rows::{Pass, Table, write_step};
 /// How an insertion ends.
 #[derive(Clone, Copy, Debug, PartialEq, Eq)]
 pub enum InsertEnd {
-    /// The row is linked: the event was put.
+    /// The row is linked: the event was put, and the caller owes it to be settled. The pass's own debts don't name it yet,
+    /// since a list doesn't tell how wide the buckets of its table are: whoever made the step notes that.
     Linked,
     /// A head or row was found that a migration froze, or a head of another table. Over one list this doesn't come.
     Frozen,
@@ -252,8 +253,8 @@ fn then_place(
 }
 
 impl InsertOp {
-    /// An insertion that has made no step. `old` is the row of which this one is a copy: none for a put. Over one list no row
-    /// is copied, and nothing reads it: it is there for tables whose rows move to a larger one.
+    /// An insertion that has made no step. `old` is the row of which this one is a copy: none for a put. No row is copied yet,
+    /// and nothing reads it: it is there for tables whose rows move to a larger one.
     pub fn new(list: ListAt, row: u32, event: Event, old: Option<u32>) -> InsertOp
         ensures { result ≡ record { list = list; row = row; event = event; state = Writing 1 } }
     {

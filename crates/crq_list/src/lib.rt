@@ -16,4 +16,4 @@ pub use cut::{CutEnd, CutOp};
 pub use insert::{InsertEnd, InsertOp};
 pub use parts::{ListAt, Place, Progress};
 pub use steps::{begin_step, control_step, head_of, miss_step};
-pub use take::{MarkEnd, TakeOp};
+pub use take::{Candidate, MarkEnd, TakeOp};

@@ -78,7 +78,7 @@ pub(crate) fn load(
     requires seek { IsUnderWay (the_walk sought.now) table.now (Load spot, pass.old) }
     ensures { MakesStep (the_walk sought.now) table.now (Load spot, pass.old) (result.0, pass.new) result.1 }
 {
-    let link = walk_step(table, pass, spot, false);
+    let link = walk_step(table, pass, spot, None);
     match link.mark {
         Mark::Val => next_of(Before { spot, link }, sought),
         Mark::Del => (
@@ -162,7 +162,7 @@ pub(crate) fn pass_row(
     ensures { MakesStep (the_walk sought.now) table.now (Passing before, pass.old) (result.0, pass.new) result.1 }
 {
     let spot = Spot::Row(before.link.row);
-    let link = walk_step(table, pass, spot, false);
+    let link = walk_step(table, pass, spot, None);
     match link.mark {
         Mark::Val => next_of(Before { spot, link }, sought),
         Mark::Del => (SeekState::Cutting(before, link), Progress::More),

@@ -10,10 +10,10 @@ ghost use Rattle.crq_rule.specs.Places.{index, IsPlace};
 ghost use Rattle.crq_rule.specs.Ranks.{at_row, cell_place, head_of};
 ghost use Rattle.crq_rule.specs.ListKinds.{MayWalk, MaySeek, MayLink, MayMark, MayCut, MayMiss, begins, misses, loads_control, unhanded};
 ghost use Rattle.crq_rows.specs.Passes.{caller, IsPassOf};
-ghost use Rattle.crq_list.specs.Spots.{cell};
+ghost use Rattle.crq_list.specs.Spots.{cell, aim_of};
 ghost use Rattle.crq_list.specs.Swaps.{Saw, LinkSwapped, MarkSwapped, CutSwapped, Controlled};
 
-use crate::parts::Spot;
+use crate::parts::{Place, Spot};
 use crq_base::{Control, Event, Link, Mark};
 use crq_rows::{Pass, Table, exchange_as, exchange_seated, load_turning};
 use crq_rule::{BANK, CutDebt};
@@ -31,20 +31,21 @@ fn word_of(table: &Table, spot: Spot) -> usize
     }
 }
 
-/// Loads the link of a head, or of a row on which the pass stands. A take says that it seeks a present row.
-pub(crate) fn walk_step(table: &Table, pass: &mut Pass, spot: Spot, seeks: bool) -> Link
+/// Loads the link of a head, or of a row on which the pass stands. A take says what it walks.
+pub(crate) fn walk_step(table: &Table, pass: &mut Pass, spot: Spot, taken: Option<Place>) -> Link
     requires of { IsPassOf table.now pass.old }
     requires on { IsOn (caller table.now pass.old).guard }
     requires may { MayWalk (caller table.now pass.old).position.rows (cell spot) }
-    requires seek { MaySeek (caller table.now pass.old).own (caller table.now pass.old).found.control (caller table.now pass.old).walk (cell spot) seeks }
-    ensures { Saw table.now pass.old pass.new (cell spot) seeks result }
+    requires seek { MaySeek (caller table.now pass.old).sight (caller table.now pass.old).walk (cell spot) (aim_of taken) }
+    ensures { Saw table.now pass.old pass.new (cell spot) (aim_of taken) result }
 {
     let word = word_of(table, spot);
-    let found = load_turning::<Brand, (Spot, bool)>(table, pass, word, &(spot, seeks));
+    let found = load_turning::<Brand, (Spot, Option<Place>)>(table, pass, word, &(spot, taken));
     Link::from_word(found)
 }
 
-/// Links a row in hand behind the spot, where its link is still this one, and answers whether it was.
+/// Links a row in hand behind the spot, where its link is still this one, and answers whether it was. Then the caller owes
+/// the event to be settled. The pass doesn't note that: whoever made the step does.
 pub(crate) fn link_step(
     table: &Table,
     pass: &mut Pass,
@@ -55,7 +56,7 @@ pub(crate) fn link_step(
 ) -> bool
     requires of { IsPassOf table.now pass.old }
     requires may { (x : Control) × MayLink table.now.start.layout.workers x (cell spot) link row event.now (caller table.now pass.old) }
-    ensures { LinkSwapped table.now pass.old pass.new (cell spot) link row event.now result }
+    ensures { (x : Control) → MayLink table.now.start.layout.workers x (cell spot) link row event.now (caller table.now pass.old) → LinkSwapped table.now pass.old pass.new (cell spot) link x row event.now result }
 {
     let word = word_of(table, spot);
     let old = link.pack();
@@ -92,7 +93,8 @@ fn forget(free: &mut VecDeque<u32>, row: u32)
     }
 }
 
-/// Marks the row at which the pass's walk stands dead, where its link is still this one, and answers whether it was.
+/// Marks dead the row that the pass's walk found to be the first, where its link is still this one, and answers whether it
+/// was.
 pub(crate) fn mark_step(
     table: &Table,
     pass: &mut Pass,
@@ -192,7 +194,7 @@ pub fn begin_step(table: &Table, pass: &mut Pass) -> Control
 /// Ends a take that found no event below the limit: it loads the control word, and adds a Miss to the history.
 pub fn miss_step(table: &Table, pass: &mut Pass, limit: u64) -> Control
     requires of { IsPassOf table.now pass.old }
-    requires may { (x : Control) × MayMiss x limit (caller table.now pass.old) }
+    requires may { MayMiss limit (caller table.now pass.old) }
     ensures { Controlled Miss table.now pass.old pass.new (misses limit) result }
 {
     let word = table.start.layout.control();

@@ -14,7 +14,7 @@ load_turning-found-requires-clause-aside c r p q _ h = subst (StaysAside p) h.af
 
 pub load_turning-found-requires-clause-moves : goal.load_turning-found-requires-clause-moves
 load_turning-found-requires-clause-moves c = let table = c.args.table.now in let p = caller table c.args.pass.now in
-    subst (λ w. MovesBy Miss table.start p w (λ n. n) (FoundControl (misses c.args.limit))) (sym c.control-word.ensures) (miss_moves table.start p c.requires.may.0 c.args.limit c.requires.may.1)
+    subst (λ w. MovesBy Miss table.start p w (λ n. n) (FoundControl (misses c.args.limit))) (sym c.control-word.ensures) (miss_moves table.start p c.args.limit c.requires.may)
 
 pub from_word-requires : goal.from_word-requires
 from_word-requires c = let w = c.load_turning-found.ensures.after.1 in subst IsControlWord w.word (control_below w.control w.is_control)

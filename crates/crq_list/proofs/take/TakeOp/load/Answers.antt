@@ -1,5 +1,10 @@
+use Rattle.crq_list.specs.declared.take.TakeState.TheVariants.{Load}
+use Rattle.crq_list.specs.Taking.{take_at, goes_past}
 use Rattle.crq_list.proofs.TakeLaws.{head_stepped}
+use Rattle.crq_list.proofs.TakeMarks.{answers_so}
 use Rattle.crq_list.proofs.take.TakeOp.load.Goals as goal
 
 pub returns-in-Val : goal.returns-in-Val
-returns-in-Val c = λ n x t. head_stepped n c.args.table.now x c.args.self.now c.args.pass.now _ c.walk_step-link.result c.onward.result c.requires.of.lawful c.walk_step-link.ensures c.in-Val.is c.onward.ensures t
+returns-in-Val c n x t = let table = c.args.table.now in let op = c.args.self in let old = c.args.pass.now in let l = c.walk_step-link.result in
+    answers_so n table x (take_at op Load) old _ c.goes_past.result (goes_past op l l.row) c.goes_past.ensures
+    (λ control u. head_stepped n table op old _ l op.place control c.requires.of.lawful c.walk_step-link.ensures c.in-Val.is u) c.requires.of.lawful t

@@ -9,27 +9,27 @@ use Rattle.crq_list.specs.Taking.{TakeStepped, take_exchanges}
 use Rattle.crq_list.proofs.Stretching.{one_more, the_last, fell}
 use Rattle.crq_list.proofs.take.TakeOp.read_event.Goals as goal
 
-pub read-told-requires-clause-of : goal.read-told-requires-clause-of
-read-told-requires-clause-of c = c.loop-next.invariant.0
+pub read_in-told-requires-clause-of : goal.read_in-told-requires-clause-of
+read_in-told-requires-clause-of c = c.loop-next.invariant.0
 
-pub read-told-requires-clause-op : goal.read-told-requires-clause-op
-read-told-requires-clause-op c = let o = c.requires.op in (o.0, o.1, (c.loop-next.invariant.1 o.0 o.1 o.2).0)
+pub read_in-told-requires-clause-op : goal.read_in-told-requires-clause-op
+read_in-told-requires-clause-op c = let o = c.requires.op in (o.0, o.1, (c.loop-next.invariant.1 o.0 o.1 o.2).0)
 
 pub returns-in_default : goal.returns-in_default
-returns-in_default c n x at = let g = c.loop-next.invariant.1 n x at in the_last TakeOp (Progress MarkEnd) (TakeStepped n c.args.table.now x) take_exchanges More _ _ _ _ _ _ _ g.1 (c.read-told.ensures.stepped n x g.0)
+returns-in_default c n x at = let g = c.loop-next.invariant.1 n x at in the_last TakeOp (Progress MarkEnd) (TakeStepped n c.args.table.now x) take_exchanges More _ _ _ _ _ _ _ g.1 (c.read_in-told.ensures.stepped n x g.0)
 
 pub returns-in_default-2 : goal.returns-in_default-2
-returns-in_default-2 c n x at = let g = c.loop-next.invariant.1 n x at in the_last TakeOp (Progress MarkEnd) (TakeStepped n c.args.table.now x) take_exchanges More _ _ _ _ _ _ _ g.1 (c.read-told.ensures.stepped n x g.0)
+returns-in_default-2 c n x at = let g = c.loop-next.invariant.1 n x at in the_last TakeOp (Progress MarkEnd) (TakeStepped n c.args.table.now x) take_exchanges More _ _ _ _ _ _ _ g.1 (c.read_in-told.ensures.stepped n x g.0)
 
 pub loop-next-smaller : goal.loop-next-smaller
-loop-next-smaller c = let o = c.requires.op in let g = c.loop-next.invariant.1 o.0 o.1 o.2 in let now = c.in-Reading-More in let same = c.read-told.ensures.same now.field-0-0 now.field-1-0 now.next now.read now.field-4-0 now.is-0 in let at : c.read-told.result.0 ≡ Reading c.args.row c.args.link now.next now.read c.args.first = now.is-0 ∙ (λ i. Reading (same.0 i) (same.1 i) now.next now.read (same.2 i)) in
-    let step = subst (λ (z : TakeState × Progress MarkEnd). TakeStepped o.0 c.args.table.now o.1 (record c.args.self.now { state = Reading c.args.row c.args.link c.loop-next.place c.loop-next.event c.args.first }) (record c.args.self.now { state = z.0 }) c.loop-next.pass c.read-told.new.pass z.1) (λ i. (at i, now.is-1 i)) (c.read-told.ensures.stepped o.0 o.1 g.0) in
+loop-next-smaller c = let o = c.requires.op in let g = c.loop-next.invariant.1 o.0 o.1 o.2 in let now = c.in-Reading-More in let same = c.read_in-told.ensures.same now.field-0-0 now.field-1-0 now.next now.read now.field-4-0 now.is-0 in let at : c.read_in-told.result.0 ≡ Reading c.args.row c.args.link now.next now.read c.args.first = now.is-0 ∙ (λ i. Reading (same.0 i) (same.1 i) now.next now.read (same.2 i)) in
+    let step = subst (λ (z : TakeState × Progress MarkEnd). TakeStepped o.0 c.args.table.now o.1 (record c.args.self.now { state = Reading c.args.row c.args.link c.loop-next.place c.loop-next.event c.args.first }) (record c.args.self.now { state = z.0 }) c.loop-next.pass c.read_in-told.new.pass z.1) (λ i. (at i, now.is-1 i)) (c.read_in-told.ensures.stepped o.0 o.1 g.0) in
     fell false _ _ refl step.answers.4
 
 pub loop-next-preserved : goal.loop-next-preserved
-loop-next-preserved c = let o = c.requires.op in let g = c.loop-next.invariant in let now = c.in-Reading-More in let same = c.read-told.ensures.same now.field-0-0 now.field-1-0 now.next now.read now.field-4-0 now.is-0 in let at : c.read-told.result.0 ≡ Reading c.args.row c.args.link now.next now.read c.args.first = now.is-0 ∙ (λ i. Reading (same.0 i) (same.1 i) now.next now.read (same.2 i)) in (
-  (c.read-told.ensures.stepped o.0 o.1 (g.1 o.0 o.1 o.2).0).is,
+loop-next-preserved c = let o = c.requires.op in let g = c.loop-next.invariant in let now = c.in-Reading-More in let same = c.read_in-told.ensures.same now.field-0-0 now.field-1-0 now.next now.read now.field-4-0 now.is-0 in let at : c.read_in-told.result.0 ≡ Reading c.args.row c.args.link now.next now.read c.args.first = now.is-0 ∙ (λ i. Reading (same.0 i) (same.1 i) now.next now.read (same.2 i)) in (
+  (c.read_in-told.ensures.stepped o.0 o.1 (g.1 o.0 o.1 o.2).0).is,
   λ n x begun. let here = g.1 n x begun in
-      let step = subst (λ (z : TakeState × Progress MarkEnd). TakeStepped n c.args.table.now x (record c.args.self.now { state = Reading c.args.row c.args.link c.loop-next.place c.loop-next.event c.args.first }) (record c.args.self.now { state = z.0 }) c.loop-next.pass c.read-told.new.pass z.1) (λ i. (at i, now.is-1 i)) (c.read-told.ensures.stepped n x here.0) in
+      let step = subst (λ (z : TakeState × Progress MarkEnd). TakeStepped n c.args.table.now x (record c.args.self.now { state = Reading c.args.row c.args.link c.loop-next.place c.loop-next.event c.args.first }) (record c.args.self.now { state = z.0 }) c.loop-next.pass c.read_in-told.new.pass z.1) (λ i. (at i, now.is-1 i)) (c.read_in-told.ensures.stepped n x here.0) in
       (step.answers.0, one_more TakeOp (Progress MarkEnd) (TakeStepped n c.args.table.now x) take_exchanges More _ _ _ _ _ _ here.1 step refl),
 )

@@ -16,4 +16,4 @@ invariant-loop-next l = IsPassOf l.table l.pass × ((n : ℕ) (x : Control) → 
     × Goes TakeOp (Progress MarkEnd) (TakeStepped n l.table x) take_exchanges More (record l.self { state = Walking l.fn.start l.fn.first }) (record l.self { state = Walking l.row l.named }) l.fn.pass l.pass)
 
 abbrev pub decreases-loop-next : goal.decreases-loop-next
-decreases-loop-next l = taking_left (Walking l.row l.named) (caller l.table l.pass)
+decreases-loop-next l = taking_left (record l.self { state = Walking l.row l.named }) (caller l.table l.pass)
