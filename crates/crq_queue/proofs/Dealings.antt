@@ -20,7 +20,7 @@ use Rattle.crq_rows.specs.Passes.{first_part, IsOwed}
 use Rattle.crq_rows.specs.Waking.{AllRest, pass_of, AllWoken}
 use Rattle.crq_rows.proofs.Deals.{same_pass}
 use Rattle.crq_queue.specs.declared.calendar.Whole.{Whole}
-use Rattle.crq_queue.specs.Wholes.{IsResting, AreResting, rest_of, history_of, Rests, IsWhole, IsDealt, AreDealt}
+use Rattle.crq_queue.specs.Wholes.{MayGather, AreResting, rest_of, history_of, Rests, IsWhole, IsDealt, AreDealt}
 use Rattle.crq_queue.proofs.Wholes.{place_within, mapped_at, whole_at}
 
 -- a caller that rests, once it is dealt so many sources
@@ -40,6 +40,7 @@ lawful_spanned n p l = record {
   apart = l.apart;
   on = l.on;
   agree = l.agree;
+  owing = l.owing;
   owed_at = l.owed_at;
   owed_now = l.owed_now;
   owed_fits = l.owed_fits;
@@ -63,13 +64,15 @@ spanned_rests table history span k p rest r = record {
   room = r.room;
   debts = r.debts;
   settle = r.settle;
+  settled = r.settled;
+  told = r.told;
   copy = r.copy;
   second_cut = r.second_cut;
 }
 
 -- the pass k of those that are dealt
 pub record IsMade (table : Table) (whole : Whole) (span k : ℕ) (pass : Pass) : Type 0 where
-  pub resting : IsResting table pass
+  pub resting : MayGather table pass
   pub dealt : IsDealt table (history_of whole) span k pass
   pub awake : slice_get whole.places.items k ≡ Some (Resting (rest_of pass))
 
@@ -78,30 +81,34 @@ new_pass : (table : Table) (whole : Whole) (span n : ℕ) (seat : Seat (Unit {0}
     → slice_get whole.places.items n ≡ Some (Resting rest) → Spanned table (history_of whole) span n p rest → IsMade table whole span n (pass_of seat n rest)
 new_pass table whole span n seat p rest b id me at s = let r = s.0 in let part : first_part table.start seat.me.0.parts ≡ p = ap (λ m. first_part table.start m.0.parts) me in record {
   resting = record {
-    is = record {
-      sits = record {
-        seated = id;
-        bare = ap (λ m. m.1) me;
-        one = ap (λ m. m.0.parts) me ∙ ap (λ p. p ∷ []) (sym part);
-        numbered = ap (λ (p : Caller). p.number) part ∙ r.number;
-        inside = b;
-        started = ap (λ (p : Caller). p.start) part ∙ r.start;
+    rests = record {
+      is = record {
+        sits = record {
+          seated = id;
+          bare = ap (λ m. m.1) me;
+          one = ap (λ m. m.0.parts) me ∙ ap (λ p. p ∷ []) (sym part);
+          numbered = ap (λ (p : Caller). p.number) part ∙ r.number;
+          inside = b;
+          started = ap (λ (p : Caller). p.start) part ∙ r.start;
+        };
+        lawful = subst Lawful (sym part) r.lawful;
+        free = r.free ∙ sym (ap (λ (p : Caller). p.hand) part);
+        room = r.room;
+        debts = subst (λ (p : Caller). IsOwed rest.debts p.debts) (sym part) r.debts;
       };
-      lawful = subst Lawful (sym part) r.lawful;
-      free = r.free ∙ sym (ap (λ (p : Caller). p.hand) part);
-      room = r.room;
-      debts = subst (λ (p : Caller). IsOwed rest.debts p.debts) (sym part) r.debts;
+      guard = ap (λ (p : Caller). p.guard) part ∙ r.guard;
+      cut = ap (λ (p : Caller). p.cut) part ∙ r.cut;
+      settle = ap (λ (p : Caller). p.debts.settle) part ∙ (r.settled ∙ sym r.settle);
+      copy = r.copy;
+      second_cut = r.second_cut;
     };
-    guard = ap (λ (p : Caller). p.guard) part ∙ r.guard;
-    cut = ap (λ (p : Caller). p.cut) part ∙ r.cut;
-    settle = r.settle;
-    copy = r.copy;
-    second_cut = r.second_cut;
+    settled = r.settle;
   };
   dealt = record {
     number = refl;
     deal = ap (λ (p : Caller). p.deal) part ∙ the_deal p.deal r.deal s.1;
     own = ap (λ (p : Caller). p.own) part ∙ r.own;
+    told = ap (λ (p : Caller). p.told) part ∙ r.told;
     turns = refl;
   };
   awake = at;

@@ -2,7 +2,7 @@
 use Rattle.std.proofs.Common.{◌≡◌, ℕ, ◌+◌, ◌<◌, ◌≤◌, List, [], ◌∷◌, ◌++◌, map, length, set, Some, sym, refl, ap, ◌∙◌, subst, arith, length-append, length-set, le_refl}
 use Rattle.std.proofs.lemmas.List.{length-map}
 use Rattle.std.specs.Prelude.{Contains, slice_get}
-use mathlib.Core.Option.{some}
+use mathlib.Core.Option.{some, some-injective}
 use mathlib.Core.Logic.{dite}
 use native.Mathlib.Decide.{ℕ_discrete}
 use lib.ListN.{get_elem?}
@@ -10,7 +10,7 @@ use Rattle.atomic_table.specs.declared.shared.Seat.{Seat}
 use Rattle.crq_base.specs.declared.event.Event.{Event}
 use Rattle.crq_base.specs.declared.entry.Entry.{Entry}
 use Rattle.crq_base.specs.Entries.{caller_of as whose}
-use Rattle.crq_base.specs.Histories.{puts, settleds, own as own_of, IsLegal}
+use Rattle.crq_base.specs.Histories.{puts, settleds, table_count, raising_count, own as own_of, IsLegal}
 use Rattle.crq_base.specs.Refusals.{AreCounted}
 use Rattle.crq_rule.specs.declared.layout.Start.{Start}
 use Rattle.crq_rule.specs.declared.pass.Pass.{Pass}
@@ -19,15 +19,15 @@ use Rattle.crq_rule.specs.declared.pass.Seating.{Seating}
 use Rattle.crq_rule.specs.declared.pass.Seating.TheVariants.{Here, Resting}
 use Rattle.crq_rule.specs.declared.view.Caller.{Caller}
 use Rattle.crq_rule.specs.declared.view.View.{View}
-use Rattle.crq_rule.specs.Deals.{HasAll, Gathered, settled_part}
+use Rattle.crq_rule.specs.Deals.{HasAll, AreSettled, Gathered, settled_part}
 use Rattle.crq_rule.specs.Rule.{joined}
 use Rattle.crq_rule.specs.Moves.{Lawful}
 use Rattle.crq_rows.specs.Passes.{caller}
 use Rattle.crq_rows.proofs.Deals.{same_pass}
 use Rattle.crq_rows.proofs.Slots.{get_here, get_else}
 use Rattle.crq_queue.specs.declared.calendar.Whole.{Whole}
-use Rattle.crq_queue.specs.Wholes.{IsResting, AreResting, rest_of, dealt, history_of, Rests, IsWhole, IsGathered}
-use Rattle.crq_queue.proofs.Wholes.{place_within, at_last, at_before, map_at}
+use Rattle.crq_queue.specs.Wholes.{IsResting, MayGather, AreResting, rest_of, dealt, history_of, Rests, IsWhole, IsGathered}
+use Rattle.crq_queue.proofs.Wholes.{within, place_within, at_last, at_before, map_at}
 
 -- the passes below n are taken in: what stays of each rests in its place, and the seat carries its caller
 pub record Joining (table : Table) (start now : List Seating) (seat : Seat (Unit {0}) View) (n : ℕ) : Type 0 where
@@ -45,12 +45,12 @@ joining_end table start now seat n j low high = subst (Joining table start now s
 
 module _ (table : Table) (start : List Seating) (all : AreResting table start) where
   -- a pass in the place k
-  pub pass_at : (k : ℕ) (pass : Pass) → k < table.start.layout.workers → slice_get start k ≡ Some (Here pass) → (pass.number ≡ k) × IsResting table pass
-  pass_at k pass b at = let a = all.each k b in subst (λ (q : Pass). (q.number ≡ k) × IsResting table q) (same_pass a.0 pass (sym a.1 ∙ at)) (a.2, a.3)
+  pub pass_at : (k : ℕ) (pass : Pass) → k < table.start.layout.workers → slice_get start k ≡ Some (Here pass) → (pass.number ≡ k) × MayGather table pass
+  pass_at k pass b at = let a = all.each k b in subst (λ (q : Pass). (q.number ≡ k) × MayGather table q) (same_pass a.0 pass (sym a.1 ∙ at)) (a.2, a.3)
 
   pub joining_first : (now : List Seating) (seat : Seat (Unit {0}) View) (pass : Pass) → 0 < table.start.layout.workers → slice_get start 0 ≡ Some (Here pass) → seat ≡ pass.seat → now ≡ set start 0 (Resting (rest_of pass))
       → Joining table start now seat 1
-  joining_first now seat pass some_workers at is places = let w = all.wide in let sits = (pass_at 0 pass some_workers at).1.is.sits in let parts : seat.me.0.parts ≡ caller table pass ∷ [] = ap (λ s. s.me.0.parts) is ∙ sits.one in record {
+  joining_first now seat pass some_workers at is places = let w = all.wide in let sits = (pass_at 0 pass some_workers at).1.rests.is.sits in let parts : seat.me.0.parts ≡ caller table pass ∷ [] = ap (λ s. s.me.0.parts) is ∙ sits.one in record {
     wide = ap length places ∙ (length-set start 0 (Resting (rest_of pass)) ∙ all.wide);
     each = λ k q b e. let zero_is : 0 ≡ k = omega arith in
         subst (λ k. slice_get start k ≡ Some (Here q) → (slice_get now k ≡ Some (Resting (rest_of q))) × (get_elem? seat.me.0.parts k ≡ some (caller table q))) zero_is
@@ -68,7 +68,7 @@ module _ (table : Table) (start : List Seating) (all : AreResting table start) w
     joining_next = let a = all.each n b in (a.0, j.left n (le_refl n) ∙ a.1)
 
     pub joining_of : (pass : Pass) → slice_get now n ≡ Some (Here pass) → IsResting table pass
-    joining_of pass at = (pass_at n pass b (sym (j.left n (le_refl n)) ∙ at)).1
+    joining_of pass at = (pass_at n pass b (sym (j.left n (le_refl n)) ∙ at)).1.rests
 
     pub joining_more : (now' : List Seating) (seat' other : Seat (Unit {0}) View) (pass : Pass) → slice_get now n ≡ Some (Here pass) → other ≡ pass.seat → now' ≡ set now n (Resting (rest_of pass)) → seat'.table_id ≡ seat.table_id
         → seat'.me ≡ (joined seat.me.0 other.me.0, seat.me.1) → Joining table start now' seat' (n + 1)
@@ -90,7 +90,7 @@ module _ (table : Table) (start : List Seating) (all : AreResting table start) w
 
   module _ (now : List Seating) (seat : Seat (Unit {0}) View) (j : Joining table start now seat table.start.layout.workers) where
     pub joining_all : HasAll table.start.layout.workers seat.me.0
-    joining_all c b = let a = all.each c b in (c, caller table a.0, (j.each c a.0 b a.1).1, a.3.is.sits.numbered ∙ a.2)
+    joining_all c b = let a = all.each c b in (c, caller table a.0, (j.each c a.0 b a.1).1, a.3.rests.is.sits.numbered ∙ a.2)
 
 -- the history is dealt to a caller, whose pass rests
 lawful_settled : (h : List Entry) (p : Caller) → Lawful p → Lawful (settled_part h p)
@@ -106,6 +106,7 @@ lawful_settled h p l = record {
   apart = l.apart;
   on = l.on;
   agree = l.agree;
+  owing = l.owing;
   owed_at = l.owed_at;
   owed_now = l.owed_now;
   owed_fits = l.owed_fits;
@@ -116,8 +117,8 @@ lawful_settled h p l = record {
   controlled = l.controlled;
 }
 
-settled_rests : (table : Table) (history h : List Entry) (k : ℕ) (pass : Pass) → h ≡ history → pass.number ≡ k → IsResting table pass → Rests table history k (settled_part h (caller table pass)) (rest_of pass)
-settled_rests table history h k pass is number r = record {
+settled_rests : (table : Table) (history h : List Entry) (k : ℕ) (pass : Pass) → h ≡ history → pass.number ≡ k → MayGather table pass → Rests table history k (settled_part h (caller table pass)) (rest_of pass)
+settled_rests table history h k pass is number g = let r = g.rests in record {
   number = r.is.sits.numbered ∙ number;
   start = r.is.sits.started;
   lawful = lawful_settled h (caller table pass) r.is.lawful;
@@ -128,7 +129,9 @@ settled_rests table history h k pass is number r = record {
   free = r.is.free;
   room = r.is.room;
   debts = r.is.debts;
-  settle = r.settle;
+  settle = g.settled;
+  settled = r.settle ∙ g.settled;
+  told = refl;
   copy = r.copy;
   second_cut = r.second_cut;
 }
@@ -140,6 +143,11 @@ first_settled h (p ∷ ps) b = refl
 -- all passes are taken in, and the history so far is dealt
 module _ (table : Table) (start : List Seating) (seat : Seat (Unit {0}) View) (whole : Whole) (all : AreResting table start) (j : Joining table start whole.places.items seat table.start.layout.workers)
     (some_workers : 0 < table.start.layout.workers) (g : Gathered seat.me.0 whole.seat.me.0) where
+  -- no caller owes an event
+  are_settled : AreSettled seat.me.0
+  are_settled k p at = let b : k < table.start.layout.workers = subst (λ n. k < n) j.parts (within seat.me.0.parts k p at) in let a = all.each k b in let there = j.each k a.0 b a.1 in
+      ap (λ (q : Caller). q.debts.settle) (some-injective p (caller table a.0) (sym at ∙ there.1)) ∙ (a.3.rests.settle ∙ a.3.settled)
+
   gathered_history : history_of whole ≡ g.history
   gathered_history = ap (λ v. dealt v.parts) g.is ∙ first_settled g.history seat.me.0.parts (let n = j.parts in omega arith)
 
@@ -161,13 +169,15 @@ module _ (table : Table) (start : List Seating) (seat : Seat (Unit {0}) View) (w
   pub joined_history : IsGathered table start whole
   joined_history = let h = gathered_history in let w = all.wide in record {
     legal = subst IsLegal (sym h) g.legal;
-    settled = subst (λ h. (e : Event) → Contains (puts h) e → Contains (settleds h) e) (sym h) g.settled;
+    settled = subst (λ h. (e : Event) → Contains (puts h) e → Contains (settleds h) e) (sym h) (g.settled are_settled);
     since = g.since;
     each = λ k pass e. let b = place_within start k (Here pass) e in let at = j.each k pass (omega arith) e in let of = pass_at table start all k pass (omega arith) e in
-        let told = g.each k (caller table pass) at.1 in (h ∙ told.0, ap (λ c. own_of c g.since) (sym (of.1.is.sits.numbered ∙ of.0)) ∙ told.1);
+        let told = g.each k (caller table pass) at.1 in (h ∙ told.0, ap (λ c. own_of c g.since) (sym (of.1.rests.is.sits.numbered ∙ of.0)) ∙ told.1);
     refused = λ k pass e. let b = place_within start k (Here pass) e in let at = j.each k pass (omega arith) e in let of = pass_at table start all k pass (omega arith) e in
-        subst (λ (z : List Entry × ℕ). AreCounted z.0 z.1 (caller table pass).refused) (λ i. (sym h i, (of.1.is.sits.numbered ∙ of.0) i)) (g.counted k (caller table pass) at.1);
+        subst (λ (z : List Entry × ℕ). AreCounted z.0 z.1 (caller table pass).refused) (λ i. (sym h i, (of.1.rests.is.sits.numbered ∙ of.0) i)) (g.counted k (caller table pass) at.1);
+    tables = λ k pass e. let b = place_within start k (Here pass) e in let at = j.each k pass (omega arith) e in subst (λ (z : List Entry). (caller table pass).told.tables ≤ table_count z) (sym h) (g.tables k (caller table pass) at.1);
+    raising = λ k pass e. let b = place_within start k (Here pass) e in let at = j.each k pass (omega arith) e in subst (λ (z : List Entry). (caller table pass).told.settled ≤ raising_count z) (sym h) (g.raising k (caller table pass) at.1);
     inside = λ e i. let a = all.each 0 some_workers in let at = j.each 0 a.0 some_workers a.1 in
-        subst (λ (s : Start). whose e < s.layout.workers) a.3.is.sits.started (g.inside 0 (caller table a.0) e at.1 i);
+        subst (λ (s : Start). whose e < s.layout.workers) a.3.rests.is.sits.started (g.inside 0 (caller table a.0) e at.1 i);
     awake = λ k pass e. let b = place_within start k (Here pass) e in (j.each k pass (omega arith) e).0;
   }

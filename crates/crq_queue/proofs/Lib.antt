@@ -6,8 +6,14 @@ pub mod RunLoops
 pub mod RunStretches
 pub mod RecoverRuns
 pub mod CallSteps
+pub mod CurrentRuns
+pub mod Settlings
+pub mod Raises
 pub mod CallOps
 pub mod CallStages
+pub mod Takings
+pub mod Catches
 pub mod CallEnds
+pub mod TakeEnds
 pub mod Waits
 pub mod Sets

@@ -24,13 +24,13 @@ use Rattle.crq_rows.specs.declared.recover.RecoverOp.TheVariants.{Ticking, Visit
 use Rattle.crq_rows.specs.declared.recover.Recover.{Recover}
 use Rattle.crq_rows.specs.declared.recover.Recover.TheVariants.{More as GoesOn, Ready, Held, Rows}
 use Rattle.crq_rows.specs.Ticking.{TickMakes, tick_left}
-use Rattle.crq_rows.specs.Owning.{IsOwning, OwnFacts, OwnStepped}
+use Rattle.crq_rows.specs.Owning.{IsOwning, OwnMakes, OwnFacts, OwnStepped}
 use Rattle.crq_rows.specs.Recovering.{IsRecovering, RecoverMakes, RecoverNext, RecoverAnswer, MovesOn, RecoverKnows, RecoverStepped, recover_exchanges, recover_left}
 use Rattle.crq_rows.proofs.Working.{plain_no_tick, own_works, recover_works}
 use Rattle.crq_queue.specs.declared.runs.Spent.{Spent}
-use Rattle.crq_queue.specs.Runs.{RanTicks, MayRun, Looked, looks_last, looks_on, Recovered, ends, goes_on, ticks_of}
+use Rattle.crq_queue.specs.Runs.{is_on_current, KeepsEvent, RanTicks, MayRun, Looked, looks_last, looks_on, Recovered, ends, goes_on, ticks_of}
 use Rattle.crq_queue.specs.Parts.{OwnEnded, OwnRan, RecoverEnded, RecoverRan}
-use Rattle.crq_queue.proofs.RunLaws.{ran_none, ran_both, ran_ticks, ran_step, none_ticks, may_run_on, used_up, ticks_append}
+use Rattle.crq_queue.proofs.RunLaws.{ran_none, ran_both, ran_ticks, ran_step, none_ticks, may_run_on, used_up, keeps_none, keeps_trans, ticks_append}
 
 -- what a search leaves, whatever it found
 pub record Kept (table : Table) (n budget : ℕ) (old new : Pass) : Type 0 where
@@ -41,23 +41,57 @@ pub record Kept (table : Table) (n budget : ℕ) (old new : Pass) : Type 0 where
   pub owed : (caller table new).debts.cut ≡ (caller table old).debts.cut
   pub uncut : (caller table old).cut ≡ None → (caller table new).cut ≡ None
   pub debts : new.debts ≡ old.debts
+  pub event : KeepsEvent table old new
 
 kept_none : {table : Table} {n budget : ℕ} {pass : Pass} → IsPassOf table pass → MayRun table n budget pass → Kept table n budget pass pass
-kept_none of may = record { most = 0; ran = ran_none of may; found = refl; guard = refl; owed = refl; uncut = λ none. none; debts = refl }
+kept_none {table} {n} {budget} {pass} of may = record { most = 0; ran = ran_none of may; found = refl; guard = refl; owed = refl; uncut = λ none. none; debts = refl; event = keeps_none table pass }
 
 -- one step more, which changes of what the caller knows no more than a search does
 kept_on : {table : Table} {n budget : ℕ} {old mid new : Pass} (exchanges : Bool) → budget < 4294967296 → Kept table n budget old mid → (exchanges ≡ true → mid.turns < budget) → IsPassOf table new → new ≡ record mid { seat = new.seat; free = new.free; turns = new.turns }
-    → (works : Works n exchanges (caller table mid) (caller table new)) → new.turns ≡ turns_after exchanges mid.turns → (q : Caller) → caller table new ≡ record (caller table mid) { made = q.made; epochs = q.epochs; tick = q.tick; cut = q.cut; base = q.base; hand = q.hand; ripening = q.ripening; refused = q.refused }
+    → (works : Works n exchanges (caller table mid) (caller table new)) → is_on_current works.step.kind ≡ false → new.turns ≡ turns_after exchanges mid.turns → (q : Caller) → caller table new ≡ record (caller table mid) { made = q.made; epochs = q.epochs; tick = q.tick; cut = q.cut; base = q.base; hand = q.hand; ripening = q.ripening; refused = q.refused }
     → ((caller table mid).cut ≡ None → (caller table new).cut ≡ None) → Kept table n budget old new
-kept_on {table} {n} {budget} {old} {mid} {new} exchanges low k room is same works turns q stays uncut = let debts : new.debts ≡ mid.debts = ap (λ (p : Pass). p.debts) same in record {
+kept_on {table} {n} {budget} {old} {mid} {new} exchanges low k room is same works apart turns q stays uncut = let debts : new.debts ≡ mid.debts = ap (λ (p : Pass). p.debts) same in record {
   most = k.most + ticks_of (works.step ∷ []);
-  ran = ran_both k.ran (ran_step exchanges [] (may_run_on low k.ran) room is (ap (λ (p : Pass). p.number) same) (ap (λ d. d.settle) debts) (ap (λ d. d.copy) debts) (ap (λ d. d.second_cut) debts) works turns (ap (λ (q : Caller). q.own) stays ∙ sym (append-nil (caller table mid).own)));
+  ran = ran_both k.ran (ran_step exchanges [] (may_run_on low k.ran) room is (ap (λ (p : Pass). p.number) same) (ap (λ d. d.copy) debts) (ap (λ d. d.second_cut) debts) works apart turns (ap (λ (q : Caller). q.own) stays ∙ sym (append-nil (caller table mid).own)));
   found = ap (λ (q : Caller). q.found) stays ∙ k.found;
   guard = ap (λ (q : Caller). q.guard) stays ∙ k.guard;
   owed = ap (λ (q : Caller). q.debts.cut) stays ∙ k.owed;
   uncut = λ none. uncut (k.uncut none);
   debts = debts ∙ k.debts;
+  event = keeps_trans k.event (record { run = ap (λ d. d.settle) debts; known = ap (λ (q : Caller). q.debts.settle) stays; permit = works.stays.permit });
 }
+
+-- the last of some steps
+abbrev last_of : Made → List Made → Made
+last_of d [] = d
+last_of d (m ∷ ms) = last_of m ms
+
+last_snoc : (d : Made) (ms : List Made) (m : Made) → last_of d (ms ++ m ∷ []) ≡ m
+last_snoc d [] m = refl
+last_snoc d (x ∷ ms) m = last_snoc x ms m
+
+-- one step more is the same one, however it is told
+one_step : (xs ys : List Made) (a b : Made) → ys ≡ xs ++ a ∷ [] → ys ≡ xs ++ b ∷ [] → a ≡ b
+one_step xs ys a b p q = sym (last_snoc a xs a) ∙ (ap (last_of a) (sym p ∙ q) ∙ last_snoc a xs b)
+
+-- no step of these operations is on current
+
+own_apart : (l : Layout) (op : OwnOp) (m : Made) → OwnMakes l op m → is_on_current m.kind ≡ false
+own_apart l Load m makes = ap is_on_current makes.0
+own_apart l (Looking e row) m makes = ap is_on_current makes.0
+own_apart l (Claiming e row) m makes = ap is_on_current makes.0
+
+tick_apart : (l : Layout) (op : TickOp) (m : Made) → TickMakes l op m → is_on_current m.kind ≡ false
+tick_apart l FirstLoad m makes = ap is_on_current makes.0
+tick_apart l (Scanning e next) m makes = ⊎_elim
+    (λ (scans : (next < l.workers) × (m.kind ≡ Scan) × (m.word ≡ index l (announced next))). ap is_on_current scans.1)
+    (λ (last : (next ≡ l.workers) × (m.kind ≡ Tick) × (m.word ≡ index l epoch) × (m.first ≡ e) × (m.second ≡ e + 1)). ap is_on_current last.1) makes
+tick_apart l (Passed e) m makes = ap is_on_current makes.0
+
+recover_apart : (l : Layout) (op : RecoverOp) (m : Made) → RecoverMakes l op m → is_on_current m.kind ≡ false
+recover_apart l (Ticking n tick) m makes = tick_apart l tick m makes
+recover_apart l (Visiting e row) m makes = ap is_on_current makes.0
+recover_apart l (Taking e row) m makes = ap is_on_current makes.0
 
 -- The first free row, or a ripe one
 
@@ -94,13 +128,13 @@ module _ (table : Table) (n budget : ℕ) (old : Pass) (low : budget < 429496729
   own_on : (result : Own) → OwnStepped table op op' mid new result → OwnFacts table.start.layout op op' (caller table mid) (caller table new) result → OwnGoes table n budget old new
   unfolding kept_on
   own_on result s f = let turns : new.turns ≡ mid.turns = ap (λ (p : Pass). p.turns) s.same in let works = own_works n table.start.layout op op' (caller table mid) (caller table new) result f in record {
-    kept = kept_on false low g.kept (λ e. absurd cc) s.is (s.same ∙ (λ i. record mid { seat = new.seat; free = new.free; turns = sym turns i })) works turns (caller table new) f.stays f.uncut;
+    kept = kept_on false low g.kept (λ e. absurd cc) s.is (s.same ∙ (λ i. record mid { seat = new.seat; free = new.free; turns = sym turns i })) works (ap (λ (m : Made). is_on_current m.kind) (one_step (caller table mid).made (caller table new).made works.step f.made works.made f.one) ∙ own_apart table.start.layout op f.made f.makes) turns (caller table new) f.stays f.uncut;
     quiet = let before = g.quiet in let none = none_ticks works.step (plain_no_tick works.step.kind works.kind) in omega arith;
     turns = turns ∙ g.turns;
   }
 
   own_ran : OwnGoes table n budget old new → (result : Option ℕ) → OwnEnded table old new result → OwnRan table n budget old new result
-  own_ran h result ended = let k = h.kept in record { ran = ran_ticks k.ran (let most = k.ran.ticks in let none = h.quiet in omega arith); found = k.found; guard = k.guard; owed = k.owed; uncut = k.uncut; debts = k.debts; turns = h.turns; ended = ended }
+  own_ran h result ended = let k = h.kept in record { ran = ran_ticks k.ran (let most = k.ran.makes.0 in let none = h.quiet in omega arith); found = k.found; guard = k.guard; owed = k.owed; uncut = k.uncut; debts = k.debts; event = k.event; turns = h.turns; ended = ended }
 
   pub own_more : OwnStepped table op op' mid new More → OwnGoes table n budget old new
   own_more s = ⊎_elim (λ (h : HasFirst mid new More). absurd (row_no_more h.1.0 h.1.3)) (own_on More s) (own_split table op op' mid new More s)
@@ -222,7 +256,8 @@ recover_begins table n budget pass of off may = record { kept = kept_none of may
 
 module _ (table : Table) (n budget : ℕ) (old : Pass) (low : budget < 4294967296) (op op' : RecoverOp) (mid new : Pass) (g : RecoverGoes table n budget op old mid) (room : recover_exchanges table.start.layout op ≡ true → mid.turns < budget) where
   recover_kept : (answer : Recover) → RecoverStepped table op op' mid new answer → Kept table n budget old new
-  recover_kept answer s = let f = s.facts in kept_on (recover_exchanges table.start.layout op) low g.kept room s.is s.same (recover_works n table.start.layout op op' (caller table mid) (caller table new) answer f g.knows g.at) (s.turns ∙ ap (λ b. turns_after b mid.turns) f.exchanges) (caller table new) f.stays f.uncut
+  recover_kept answer s = let f = s.facts in let works = recover_works n table.start.layout op op' (caller table mid) (caller table new) answer f g.knows g.at in kept_on (recover_exchanges table.start.layout op) low g.kept room s.is s.same works
+      (ap (λ (m : Made). is_on_current m.kind) (one_step (caller table mid).made (caller table new).made works.step f.made works.made f.one) ∙ recover_apart table.start.layout op f.made f.makes) (s.turns ∙ ap (λ b. turns_after b mid.turns) f.exchanges) (caller table new) f.stays f.uncut
 
   pub recover_goes : RecoverStepped table op op' mid new GoesOn → RecoverGoes table n budget op' old new
   recover_goes s = let f = s.facts in record {
@@ -242,6 +277,7 @@ module _ (table : Table) (n budget : ℕ) (old : Pass) (low : budget < 429496729
     owed = k.owed;
     uncut = k.uncut;
     debts = k.debts;
+    event = k.event;
     ended = answered answer f.answer done (g.goes new answer (ends op op' mid new answer done s));
   }
     where
@@ -259,5 +295,6 @@ recover_spent table n budget old op new s g exchanges used = let k = g.kept in r
   owed = k.owed;
   uncut = k.uncut;
   debts = k.debts;
+  event = k.event;
   ended = used_up k.ran.is k.ran.within used (record { op = op; at = g.at; knows = g.knows; exchanges = exchanges });
 }

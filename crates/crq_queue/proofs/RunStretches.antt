@@ -58,7 +58,7 @@ module _ (table : Table) (n budget : ℕ) (x : Control) (op : InsertOp) (old : P
 
 module _ (table : Table) (n budget : ℕ) (x : Control) (op : TakeOp) (old : Pass) (low : budget < 4294967296) where
   pub take_runs_on : (now after : TakeOp) (mid new : Pass) → TakeGoes table n budget x op now old mid → (take_exchanges now ≡ true → mid.turns < budget) → TakeStretch n table x now after mid new More
-      → TakeGoes table n budget x op after old new × (all_left budget new.turns (taking_left after.state (caller table new)) < all_left budget mid.turns (taking_left now.state (caller table mid)))
+      → TakeGoes table n budget x op after old new × (all_left budget new.turns (taking_left after (caller table new)) < all_left budget mid.turns (taking_left now (caller table mid)))
   take_runs_on now after mid new g room (ends _ _ _ _ _ s) = (take_goes table n budget x op old low now mid g room after new s, take_falls table n budget x op old low now mid g room after new s)
   take_runs_on now after mid new g room (goes_on _ next _ _ between _ _ s plain rest) = let on = take_goes table n budget x op old low now mid g room next between s in
       let less = take_falls table n budget x op old low now mid g room next between s in let then = take_runs_on next after between new on (no_room plain) rest in (then.0, let fell = then.1 in omega arith)

@@ -1,10 +1,12 @@
 -- What the calls of a calendar say of it as a set.
-use Rattle.std.proofs.Common.{◌≡◌, ◌⊎◌, ⊎_elim, inl, inr, ℕ, zero, suc, ◌<◌, ◌≤◌, ◌*◌, List, [], ◌∷◌, ◌++◌, length, Option, Some, None, Result, Ok, Err, refl, sym, ap, ◌∙◌, subst, arith, zero-le, length-set}
+use Rattle.std.proofs.Common.{◌≡◌, ◌⊎◌, ⊎_elim, inl, inr, ℕ, zero, suc, ◌<◌, ◌≤◌, ◌*◌, List, [], ◌∷◌, ◌++◌, length, Option, Some, None, Result, Ok, Err, refl, sym, ap, ◌∙◌, subst, arith, length-set}
 use Rattle.std.proofs.lemmas.List.{length-map}
-use Rattle.std.specs.Prelude.{slice_get, slice_set, IfErr}
+use Rattle.std.specs.Prelude.{slice_get, slice_set, IfOk, IfErr, OnOk}
 use Rattle.crq_base.specs.declared.event.Event.{Event}
 use Rattle.crq_base.specs.declared.entry.Entry.{Entry}
-use Rattle.crq_base.specs.declared.entry.Entry.TheVariants.{Begin}
+use Rattle.crq_base.specs.declared.entry.Entry.TheVariants.{Begin, Put, Settled, Take, Miss}
+use Rattle.crq_base.specs.declared.answers.TakeEnd.{TakeEnd}
+use Rattle.crq_base.specs.declared.answers.TakeEnd.TheVariants.{Taken, Missed}
 use Rattle.crq_base.specs.declared.answers.Short.{Short}
 use Rattle.crq_base.specs.declared.answers.Short.TheVariants.{Rows, Epochs, Memory}
 use Rattle.crq_rule.specs.declared.pass.Pass.{Pass}
@@ -13,14 +15,14 @@ use Rattle.crq_rule.specs.declared.pass.Seating.{Seating}
 use Rattle.crq_rule.specs.declared.pass.Seating.TheVariants.{Here, Resting, Lifted}
 use Rattle.crq_rows.specs.Passes.{caller, IsPassOf}
 use Rattle.crq_set.specs.Views.{PassView, MayPut}
-use Rattle.crq_set.specs.Answers.{Adds as AddsIn, PutGaveUp}
+use Rattle.crq_set.specs.Answers.{Adds as AddsIn, AddsBegun as AddsBegunIn, LacksEpochs as LacksEpochsIn, Puts, Takes, PutGaveUp, TakeGaveUp}
 use Rattle.crq_set.specs.Gathered.{AreThere, StandsIn, Gathers, IsDealt as IsDealtIn, Deals}
 use Rattle.crq_queue.specs.declared.calendar.Whole.{Whole}
 use Rattle.crq_queue.specs.Sets.{setup_of, first_view, pass_view, place_view, place_views, IsPlaced, ArePlaced}
-use Rattle.crq_queue.specs.Waits.{MayPut as MayPutBy, Adds, PutAdded}
-use Rattle.crq_queue.specs.Wholes.{IsResting, AreResting, IsGathered, AreDealt, history_of}
+use Rattle.crq_queue.specs.Waits.{MayPut as MayPutBy, Adds, AddsBegun, PutAdded, TakeAdded}
+use Rattle.crq_queue.specs.Wholes.{MayGather, AreResting, IsGathered, AreDealt, history_of}
 use Rattle.crq_queue.proofs.Gathers.{pass_at}
-use Rattle.crq_queue.proofs.Waits.{begins_snoc}
+use Rattle.crq_queue.proofs.Waits.{begins_snoc, settles_none}
 use Rattle.crq_queue.proofs.Wholes.{place_within}
 
 -- what the pass's caller knows
@@ -36,30 +38,52 @@ may_put table pass e is may = subst (λ v. MayPut (setup_of table) v e) (view_is
 
 -- Calls
 
-module _ (table : Table) (old new : Pass) (is : IsPassOf table old) where
+module _ (table : Table) (old new : Pass) (may : MayGather table old) where
   adds_in : (entries : List Entry) → Adds table old new entries → AddsIn (pass_view old) (pass_view new) entries
   adds_in entries adds =
       let p : PassView = view_by table old in let q : PassView = view_by table new in
-      let both : AddsIn p q entries = record { number = adds.number; span = ap (λ d. d.span) adds.deal; dealt = ap (λ d. d.history) adds.deal; own = adds.own; tables = zero-le; settled = zero-le } in
-      subst (λ v. AddsIn v (pass_view new) entries) (sym (view_is table old is)) (subst (λ v. AddsIn p v entries) (sym (view_is table new adds.rests.is)) both)
+      let both : AddsIn p q entries = record { number = adds.number; span = ap (λ d. d.span) adds.deal; dealt = ap (λ d. d.history) adds.deal; own = adds.own; tables = adds.told.tables; settled = adds.told.settled } in
+      subst (λ v. AddsIn v (pass_view new) entries) (sym (view_is table old may.rests.is)) (subst (λ v. AddsIn p v entries) (sym (view_is table new adds.rests.is)) both)
+
+  -- it owed no event, so a call adds no other Settled
+  begun_in : (entries : List Entry) → AddsBegun table old new entries → AddsBegunIn (pass_view old) (pass_view new) entries
+  begun_in entries added = let more : List Entry = added.0 ++ (Begin old.number ∷ entries) in
+      (added.0, added.1, adds_in more (subst (λ es. Adds table old new (es ++ more)) (settles_none old may.settled) added.2))
+
+  pub put_puts : (e : Event) (result : Result (Unit {0}) Short) → PutAdded table e old new result → OnOk result (Puts (pass_view old) (pass_view new) e)
+  put_puts e (Ok u) added = begun_in (Put old.number e ∷ Settled old.number e ∷ []) added
+  put_puts e (Err short) added = tt
 
   not_none : (entries : List Entry) (x : Entry) → entries ++ x ∷ [] ≡ [] → ⊥
   not_none [] x is = cc
   not_none (y ∷ entries) x is = cc
 
-  -- a put that gave up for rows had begun in its last try
+  -- a put that gave up had begun in its last try
   pub put_gives_up : (e : Event) (result : Result (Unit {0}) Short) → PutAdded table e old new result → IfErr result (PutGaveUp (setup_of table) (pass_view old) (pass_view new))
   put_gives_up e (Ok u) added = tt
   put_gives_up e (Err Rows) added =
-      let begins = added.0.0 in let adds = added.0.2 in let counts = added.1 in (
-        begins ++ Begin old.number ∷ [],
-        begins_snoc old.number begins added.0.1,
-        adds_in _ adds,
-        λ none. absurd (not_none begins (Begin old.number) none),
-        subst (λ v. table.start.layout.rows ≤ 2 * length v.refused) (sym (view_is table new adds.rests.is)) counts.3,
+      let begun = begun_in [] added.0 in let counts = added.1 in (
+        begun.0 ++ Begin old.number ∷ [],
+        begins_snoc old.number begun.0 begun.1,
+        begun.2,
+        λ none. absurd (not_none begun.0 (Begin old.number) none),
+        subst (λ v. table.start.layout.rows ≤ 2 * length v.refused) (sym (view_is table new added.0.2.rests.is)) counts.3,
       )
-  put_gives_up e (Err Epochs) added = absurd added
+  put_gives_up e (Err Epochs) added =
+      let begun = begun_in [] added.0 in (
+        (begun.0 ++ Begin old.number ∷ [], begins_snoc old.number begun.0 begun.1, begun.2),
+        subst (λ v. LacksEpochsIn (setup_of table) v) (sym (view_is table new added.0.2.rests.is)) added.1,
+      )
   put_gives_up e (Err Memory) added = absurd added
+
+  pub take_takes : (limit : ℕ) (result : Result TakeEnd Short) → TakeAdded table limit old new result → IfOk result (Takes (pass_view old) (pass_view new) limit)
+  take_takes limit (Ok (Taken e route)) added = (added.1, begun_in (Take old.number e ∷ []) added.0)
+  take_takes limit (Ok Missed) added = begun_in (Miss old.number limit ∷ []) added
+  take_takes limit (Err short) added = absurd added
+
+  pub take_gives_up : (limit : ℕ) (result : Result TakeEnd Short) → TakeAdded table limit old new result → IfErr result (TakeGaveUp (setup_of table) (pass_view old) (pass_view new))
+  take_gives_up limit (Ok end) added = tt
+  take_gives_up limit (Err short) added = absurd added
 
 -- Places
 
@@ -123,8 +147,8 @@ gathers table places whole all g = record { legal = g.legal; settled = g.settled
     each k v e =
         let at = pass_there places k v e in let pass : Pass = at.0 in
         let below : k < table.start.layout.workers = (let w = all.wide in let b = place_within places k (Here pass) at.1 in omega arith) in
-        let rests = (pass_at table places all k pass below at.1).1 in let own = g.each k pass at.1 in
-        let known : StandsIn (history_of whole) g.since k (view_by table pass) = record { extends = own.0; own = own.1; refused = g.refused k pass at.1; tables = zero-le; settled = zero-le } in
+        let rests = (pass_at table places all k pass below at.1).1.rests in let own = g.each k pass at.1 in
+        let known : StandsIn (history_of whole) g.since k (view_by table pass) = record { extends = own.0; own = own.1; refused = g.refused k pass at.1; tables = g.tables k pass at.1; settled = g.raising k pass at.1 } in
         subst (StandsIn (history_of whole) g.since k) (sym (view_is table pass rests.is) ∙ at.2) known
 
 pub deals : (table : Table) (whole : Whole) (span : ℕ) (places : List Seating) → AreResting table places → AreDealt table whole span places → Deals table.start.layout.workers (history_of whole) span (place_views places)
@@ -134,8 +158,8 @@ deals table whole span places all dealt = record { count = length-map places pla
     each k below =
         let r = all.each k below in let pass : Pass = r.0 in let d = dealt.each k pass r.1 in
         let known : IsDealtIn (history_of whole) span k (view_by table pass) =
-        record { number = d.number; sources = ap (λ x. x.span) d.deal; dealt = ap (λ x. x.history) d.deal; own = d.own; tables = refl; settled = refl } in
-        (pass_view pass, view_at places k (Here pass) r.1, subst (IsDealtIn (history_of whole) span k) (sym (view_is table pass r.3.is)) known)
+        record { number = d.number; sources = ap (λ x. x.span) d.deal; dealt = ap (λ x. x.history) d.deal; own = d.own; tables = ap (λ t. t.tables) d.told; settled = ap (λ t. t.settled) d.told } in
+        (pass_view pass, view_at places k (Here pass) r.1, subst (IsDealtIn (history_of whole) span k) (sym (view_is table pass r.3.rests.is)) known)
 
 pub rest_placed : (table : Table) (places : List Seating) → AreResting table places → ArePlaced table places
 rest_placed table places all = record { wide = all.wide; each = each }
@@ -152,8 +176,8 @@ module _ (table : Table) (old new : List Seating) (placed : ArePlaced table old)
   pub lift_placed : (k : ℕ) → new ≡ slice_set old k Lifted → ArePlaced table new
   lift_placed k now = subst (ArePlaced table) (sym now) (set_placed table old placed k Lifted tt)
 
-  pub lower_placed : (pass : Pass) → IsResting table pass → new ≡ slice_set old pass.number (Here pass) → ArePlaced table new
-  lower_placed pass rests now = subst (ArePlaced table) (sym now) (set_placed table old placed pass.number (Here pass) (refl, rests))
+  pub lower_placed : (pass : Pass) → MayGather table pass → new ≡ slice_set old pass.number (Here pass) → ArePlaced table new
+  lower_placed pass may now = subst (ArePlaced table) (sym now) (set_placed table old placed pass.number (Here pass) (refl, may))
 
 pub views_set : (old new : List Seating) (k : ℕ) (place : Seating) → new ≡ slice_set old k place → place_views new ≡ slice_set (place_views old) k (place_view place)
 views_set old new k place now = ap place_views now ∙ set_views old k place

@@ -89,8 +89,10 @@ fresh_rests table history k rest none b new = record {
   cut = refl;
   free = new.free;
   room = new.room;
-  debts = subst (λ d. IsOwed d no_debts) (sym new.debts) record { settle = refl; copy = refl; cut = inl refl; second_cut = refl };
+  debts = subst (λ d. IsOwed d no_debts) (sym new.debts) record { settle = inl refl; copy = refl; cut = inl refl; second_cut = refl };
   settle = ap (λ (d : Debts). d.settle) new.debts;
+  settled = refl;
+  told = refl;
   copy = ap (λ (d : Debts). d.copy) new.debts;
   second_cut = ap (λ (d : Debts). d.second_cut) new.debts;
 }

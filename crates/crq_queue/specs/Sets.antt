@@ -5,17 +5,22 @@ use Rattle.crq_rule.specs.declared.pass.Table.{Table}
 use Rattle.crq_rule.specs.declared.pass.Seating.{Seating}
 use Rattle.crq_rule.specs.declared.pass.Seating.TheVariants.{Here, Resting, Lifted}
 use Rattle.crq_rule.specs.declared.view.Caller.{Caller}
-use Rattle.crq_set.specs.Views.{PassView, Setup}
-use Rattle.crq_queue.specs.Wholes.{IsResting}
+use Rattle.crq_rule.specs.declared.view.Told.{Told}
+use Rattle.crq_set.specs.Views.{PassView, Setup, Told as ToldIn}
+use Rattle.crq_queue.specs.Wholes.{MayGather}
 
 -- with what a calendar was made
 abbrev pub setup_of : Table → Setup
 setup_of table = record { first = table.start.first; workers = table.start.layout.workers; rows = table.start.layout.rows }
 
--- What the first of a seat's callers knows. A calendar over one list makes no new table, and its answers tell nothing of other callers' entries, so a pass is told nothing
+-- what answers told a caller
+abbrev pub told_view : Told → ToldIn
+told_view t = record { tables = t.tables; settled = t.settled }
+
+-- what the first of a seat's callers knows
 abbrev pub first_view : List Caller → PassView
 first_view [] = record { number = 0; span = 0; dealt = []; own = []; refused = []; told = record { tables = 0; settled = 0 } }
-first_view (p ∷ ps) = record { number = p.number; span = p.deal.span; dealt = p.deal.history; own = p.own; refused = p.refused; told = record { tables = 0; settled = 0 } }
+first_view (p ∷ ps) = record { number = p.number; span = p.deal.span; dealt = p.deal.history; own = p.own; refused = p.refused; told = told_view p.told }
 
 -- What is known of a pass: its number, and what its caller knows, which its seat carries alone
 abbrev pub pass_view : Pass → PassView
@@ -30,9 +35,9 @@ place_view Lifted = None
 abbrev pub place_views : List Seating → List (Option PassView)
 place_views places = map place_view places
 
--- in the place k is the pass of that number, which has ended its call, or it was lifted
+-- in the place k is the pass of that number, which has ended its call and owes no event, or it was lifted
 abbrev pub IsPlaced : Table → ℕ → Seating → Type 0
-IsPlaced table k (Here pass) = (pass.number ≡ k) × IsResting table pass
+IsPlaced table k (Here pass) = (pass.number ≡ k) × MayGather table pass
 IsPlaced table k (Resting rest) = ⊥
 IsPlaced table k Lifted = Unit {0}
 

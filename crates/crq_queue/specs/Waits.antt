@@ -1,25 +1,25 @@
 -- What the calls that wait do: tries, each after one that was refused for a while, and then settling until nothing is owed.
-use Rattle.std.specs.Prelude.{◌≡◌, ℕ, ◌<◌, List, [], ◌∷◌, ◌++◌, Option, Some, None, Result, Ok, Err}
+use Rattle.std.specs.Prelude.{◌≡◌, ◌⊎◌, ℕ, ◌+◌, ◌-◌, ◌^◌, ◌<◌, ◌≤◌, List, [], ◌∷◌, ◌++◌, Option, Some, None, Result, Ok, Err}
 use Rattle.crq_base.specs.declared.event.Event.{Event}
 use Rattle.crq_base.specs.declared.entry.Entry.{Entry}
-use Rattle.crq_base.specs.declared.entry.Entry.TheVariants.{Begin, Take, Miss}
+use Rattle.crq_base.specs.declared.entry.Entry.TheVariants.{Begin, Put, Settled, Take, Miss}
 use Rattle.crq_base.specs.declared.answers.PutEnd.{PutEnd}
 use Rattle.crq_base.specs.declared.answers.TakeEnd.{TakeEnd}
 use Rattle.crq_base.specs.declared.answers.TakeEnd.TheVariants.{Taken, Missed}
-use Rattle.crq_base.specs.declared.answers.Route.TheVariants.{Bucket}
 use Rattle.crq_base.specs.declared.answers.Refusal.{Refusal}
 use Rattle.crq_base.specs.declared.answers.Refusal.TheVariants.{Again, Held, Rows, Epochs}
 use Rattle.crq_base.specs.declared.answers.Short.{Short}
 use Rattle.crq_base.specs.declared.answers.Short.TheVariants.{Rows as NoRows, Epochs as NoEpochs, Memory}
+use Rattle.crq_rule.specs.declared.debts.SettleDebt.{SettleDebt}
 use Rattle.crq_rule.specs.declared.pass.Pass.{Pass}
 use Rattle.crq_rule.specs.declared.pass.Table.{Table}
 use Rattle.crq_base.specs.Sources.{IsFresh}
-use Rattle.crq_rule.specs.ListKinds.{put_entries}
 use Rattle.crq_rows.specs.Passes.{caller}
 use Rattle.crq_rows.specs.Recovering.{CountsRows}
 use Rattle.crq_set.specs.Answers.{AreBegins}
 use Rattle.crq_queue.specs.Wholes.{IsResting}
-use Rattle.crq_queue.specs.Calls.{call, OwesNothing, PutAnswers, TakeAnswers, SettleAnswers}
+use Rattle.crq_queue.specs.Runs.{ToldMore}
+use Rattle.crq_queue.specs.Calls.{call, settles, OwesNothing, PutAnswers, TakeAnswers, SettleAnswers}
 
 -- the pass may put the event: it is of the pass's sources, and no event of that source and number is in what the pass has seen
 abbrev pub MayPut : Table → Pass → Event → Type 0
@@ -86,30 +86,37 @@ pub record TakeWaited (table : Table) (limit : ℕ) (old new : Pass) (result : R
   pub takes : TakeTried table limit old mid result
   pub settles : SettleTried table mid new
 
--- the pass rests, and these entries were added. Its number and what was dealt to it stay
+-- the pass rests, and these entries were added. Its number and what was dealt to it stay, and what it was told doesn't fall
 pub record Adds (table : Table) (old new : Pass) (entries : List Entry) : Type 0 where
   pub rests : IsResting table new
   pub number : new.number ≡ old.number
   pub deal : (caller table new).deal ≡ (caller table old).deal
   pub own : (caller table new).own ≡ (caller table old).own ++ entries
+  pub told : ToldMore (caller table old) (caller table new)
 
--- Begins of the caller were added, if any
-abbrev pub AddsBegins : Table → Pass → Pass → Type 0
-AddsBegins table old new = (begins : List Entry) × AreBegins old.number begins × Adds table old new begins
-
--- one or more Begins of the caller were added, and then these entries
+-- the event that was owed was settled, if one was, then one or more Begins of the caller were added, and then these entries
 abbrev pub AddsBegun : Table → Pass → Pass → List Entry → Type 0
-AddsBegun table old new entries = (begins : List Entry) × AreBegins old.number begins × Adds table old new (begins ++ (Begin old.number ∷ entries))
+AddsBegun table old new entries = (begins : List Entry) × AreBegins old.number begins × Adds table old new (settles old ++ (begins ++ (Begin old.number ∷ entries)))
 
--- What a put that waits added: the event was put and settled; or no row was to be had, and twice the number of the events that the last try counted is at least that of the caller's rows
+-- the epoch of current has no room left, so many entries was the caller told of
+abbrev pub LacksEpochs : Table → Pass → Type 0
+LacksEpochs table pass = 2 ^ 32 - 64 ≤ table.start.first.epoch + (caller table pass).told.settled
+
+-- What a put that waits added: the event was put and settled; or no row was to be had, and twice the number of the events that the last try counted is at least that of the caller's rows; or the epoch has no room left
 abbrev pub PutAdded : Table → Event → Pass → Pass → Result (Unit {0}) Short → Type 0
-PutAdded table e old new (Ok u) = AddsBegun table old new (put_entries old.number e)
+PutAdded table e old new (Ok u) = AddsBegun table old new (Put old.number e ∷ Settled old.number e ∷ [])
 PutAdded table e old new (Err NoRows) = AddsBegun table old new [] × CountsRows table.start.layout (caller table new)
-PutAdded table e old new (Err NoEpochs) = ⊥
+PutAdded table e old new (Err NoEpochs) = AddsBegun table old new [] × LacksEpochs table new
 PutAdded table e old new (Err Memory) = ⊥
+
+-- the tries of a put left it so, or with the event, and nothing else, still to be settled
+abbrev pub PutLeft : Table → Event → Pass → Pass → Result (Unit {0}) Short → Type 0
+PutLeft table e old new (Ok u) = (PutAdded table e old new (Ok u) × OwesNothing new)
+    ⊎ (AddsBegun table old new (Put old.number e ∷ []) × ((d : SettleDebt) × (new.debts.settle ≡ Some d) × (d.event ≡ e) × (new.debts.cut ≡ None)))
+PutLeft table e old new (Err short) = PutAdded table e old new (Err short) × OwesNothing new
 
 -- what a take that waits added: an event below the limit was taken; or there was none. It gives no error
 abbrev pub TakeAdded : Table → ℕ → Pass → Pass → Result TakeEnd Short → Type 0
-TakeAdded table limit old new (Ok (Taken e route)) = AddsBegun table old new (Take old.number e ∷ []) × (e.time < limit) × (route ≡ Bucket 0)
+TakeAdded table limit old new (Ok (Taken e route)) = AddsBegun table old new (Take old.number e ∷ []) × (e.time < limit)
 TakeAdded table limit old new (Ok Missed) = AddsBegun table old new (Miss old.number limit ∷ [])
 TakeAdded table limit old new (Err short) = ⊥

@@ -8,7 +8,7 @@ use std::sync::Wait;
 
 impl EventSet for Calendar {
     ghost use Rattle.crq_queue.specs.Sets.{setup_of, pass_view, place_views, ArePlaced};
-    ghost use Rattle.crq_queue.specs.Wholes.{IsResting, IsWhole, history_of};
+    ghost use Rattle.crq_queue.specs.Wholes.{MayGather, IsWhole, history_of};
 
     type Pass = Pass;
 
@@ -20,7 +20,7 @@ impl EventSet for Calendar {
 
     ghost view = { λ p. pass_view p };
 
-    ghost is_of = { λ s p. IsResting s.table p };
+    ghost is_of = { λ s p. MayGather s.table p };
 
     ghost places = { λ ps. place_views ps.places.items };
 

@@ -1,14 +1,17 @@
-//! The lock-free calendar queue over one sorted list.
+//! The lock-free calendar queue.
 #![tactic(auto)]
 
 mod calendar;
 mod calls;
 mod dealing;
 mod event_set;
+mod finding;
 mod gathering;
 mod maker;
 mod runs;
 mod set_maker;
+mod settling;
+mod taking;
 mod waiting;
 
 pub use calendar::{Calendar, Closed, Whole};

@@ -1,10 +1,10 @@
 //! The calls that wait: tries until one isn't refused for a while, and then settling.
-ghost use Rattle.std.specs.Prelude.{◌≡◌, [], IfErr, IsOk, None};
-ghost use Rattle.crq_base.specs.declared.answers.Short.TheVariants.{Rows};
+ghost use Rattle.std.specs.Prelude.{◌≡◌, ◌⊎◌, IfErr, IsOk, None};
+ghost use Rattle.crq_base.specs.declared.answers.Short.TheVariants.{Rows, Epochs};
 ghost use Rattle.crq_rows.specs.Passes.{caller};
 ghost use Rattle.crq_queue.specs.Wholes.{IsResting};
-ghost use Rattle.crq_queue.specs.Calls.{OwesNothing};
-ghost use Rattle.crq_queue.specs.Waits.{MayPut, PutTried, TakeTried, SettleTried, PutWaited, TakeWaited, PutAdded, TakeAdded, Adds, short_of};
+ghost use Rattle.crq_queue.specs.Calls.{OwesNothing, settles};
+ghost use Rattle.crq_queue.specs.Waits.{MayPut, PutTried, TakeTried, SettleTried, PutWaited, TakeWaited, PutAdded, PutLeft, TakeAdded, Adds, short_of};
 
 use crate::calendar::Calendar;
 use crq_base::{Event, Refusal, Short, TakeEnd};
@@ -34,13 +34,13 @@ fn short_after(refusal: Refusal) -> Option<Short>
 }
 
 impl Calendar {
-    /// Tries to put an event until a try isn't refused for a while.
+    /// Tries to put an event until a try isn't refused for a while. The event may be left to settle.
     fn await_put<R: Wait>(&self, rt: &R, pass: &mut Pass, event: &Event) -> Result<(), Short>
         requires rests { IsResting self.now.table pass.old }
         requires fresh { MayPut self.now.table pass.old event.now }
         ensures tried { PutTried self.now.table event.now pass.old pass.new result }
-        ensures added { PutAdded self.now.table event.now pass.old pass.new result }
-        ensures nothing { OwesNothing pass.new }
+        ensures left { PutLeft self.now.table event.now pass.old pass.new result }
+        ensures rests { IsResting self.now.table pass.new }
     {
         for _ in rt.forever() {
             match self.try_put(pass, event, TRY_BUDGET) {
@@ -55,12 +55,14 @@ impl Calendar {
         unreachable!()
     }
 
-    /// Tries to take an event until a try isn't refused for a while.
+    /// Tries to take an event until a try isn't refused for a while. No event is left to settle.
     fn await_take<R: Wait>(&self, rt: &R, pass: &mut Pass, limit: u64) -> Result<TakeEnd, Short>
         requires rests { IsResting self.now.table pass.old }
         ensures tried { TakeTried self.now.table limit pass.old pass.new result }
         ensures added { TakeAdded self.now.table limit pass.old pass.new result }
         ensures rests { IsResting self.now.table pass.new }
+        ensures settled { pass.new.debts.settle ≡ None }
+        ensures ok { IsOk result }
     {
         for _ in rt.forever() {
             match self.try_take(pass, limit, TRY_BUDGET) {
@@ -75,11 +77,11 @@ impl Calendar {
         unreachable!()
     }
 
-    /// Tries to settle what the pass owes until it owes nothing.
+    /// Tries to settle what the pass owes until it owes nothing. It adds the Settled of the event that was owed, if one was.
     fn await_settling<R: Wait>(&self, rt: &R, pass: &mut Pass)
         requires rests { IsResting self.now.table pass.old }
         ensures tried { SettleTried self.now.table pass.old pass.new }
-        ensures added { Adds self.now.table pass.old pass.new [] }
+        ensures added { Adds self.now.table pass.old pass.new (settles pass.old) }
         ensures idle { OwesNothing pass.old → caller self.now.table pass.new ≡ caller self.now.table pass.old }
     {
         for _ in rt.forever() {
@@ -96,19 +98,22 @@ impl Calendar {
     }
 
     /// Puts an event, and waits while that is refused for a reason that other callers or one more try may end: it tries again
-    /// after Again, and after Held it yields the processor first. The entries that it adds are Begins, at least one, the Put and
-    /// its Settled. The pass owes nothing afterwards, whatever it owed before.
+    /// after Again, and after Held it yields the processor first. The entries that it adds are the Settled of the event that the
+    /// pass owed, if it owed one, and then Begins, at least one, the Put and its Settled. Where a try puts the event and leaves
+    /// it to settle, it settles that before it returns. The pass owes nothing afterwards, whatever it owed before.
     ///
-    /// Its one error is Rows, where no row is to be had. Then the event wasn't put, and only Begins were added, at least one.
-    /// Half as many events as the caller has rows, or more, were pending in the last try; the pass keeps them for `gather`.
-    /// Another call may be made at once, but it needs others to take events first. It takes no memory.
+    /// After an error the event wasn't put, and beside the Settled of what was owed only Begins were added, at least one. Rows
+    /// comes where no row is to be had: half as many events as the caller has rows, or more, were pending in the last try, and
+    /// the pass keeps them for `gather`. Another call may be made at once, but it needs others to take events first. Epochs
+    /// comes where the last try found current's epoch at 2^32 - 64 or above, and so was told of as many entries. It takes no
+    /// memory.
     pub fn put<R: Wait>(&self, rt: &R, pass: &mut Pass, event: &Event) -> Result<(), Short>
         requires rests { IsResting self.now.table pass.old }
         requires fresh { MayPut self.now.table pass.old event.now }
         ensures waited { PutWaited self.now.table event.now pass.old pass.new result }
         ensures added { PutAdded self.now.table event.now pass.old pass.new result }
         ensures nothing { OwesNothing pass.new }
-        ensures error { IfErr result (λ short. short ≡ Rows) }
+        ensures error { IfErr result (λ short. (short ≡ Rows) ⊎ (short ≡ Epochs)) }
     {
         let end = self.await_put(rt, pass, event);
         self.await_settling(rt, pass);
@@ -117,8 +122,9 @@ impl Calendar {
 
     /// Takes the least event below the limit, and waits while that is refused for a reason that other callers or one more try
     /// may end: it tries again after Again, and after Held it would yield the processor first, though a take needs no row and
-    /// is never refused so. The entries that it adds are Begins, at least one, and the Take or, where there is no such event,
-    /// the Miss. It cuts the row of the event, so the pass owes nothing afterwards, whatever it owed before.
+    /// is never refused so. The entries that it adds are the Settled of the event that the pass owed, if it owed one, and then
+    /// Begins, at least one, and the Take or, where there is no such event, the Miss. It cuts the row of the event, so the pass
+    /// owes nothing afterwards, whatever it owed before.
     ///
     /// It answers no error, and takes no memory.
     pub fn take<R: Wait>(&self, rt: &R, pass: &mut Pass, limit: u64) -> Result<TakeEnd, Short>

@@ -35,7 +35,7 @@ returns-in-Done-Linked c n x begun = let l = c.loop-op in let g = l.invariant n 
     (subst (λ end. InsertStretch n c.args.table.now x l.op c.run.new.self l.pass c.run.new.pass (Done end)) a.field-0-is (a.ensures n x g.at))
 
 pub returns : goal.returns
-returns c n x begun = let l = c.loop-op in insert_spent c.args.table.now n c.args.budget x c.args.op c.args.pass.now (omega arith) l.op l.pass _ (l.invariant n x begun) (sym c.exchanges.ensures ∙ c.if-not-exchanges.false) c.if-pass-budget.false
+returns c n x begun = let l = c.loop-op in insert_spent c.args.table.now n c.args.budget x c.args.op c.args.pass.now (omega arith) l.op l.pass _ begun (l.invariant n x begun) (sym c.exchanges.ensures ∙ c.if-not-exchanges.false) c.if-pass-budget.false
 
 pub unreachable-requires : goal.unreachable-requires
 unreachable-requires c = let o = c.requires.op in let l = c.loop-op in let a = c.in-Done-Frozen in
