@@ -1,7 +1,7 @@
 #!/usr/bin/env python3
-"""hold.py PROGRAM PEER STEPS: times programs of the hold model in turn; hold.sh builds the last two and calls it.
+"""hold.py PROGRAM PEER: times two programs of the hold model in turn; hold.sh builds the peer and calls it.
 
-From the environment: REPEATS (5) runs of each program per row, HOLDS (as many as take the peer about a second) holds
+From the environment: REPEATS (5) runs of each program per row, HOLDS (as many as take the peer about half a second) holds
 per run, LIMIT (120) seconds per run.
 """
 import os
@@ -11,7 +11,7 @@ import subprocess
 import sys
 import time
 
-CASES = [(threads, pending) for threads in (1, 4) for pending in (16, 256)]
+CASES = [(threads, pending, step) for step in (1, 4) for threads in (1, 2, 4) for pending in (16, 64, 256)]
 SEED = 7
 LINES = re.compile(rb"holds ([0-9]+)\nsum [0-9]+\n")
 
@@ -63,48 +63,47 @@ def timed_plain(plain, words):
         stop(f"{os.path.basename(plain)} with {' '.join(map(str, words))}: {failure}")
 
 
-def fitting(peer, threads, pending):
-    """A round number of holds that takes the peer about a second."""
+def fitting(peer, threads, pending, step):
+    """A round number of holds that takes the peer about half a second."""
     holds, seconds = 25_000, 0
-    while seconds < 0.3:
+    while seconds < 0.2:
         holds *= 4
-        seconds, _ = timed_plain(peer, (threads, pending, holds, SEED))
-    rate = int(holds / seconds)
-    return round(rate, 2 - len(str(rate)))
+        seconds, _ = timed_plain(peer, (threads, pending, holds, SEED, step))
+    half = int(holds / seconds / 2)
+    return round(half, 2 - len(str(half)))
 
 
 def measured(program, plain, words):
-    """The median seconds of the program and of each plain one, and the holds made.
+    """The median seconds of the program and of the plain one, and the holds made.
 
-    They run in turn, and each repeat begins with another one. Every run has to print what the first plain program
+    They run in turn, and each repeat begins with another one. Every run has to print what the plain program
     printed before the repeats.
     """
-    _, due = timed_plain(plain[0], words)
+    _, due = timed_plain(plain, words)
     form = LINES.fullmatch(due)
     if not form:
-        stop(f"{os.path.basename(plain[0])} printed {due[:80]!r}")
-    turns = [(timed, program, [])] + [(timed_plain, path, []) for path in plain]
+        stop(f"{os.path.basename(plain)} printed {due[:80]!r}")
+    turns = [(timed, program, []), (timed_plain, plain, [])]
     for repeat in range(REPEATS):
         first = repeat % len(turns)
         for run, path, times in turns[first:] + turns[:first]:
             seconds, lines = run(path, words)
             if lines != due:
-                raise Failure(f"{os.path.basename(path)} printed other lines than {os.path.basename(plain[0])}")
+                raise Failure(f"{os.path.basename(path)} printed other lines than {os.path.basename(plain)}")
             times.append(seconds)
     return [statistics.median(times) for _, _, times in turns], int(form[1])
 
 
-def row(program, peer, steps, threads, pending):
-    """Prints one row of the table; whether it has figures. The bare steps are for one thread alone."""
-    holds = HOLDS or fitting(peer, threads, pending)
-    print(f"| {threads} | {pending} | {holds:,} |", end=" ", flush=True)
+def row(program, peer, threads, pending, step):
+    """Prints one row of the table; whether it has figures."""
+    holds = HOLDS or fitting(peer, threads, pending, step)
+    print(f"| {step} | {threads} | {pending} | {holds:,} |", end=" ", flush=True)
     try:
-        (own, other, *bare), made = measured(program, [peer] + [steps] * (threads == 1), (threads, pending, holds, SEED))
+        (own, other), made = measured(program, peer, (threads, pending, holds, SEED, step))
     except Failure as failure:
-        print(f"{failure} | | | |", flush=True)
+        print(f"{failure} | | |", flush=True)
         return False
-    alone = f"{bare[0] / other:.2f}" if bare else ""
-    print(f"{made / own:,.0f} | {made / other:,.0f} | {own / other:.2f} | {alone} |", flush=True)
+    print(f"{made / own:,.0f} | {made / other:,.0f} | {own / other:.2f} |", flush=True)
     return True
 
 
@@ -114,13 +113,13 @@ def load():
 
 
 def main():
-    if len(sys.argv) != 4:
+    if len(sys.argv) != 3:
         stop(__doc__)
-    program, peer, steps = sys.argv[1:]
+    program, peer = sys.argv[1:]
     print(f"Medians of {REPEATS} runs of each, in turn, on {os.cpu_count()} processors; load {load()} at the start.\n")
-    print("| threads | pending | holds | program, holds per second | peer, holds per second | time of program / peer | bare steps / peer |")
+    print("| step | threads | pending | holds | program, holds per second | peer, holds per second | time of program / peer |")
     print("|---:|---:|---:|---:|---:|---:|---:|", flush=True)
-    whole = [row(program, peer, steps, threads, pending) for threads, pending in CASES]
+    whole = [row(program, peer, *case) for case in CASES]
     print(f"\nLoad {load()} at the end.")
     sys.exit(0 if all(whole) else 1)
 

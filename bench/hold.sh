@@ -1,5 +1,5 @@
 #!/usr/bin/env bash
-# hold.sh PROGRAM: times a built crq_hold beside the plain peer and its bare atomic steps, and prints a table.
+# hold.sh PROGRAM: times a built crq_hold beside the plain peer, and prints a table.
 # Ends with 1 where PROGRAM failed, took too long or printed other lines than the peer, and with 2 where nothing could be measured.
 set -euo pipefail
 here=$(cd "$(dirname "$(readlink -f "$0")")" && pwd)
@@ -10,8 +10,6 @@ fi
 program=$(readlink -f "$1")
 made=$(mktemp -d)
 trap 'rm -rf "$made"' EXIT
-for name in peer steps; do
-  # With --locked cargo writes into the temporary folder alone.
-  cargo build --quiet --release --locked --offline --manifest-path "$here/$name/Cargo.toml" --target-dir "$made" || exit 2
-done
-python3 "$here/hold.py" "$program" "$made/release/hold_peer" "$made/release/hold_steps"
+# With --locked cargo writes into the temporary folder alone.
+cargo build --quiet --release --locked --offline --manifest-path "$here/peer/Cargo.toml" --target-dir "$made" || exit 2
+python3 "$here/hold.py" "$program" "$made/release/hold_peer"

@@ -1,8 +1,5 @@
 //! The random numbers of the hold model.
 
-/// How many times a new event can fall on, and how many steps later an event can be put back.
-const SPREAD: u64 = 64;
-
 /// The random numbers of `SplitMix64`.
 pub struct Draws(pub u64);
 
@@ -16,8 +13,8 @@ impl Draws {
         z ^ (z >> 31)
     }
 
-    /// A random number below `SPREAD`.
-    pub fn time(&mut self) -> u32 {
-        (self.draw() % SPREAD) as u32
+    /// A random number below `span`.
+    pub fn below(&mut self, span: u32) -> u32 {
+        (self.draw() % u64::from(span)) as u32
     }
 }

@@ -16,6 +16,9 @@ const THREADS: u64 = 16;
 /// The most events that may be pending.
 const PENDING: u64 = 256;
 
+/// The most ticks per hold.
+const STEP: u64 = 1024;
+
 /// One pending event. Events are compared field by field, from the first to the last.
 #[derive(Clone, Copy, PartialEq, Eq, PartialOrd, Ord)]
 struct Event {
@@ -99,10 +102,10 @@ impl Source {
         });
     }
 
-    /// Takes the least event and puts its load back, 1 to `SPREAD` steps later.
-    fn hold(&mut self, queue: &Queue) {
+    /// Takes the least event and puts its load back, 1 to `span` ticks later.
+    fn hold(&mut self, queue: &Queue, span: u32) {
         let least = queue.take_surely();
-        let time = least.time.saturating_add(1 + self.draws.time());
+        let time = least.time.saturating_add(1 + self.draws.below(span));
         self.put(queue, time, least.load);
     }
 }
@@ -113,19 +116,23 @@ struct Words {
     pending: u64,
     holds: u64,
     seed: u64,
+    /// How many ticks a new event can fall on, and how many ticks later an event can be put back.
+    span: u32,
 }
 
 impl Words {
-    /// Reads the four words, if each is a number in its range.
+    /// Reads the five words, if each is a number in its range.
     fn read(words: &[String]) -> Option<Words> {
-        let [threads, pending, holds, seed] = words else {
+        let [threads, pending, holds, seed, step] = words else {
             return None;
         };
+        let pending = number(pending, 1, PENDING)?;
         Some(Words {
             threads: number(threads, 1, THREADS)?,
-            pending: number(pending, 1, PENDING)?,
+            pending,
             holds: number(holds, 0, u64::MAX)?,
             seed: number(seed, 0, u64::MAX)?,
+            span: (2 * number(step, 1, STEP)? * pending) as u32,
         })
     }
 }
@@ -145,19 +152,19 @@ fn fill(queue: &Queue, sources: &mut [Source], words: &Words) {
     let mut draws = Draws(words.seed);
     let threads = sources.len();
     for i in 0..words.pending as usize {
-        let time = draws.time();
+        let time = draws.below(words.span);
         let load = draws.draw();
         sources[i % threads].put(queue, time, load);
     }
 }
 
 /// Makes so many holds on each source, all sources at once, each on a thread of its own.
-fn hold_all(queue: &Queue, sources: Vec<Source>, each: u64) {
+fn hold_all(queue: &Queue, sources: Vec<Source>, each: u64, span: u32) {
     thread::scope(|scope| {
         for mut source in sources {
             scope.spawn(move || {
                 for _ in 0..each {
-                    source.hold(queue);
+                    source.hold(queue, span);
                 }
             });
         }
@@ -181,14 +188,14 @@ fn run(words: &Words) -> (u64, u64) {
         .collect();
     fill(&queue, &mut sources, words);
     let each = words.holds / words.threads;
-    hold_all(&queue, sources, each);
+    hold_all(&queue, sources, each, words.span);
     (each * words.threads, drain(&queue))
 }
 
 fn main() -> ExitCode {
     let words: Vec<String> = std::env::args().skip(1).collect();
     let Some(words) = Words::read(&words) else {
-        eprintln!("usage: hold_peer THREADS PENDING HOLDS SEED, with 1 to {THREADS} threads and 1 to {PENDING} events");
+        eprintln!("usage: hold_peer THREADS PENDING HOLDS SEED STEP, with 1 to {THREADS} threads, 1 to {PENDING} events and 1 to {STEP} ticks");
         return ExitCode::from(2);
     };
     let (holds, sum) = run(&words);

@@ -9,7 +9,7 @@ use mathlib.Core.Logic.{dite}
 use native.Mathlib.Decide.{ℕ_discrete}
 use Rattle.crq_base.specs.declared.event.Event.{Event}
 use Rattle.crq_base.specs.declared.entry.Entry.{Entry}
-use Rattle.crq_base.specs.declared.entry.Entry.TheVariants.{Begin, Put, Take, Miss}
+use Rattle.crq_base.specs.declared.entry.Entry.TheVariants.{Begin, Put, Take, Miss, Settled}
 use Rattle.crq_base.specs.declared.answers.TakeEnd.{TakeEnd}
 use Rattle.crq_base.specs.declared.answers.TakeEnd.TheVariants.{Taken, Missed}
 use Rattle.crq_base.specs.declared.answers.Short.{Short}
@@ -22,19 +22,20 @@ use Rattle.crq_rule.specs.declared.pass.Pass.{Pass}
 use Rattle.crq_rule.specs.declared.pass.Table.{Table}
 use Rattle.crq_rule.specs.declared.pass.Seating.{Seating}
 use Rattle.crq_rule.specs.declared.pass.Seating.TheVariants.{Here, Lifted}
-use Rattle.crq_rule.specs.ListKinds.{put_entries}
 use Rattle.crq_rule.proofs.HistoryLaws.{in_append}
 use Rattle.crq_rows.specs.Passes.{caller}
 use Rattle.crq_rows.proofs.Slots.{get_here, get_else}
 use Rattle.crq_queue.specs.declared.calendar.Whole.{Whole}
-use Rattle.crq_queue.specs.Wholes.{IsResting, AreResting, AreDealt, IsGathered, history_of}
+use Rattle.crq_queue.specs.Wholes.{MayGather, AreResting, AreDealt, IsGathered, history_of}
 use Rattle.crq_set.specs.Answers.{AreBegins}
+use Rattle.crq_queue.specs.Calls.{OwesNothing}
 use Rattle.crq_queue.specs.Waits.{AddsBegun, PutAdded, TakeAdded}
+use Rattle.crq_queue.proofs.Waits.{settles_none}
 use Rattle.crq_first_queue.specs.declared.Trouble.{Trouble}
 use Rattle.crq_first_queue.specs.Deeds.{IsNew, Did, EndsEmpty, HasPlayed, named, if_put}
 
 -- nothing done
-pub nothing : {table : Table} {pass : Pass} → IsResting table pass → Did table pass pass []
+pub nothing : {table : Table} {pass : Pass} → MayGather table pass → Did table pass pass []
 nothing {table} {pass} rests = record { rests = rests; number = refl; deal = refl; since = []; own = sym (append-nil (caller table pass).own); puts_are = refl }
 
 -- one thing after another
@@ -53,17 +54,28 @@ puts_begun : (k : ℕ) (begins entries : List Entry) → AreBegins k begins → 
 puts_begun k [] entries are = refl
 puts_begun k (x ∷ xs) entries are = ap (λ y. cons_option (put_of y) (puts (xs ++ entries))) are.0 ∙ puts_begun k xs entries are.1
 
--- a call that waits
-module _ {table : Table} {old new : Pass} where
+-- a call that waits, of a pass that owes no event, and owes nothing afterwards
+module _ {table : Table} {old new : Pass} (rests : MayGather table old) (nothing_owed : OwesNothing new) where
+  -- no event was to be settled first
+  began : (entries : List Entry) (a : AddsBegun table old new entries) → (caller table new).own ≡ (caller table old).own ++ (a.0 ++ (Begin old.number ∷ entries))
+  began entries a = a.2.own ∙ ap (λ es. (caller table old).own ++ (es ++ (a.0 ++ (Begin old.number ∷ entries)))) (settles_none old rests.settled)
+
   did : (entries : List Entry) → AddsBegun table old new entries → Did table old new (puts entries)
-  did entries a = record { rests = a.2.rests; number = a.2.number; deal = a.2.deal; since = a.0 ++ Begin old.number ∷ entries; own = a.2.own; puts_are = puts_begun old.number a.0 (Begin old.number ∷ entries) a.1 }
+  did entries a = record {
+    rests = record { rests = a.2.rests; settled = nothing_owed.0 };
+    number = a.2.number;
+    deal = a.2.deal;
+    since = a.0 ++ Begin old.number ∷ entries;
+    own = began entries a;
+    puts_are = puts_begun old.number a.0 (Begin old.number ∷ entries) a.1;
+  }
 
   pub put_done : (e : Event) → PutAdded table e old new (Ok tt) → Did table old new (e ∷ [])
-  put_done e a = did (put_entries old.number e) a
+  put_done e a = did (Put old.number e ∷ Settled old.number e ∷ []) a
 
   pub put_refused : (e : Event) (short : Short) → PutAdded table e old new (Err short) → Did table old new []
   put_refused e NoRows a = did [] a.0
-  put_refused e NoEpochs a = absurd a
+  put_refused e NoEpochs a = did [] a.0
   put_refused e Memory a = absurd a
 
   pub take_did : (limit : ℕ) (r : Result TakeEnd Short) → TakeAdded table limit old new r → Did table old new []
@@ -72,11 +84,11 @@ module _ {table : Table} {old new : Pass} where
   take_did limit (Err short) a = absurd a
 
   pub take_missed : (limit : ℕ) → TakeAdded table limit old new (Ok Missed) → EndsEmpty old.number limit (caller table new).own
-  take_missed limit a = ((caller table old).own ++ a.0, a.2.own ∙ sym (append_assoc (caller table old).own a.0 (Begin old.number ∷ Miss old.number limit ∷ [])))
+  take_missed limit a = ((caller table old).own ++ a.0, began (Miss old.number limit ∷ []) a ∙ sym (append_assoc (caller table old).own a.0 (Begin old.number ∷ Miss old.number limit ∷ [])))
 
 -- a take that found nothing, after calls that put nothing
-pub missed_last : {table : Table} {first old : Pass} (new : Pass) → Did table first old [] → (limit : ℕ) (end : TakeEnd) → end ≡ Missed → TakeAdded table limit old new (Ok end) → EndsEmpty first.number limit (caller table new).own
-missed_last {table} {first} {old} new x limit end is a = subst (λ n. EndsEmpty n limit (caller table new).own) x.number (take_missed limit (subst (λ end. TakeAdded table limit old new (Ok end)) is a))
+pub missed_last : {table : Table} {first old : Pass} (new : Pass) → OwesNothing new → Did table first old [] → (limit : ℕ) (end : TakeEnd) → end ≡ Missed → TakeAdded table limit old new (Ok end) → EndsEmpty first.number limit (caller table new).own
+missed_last {table} {first} {old} new owed x limit end is a = subst (λ n. EndsEmpty n limit (caller table new).own) x.number (take_missed x.rests owed limit (subst (λ end. TakeAdded table limit old new (Ok end)) is a))
 
 -- an entry that puts an event makes it one of those that were put
 later : (o : Option Event) (f : Event) (fs : List Event) → In f fs → In f (cons_option o fs)
@@ -145,7 +157,7 @@ module _ (table : Table) (start now : List Seating) (first second : Pass) (two :
   pub second_back : slice_get now 1 ≡ Some (Here second)
   second_back = let mid = length-set start 0 (Here first) in ap (λ ps. slice_get ps 1) set_now ∙ get_here (set start 0 (Here first)) 1 (Here second) (omega arith)
 
-  pub both_rest : IsResting table first → IsResting table second → AreResting table now
+  pub both_rest : MayGather table first → MayGather table second → AreResting table now
   both_rest rests_first rests_second = record {
     wide = ap length set_now ∙ (length-set (set start 0 (Here first)) 1 (Here second) ∙ (length-set start 0 (Here first) ∙ (wide ∙ sym two)));
     each = λ k b. dite (ℕ_discrete k 0)

@@ -10,7 +10,7 @@ use Rattle.crq_base.specs.Sources.{IsFresh}
 use Rattle.crq_rule.specs.declared.pass.Pass.{Pass}
 use Rattle.crq_rule.specs.declared.pass.Table.{Table}
 use Rattle.crq_rows.specs.Passes.{caller}
-use Rattle.crq_queue.specs.Wholes.{IsResting}
+use Rattle.crq_queue.specs.Wholes.{MayGather}
 use Rattle.crq_first_queue.specs.declared.Trouble.{Trouble}
 
 -- the event for object 1 with this source, number and time
@@ -21,9 +21,9 @@ named src seq time = record { time = time; src = src; seq = seq; dst = 1; load =
 abbrev pub IsNew : Table → Pass → Event → Type 0
 IsNew table pass e = let p = caller table pass in IsFresh table.start.layout.workers p.deal.history p.own p.deal.span pass.number e
 
--- the pass went on and rests again: by the entries that it added to the history it put these events
+-- the pass went on, rests again and owes no event: by the entries that it added to the history it put these events
 pub record Did (table : Table) (old new : Pass) (put : List Event) : Type 0 where
-  pub rests : IsResting table new
+  pub rests : MayGather table new
   pub number : new.number ≡ old.number
   pub deal : (caller table new).deal ≡ (caller table old).deal
   pub since : List Entry

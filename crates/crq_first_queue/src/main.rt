@@ -3,7 +3,7 @@
 
 ghost use Rattle.std.specs.Prelude.{◌≡◌, [], IfOk};
 ghost use Rattle.crq_rows.specs.Passes.{caller};
-ghost use Rattle.crq_queue.specs.Wholes.{IsResting, last_history};
+ghost use Rattle.crq_queue.specs.Wholes.{MayGather, last_history};
 ghost use Rattle.crq_first_queue.specs.Deeds.{IsNew, Did, EndsEmpty, HasPlayed, named, if_put};
 
 use crq_base::{Event, First, TakeEnd};
@@ -22,8 +22,8 @@ const LIMIT: u64 = 100;
 enum Trouble {
     /// There is no memory for the queue.
     Memory,
-    /// No row is free: too many events are pending.
-    Rows,
+    /// The event can't be put: no row is free, since too many events are pending, or no epoch is left to settle it.
+    Full,
     /// The output can't be written.
     Output,
 }
@@ -43,13 +43,13 @@ fn event(src: u32, seq: u64, time: u32) -> Event
 
 /// Puts an event. It waits while other callers are in the way.
 fn put(rt: &impl Wait, calendar: &Calendar, pass: &mut Pass, event: &Event) -> Result<(), Trouble>
-    requires rests { IsResting calendar.now.table pass.old }
+    requires rests { MayGather calendar.now.table pass.old }
     requires new { IsNew calendar.now.table pass.old event.now }
     ensures { Did calendar.now.table pass.old pass.new (if_put result event.now) }
 {
     match calendar.put(rt, pass, event) {
         Ok(()) => Ok(()),
-        Err(_) => Err(Trouble::Rows),
+        Err(_) => Err(Trouble::Full),
     }
 }
 
@@ -63,7 +63,7 @@ fn tell(rt: &impl Print, event: &Event) -> Result<(), Trouble> {
 
 /// Takes events until there is none below the limit, and prints each.
 fn print(rt: &(impl Print + Wait), calendar: &Calendar, pass: &mut Pass) -> Result<(), Trouble>
-    requires { IsResting calendar.now.table pass.old }
+    requires { MayGather calendar.now.table pass.old }
     ensures did { Did calendar.now.table pass.old pass.new [] }
     ensures all { IfOk result (λ u. EndsEmpty pass.old.number 100 (caller calendar.now.table pass.new).own) }
 {

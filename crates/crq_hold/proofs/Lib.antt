@@ -6,3 +6,4 @@ pub mod Totals
 pub mod NewPasses
 pub mod OneCaller
 pub mod Stopping
+pub mod Regrouping

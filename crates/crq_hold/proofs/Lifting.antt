@@ -18,13 +18,13 @@ get_pushed [] x y (suc k) e = inl e
 get_pushed (z ∷ xs) x y zero e = inl e
 get_pushed (z ∷ xs) x y (suc k) e = ⊎_elim inl (λ r. inr (ap suc r.0, r.1)) (get_pushed xs x y k e)
 
-module _ (start now : List Seating) (workers : List Worker) (n : ℕ) (l : AreLifted start now workers n) where
+module _ (next : ℕ) (start now : List Seating) (workers : List Worker) (n : ℕ) (l : AreLifted next start now workers n) where
   pub lifted_next : (callers : ℕ) → AreAtHome callers start → n < callers → ((pass : Pass) × (slice_get now n ≡ Some (Here pass)))
   lifted_next callers home b = let h = home n b in (h.0, l.left n (omega arith) ∙ h.1)
 
-  pub lifted_more : (now' : List Seating) (workers' : List Worker) (pass : Pass) → slice_get now n ≡ Some (Here pass) → now' ≡ set now n Lifted → workers' ≡ workers ++ record { pass = pass; next = 0; holds = 0 } ∷ []
-      → AreLifted start now' workers' (n + 1)
-  lifted_more now' workers' pass was e f = let new : Worker = record { pass = pass; next = 0; holds = 0 } in record {
+  pub lifted_more : (now' : List Seating) (workers' : List Worker) (pass : Pass) → slice_get now n ≡ Some (Here pass) → now' ≡ set now n Lifted → workers' ≡ workers ++ record { pass = pass; next = next; holds = 0 } ∷ []
+      → AreLifted next start now' workers' (n + 1)
+  lifted_more now' workers' pass was e f = let new : Worker = record { pass = pass; next = next; holds = 0 } in record {
     wide = ap length e ∙ (length-set now n Lifted ∙ l.wide);
     count = let a = ap length f ∙ length-append workers (new ∷ []) in let b = l.count in omega arith;
     each = λ k w at. ⊎_elim (l.each k w) (λ r. let is : k ≡ n = r.0 ∙ l.count in

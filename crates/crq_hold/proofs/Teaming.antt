@@ -13,38 +13,41 @@ use Rattle.crq_rule.specs.declared.pass.Pass.{Pass}
 use Rattle.crq_rule.specs.declared.pass.Table.{Table}
 use Rattle.crq_rule.specs.declared.pass.Seating.{Seating}
 use Rattle.crq_rule.specs.declared.pass.Seating.TheVariants.{Here}
-use Rattle.crq_rows.proofs.Slots.{get_here}
+use Rattle.crq_rows.proofs.Slots.{get_here, get_else}
 use Rattle.crq_queue.specs.declared.calendar.Whole.{Whole}
-use Rattle.crq_queue.specs.Wholes.{IsResting, AreResting, AreDealt, history_of}
+use Rattle.crq_queue.specs.Wholes.{IsResting, MayGather, AreResting, AreDealt, history_of}
 use Rattle.crq_queue.proofs.Wholes.{place_within}
 use Rattle.crq_queue.proofs.Gathers.{pass_at}
 use Rattle.crq_hold.specs.declared.worker.Worker.{Worker}
-use Rattle.crq_hold.specs.Workers.{IsWorker, WorksOn, PutAndTook}
-use Rattle.crq_hold.specs.Teams.{AreAtHome, AreLifted, AreLowered, AreNew, AreWorkers, AllHeld, total_holds}
+use Rattle.crq_hold.specs.Workers.{IsWorker, IsSettled, WorksOn, PutAndTook}
+use Rattle.crq_hold.specs.Teams.{AreAtHome, AreLifted, AreLowered, AreNew, AreSettled, AreWorkers, AllHeld, total_holds}
 
 pub resting_home : (table : Table) (places : List Seating) (callers : ℕ) → AreResting table places → table.start.layout.workers ≡ callers → AreAtHome callers places
 resting_home table places callers all is k b = let a = all.each k (omega arith) in (a.0, a.1)
 
 -- a pass in a place has its number, and rests
-pub place_rests : (table : Table) (places : List Seating) → AreResting table places → (k : ℕ) (pass : Pass) → slice_get places k ≡ Some (Here pass) → (pass.number ≡ k) × IsResting table pass
+pub place_rests : (table : Table) (places : List Seating) → AreResting table places → (k : ℕ) (pass : Pass) → slice_get places k ≡ Some (Here pass) → (pass.number ≡ k) × MayGather table pass
 place_rests table places all k pass e = let b = place_within places k (Here pass) e in let w = all.wide in pass_at table places all k pass (omega arith) e
 
 -- in no entry is nothing
-none_in : {P : Type 0} (es : List Entry) (e : Entry) → es ≡ [] → In e es → P
+pub none_in : {P : Type 0} (es : List Entry) (e : Entry) → es ≡ [] → In e es → P
 none_in es e is i = absurd (subst (In e) is i)
 
 module _ (table : Table) (whole : Whole) (start now : List Seating) (workers : List Worker) (callers : ℕ) (all : AreResting table start) (dealt : AreDealt table whole 1 start) (empty : history_of whole ≡ [])
-    (l : AreLifted start now workers callers) where
+    (l : AreLifted 0 start now workers callers) where
   first_worker : (k : ℕ) (w : Worker) → slice_get workers k ≡ Some w → IsWorker table w
   first_worker k w at = let e = (l.each k w at).0 in let d = dealt.each k w.pass e in record {
-    rests = (place_rests table start all k w.pass e).1;
+    rests = (place_rests table start all k w.pass e).1.rests;
     span = ap (λ d. d.span) d.deal;
     numbered = λ j f i same. ⊎_elim (none_in _ _ (ap (λ d. d.history) d.deal ∙ empty)) (none_in _ _ d.own) i;
-    counted = ap (λ es. length (puts es)) d.own ∙ sym (l.each k w at).1;
+    sourced = λ j f i. none_in _ _ d.own i;
   }
 
   pub first_new : AreNew table workers
   first_new k w at = let d = dealt.each k w.pass (l.each k w at).0 in (ap (λ d. d.history) d.deal ∙ empty, d.own)
+
+  pub first_settled : AreSettled workers
+  first_settled k w at = (place_rests table start all k w.pass (l.each k w at).0).1.settled
 
   pub first_workers : table.start.layout.workers ≡ callers → AreWorkers table workers
   first_workers is = record {
@@ -80,6 +83,29 @@ module _ (table : Table) (workers : List Worker) (all : AreWorkers table workers
       (λ is. subst (λ k. WorksOn table (slice_index_or workers k e) (slice_index_or (slice_set workers i w) k e)) (sym is)
       (subst (λ (z : Worker × Worker). WorksOn table z.0 z.1) (λ j. (get_or_default workers i d e b j, sym (get_or-set_same workers i w e b) j)) on))
       (λ ne. subst (WorksOn table (slice_index_or workers k e)) (sym (get_or-set_other workers i k w e ne)) (record { worker = worker_at k e c; number = refl; deal = refl })))
+
+-- Workers whose passes owe no event
+
+some_same : (v w : Worker) → Some v ≡ Some w → v ≡ w
+some_same v w e = cc
+
+module _ (workers : List Worker) (all : AreSettled workers) where
+  pub settled_at : (k : ℕ) (d : Worker) → k < length workers → IsSettled (slice_index_or workers k d)
+  settled_at k d b = all k (slice_index_or workers k d) (slice_get-get_or workers k d b)
+
+  -- the one in this place went on
+  pub settled_set : (i : ℕ) (w : Worker) → i < length workers → IsSettled w → AreSettled (slice_set workers i w)
+  settled_set i w b settled k v e = dite (ℕ_discrete k i)
+      (λ is. subst IsSettled (some_same w v (sym (get_here workers i w b) ∙ (ap (slice_get (slice_set workers i w)) (sym is) ∙ e))) settled)
+      (λ ne. all k v (sym (get_else workers i k w ne) ∙ e))
+
+-- each went on to one that owes none
+pub settled_each : (old new : List Worker) → length new ≡ length old → ((k : ℕ) (d : Worker) → k < length old → ((w : Worker) × (w ≡ slice_index_or new k d) × IsSettled w)) → AreSettled new
+settled_each old new wide each k v e = let b = slice_get_within new k v e in let t = each k v (omega arith) in subst IsSettled (t.1 ∙ get_or_from_slice_get new k v v e) t.2
+
+-- the workers that a slice had, which was written over the whole of a list
+pub written_settled : (n : ℕ) (new old : List Worker) → n ≡ length new → AreSettled new → AreSettled (take n (new ++ drop (length new) old))
+written_settled n new old is = subst AreSettled (sym (ap (λ n. take n (new ++ drop (length new) old)) is ∙ take-append_seam new (drop (length new) old)))
 
 -- Holds of all workers
 
@@ -126,13 +152,13 @@ total_end (w ∷ ws) (suc i) b = total_end ws i (omega arith)
 
 -- Passes that are put back in the places, and taken out again
 
-pub lowered_resting : (table : Table) (start now : List Seating) (workers : List Worker) → AreWorkers table workers → length start ≡ length workers → AreLowered start now workers (length workers) → AreResting table now
-lowered_resting table start now workers all wide l = record {
+pub lowered_resting : (table : Table) (start now : List Seating) (workers : List Worker) → AreWorkers table workers → AreSettled workers → length start ≡ length workers → AreLowered start now workers (length workers) → AreResting table now
+lowered_resting table start now workers all settled wide l = record {
   wide = l.wide ∙ (wide ∙ all.count);
-  each = λ k b. let n = all.count in let inside : k < length workers = omega arith in let w = some_at workers k inside in (w.0.pass, l.each k w.0 inside w.1, all.order k w.0 w.1, (all.each k w.0 w.1).rests);
+  each = λ k b. let n = all.count in let inside : k < length workers = omega arith in let w = some_at workers k inside in (w.0.pass, l.each k w.0 inside w.1, all.order k w.0 w.1, record { rests = (all.each k w.0 w.1).rests; settled = settled k w.0 w.1 });
 }
 
-pub lone_resting : (table : Table) (start now : List Seating) (worker : Worker) → table.start.layout.workers ≡ 1 → worker.pass.number ≡ 0 → IsResting table worker.pass → length start ≡ 1 → now ≡ set start worker.pass.number (Here worker.pass) → AreResting table now
+pub lone_resting : (table : Table) (start now : List Seating) (worker : Worker) → table.start.layout.workers ≡ 1 → worker.pass.number ≡ 0 → MayGather table worker.pass → length start ≡ 1 → now ≡ set start worker.pass.number (Here worker.pass) → AreResting table now
 lone_resting table start now worker one first rests wide e = let is : now ≡ set start 0 (Here worker.pass) = e ∙ ap (λ k. set start k (Here worker.pass)) first in record {
   wide = ap length is ∙ (length-set start 0 (Here worker.pass) ∙ (wide ∙ sym one));
   each = λ k b. let zero_is : 0 ≡ k = omega arith in
@@ -140,8 +166,8 @@ lone_resting table start now worker one first rests wide e = let is : now ≡ se
 }
 
 -- a worker whose pass was taken out rests
-pub lifted_rests : (table : Table) (start now : List Seating) (workers : List Worker) (n : ℕ) → AreResting table start → AreLifted start now workers n → (i : ℕ) (w : Worker) → i < length workers → w ≡ slice_index_or workers i w → IsResting table w.pass
-lifted_rests table start now workers n all l i w b is = (place_rests table start all i w.pass (l.each i w (slice_get-get_or workers i w b ∙ ap Some (sym is))).0).1
+pub lifted_rests : (table : Table) (next : ℕ) (start now : List Seating) (workers : List Worker) (n : ℕ) → AreResting table start → AreLifted next start now workers n → (i : ℕ) (w : Worker) → i < length workers → w ≡ slice_index_or workers i w → IsResting table w.pass
+lifted_rests table next start now workers n all l i w b is = (place_rests table start all i w.pass (l.each i w (slice_get-get_or workers i w b ∙ ap Some (sym is))).0).1.rests
 
 -- a lone worker, which was popped
 pub lone_worker : (table : Table) (workers rest : List Worker) (w : Worker) → AreWorkers table workers → length workers ≡ 1 → workers ≡ rest ++ w ∷ [] → IsWorker table w × (table.start.layout.workers ≡ 1) × (w.pass.number ≡ 0)

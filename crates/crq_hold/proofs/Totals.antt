@@ -100,10 +100,10 @@ written_went table n new old {start} {p} {t} is = subst (λ ws. AllWent table st
 
 -- The entries of a history, counted caller by caller
 
-own_first : (c : ℕ) (x : Entry) (es : List Entry) → caller_of x ≡ c → own_of c (x ∷ es) ≡ x ∷ own_of c es
+pub own_first : (c : ℕ) (x : Entry) (es : List Entry) → caller_of x ≡ c → own_of c (x ∷ es) ≡ x ∷ own_of c es
 own_first c x es q = λ i. cond (eq-eqb (caller_of x) c q i) (x ∷ own_of c es) (own_of c es)
 
-own_skip : (c : ℕ) (x : Entry) (es : List Entry) → caller_of x ≢ c → own_of c (x ∷ es) ≡ own_of c es
+pub own_skip : (c : ℕ) (x : Entry) (es : List Entry) → caller_of x ≢ c → own_of c (x ∷ es) ≡ own_of c es
 own_skip c x es q = λ i. cond (ne_eqb (caller_of x) c q i) (x ∷ own_of c es) (own_of c es)
 
 one_more : (o : Option Event) (es : List Event) → length (cons_option o es) ≡ length (cons_option o []) + length es

@@ -10,7 +10,7 @@ use Rattle.crq_rule.specs.declared.pass.Seating.{Seating}
 use Rattle.crq_rule.specs.declared.pass.Seating.TheVariants.{Here, Lifted}
 use Rattle.crq_rows.specs.Passes.{caller}
 use Rattle.crq_hold.specs.declared.worker.Worker.{Worker}
-use Rattle.crq_hold.specs.Workers.{IsWorker, PutAndTook}
+use Rattle.crq_hold.specs.Workers.{IsWorker, IsSettled, PutAndTook}
 
 -- each of n callers' passes is in its place
 abbrev pub AreAtHome : ℕ → List Seating → Type 0
@@ -20,11 +20,11 @@ AreAtHome n places = (k : ℕ) → k < n → ((pass : Pass) × (slice_get places
 abbrev pub AreFree : ℕ → List Seating → Type 0
 AreFree n places = (k : ℕ) → k < n → slice_get places k ≡ Some Lifted
 
--- the passes below n were taken out of these places, each for a new worker
-pub record AreLifted (start now : List Seating) (workers : List Worker) (n : ℕ) : Type 0 where
+-- the passes below n were taken out of these places, each for a worker whose next event has this number
+pub record AreLifted (next : ℕ) (start now : List Seating) (workers : List Worker) (n : ℕ) : Type 0 where
   pub wide : length now ≡ length start
   pub count : length workers ≡ n
-  pub each : (k : ℕ) (w : Worker) → slice_get workers k ≡ Some w → (slice_get start k ≡ Some (Here w.pass)) × (w.next ≡ 0)
+  pub each : (k : ℕ) (w : Worker) → slice_get workers k ≡ Some w → (slice_get start k ≡ Some (Here w.pass)) × (w.next ≡ next)
   pub gone : AreFree n now
   pub left : (k : ℕ) → n ≤ k → slice_get now k ≡ slice_get start k
 
@@ -43,6 +43,10 @@ pub record AreWorkers (table : Table) (workers : List Worker) : Type 0 where
   pub count : length workers ≡ table.start.layout.workers
   pub order : AreInOrder workers
   pub each : (k : ℕ) (w : Worker) → slice_get workers k ≡ Some w → IsWorker table w
+
+-- and none of their passes owes an event, as gathering asks
+abbrev pub AreSettled : List Worker → Type 0
+AreSettled workers = (k : ℕ) (w : Worker) → slice_get workers k ≡ Some w → IsSettled w
 
 -- each worker made so many holds: it took and put as many events, and counts that
 pub record AllHeld (table : Table) (old new : List Worker) (holds : ℕ) : Type 0 where

@@ -1,5 +1,5 @@
 -- A worker: a pass that rests, and that puts events of its own source, numbered in order.
-use Rattle.std.specs.Prelude.{◌≡◌, ◌⊎◌, ℕ, ◌+◌, ◌<◌, length, Result, Ok, Err}
+use Rattle.std.specs.Prelude.{◌≡◌, ◌⊎◌, ℕ, ◌+◌, ◌<◌, length, None, Result, Ok, Err}
 use Rattle.crq_base.specs.declared.event.Event.{Event}
 use Rattle.crq_base.specs.declared.entry.Entry.TheVariants.{Put}
 use Rattle.crq_base.specs.declared.answers.PutEnd.{PutEnd}
@@ -25,11 +25,15 @@ put_count table worker = length (puts (caller table worker.pass).own)
 abbrev pub take_count : Table → Worker → ℕ
 take_count table worker = length (outs (caller table worker.pass).own)
 
+-- the worker's pass owes no event
+abbrev pub IsSettled : Worker → Type 0
+IsSettled worker = worker.pass.debts.settle ≡ None
+
 pub record IsWorker (table : Table) (worker : Worker) : Type 0 where
   pub rests : IsResting table worker.pass
   pub span : (caller table worker.pass).deal.span ≡ 1
   pub numbered : IsNumbered table worker.pass worker.next
-  pub counted : put_count table worker ≡ worker.next
+  pub sourced : (k : ℕ) (e : Event) → In (Put k e) (caller table worker.pass).own → e.src ≡ worker.pass.number
 
 -- the worker went on with its pass, which wasn't dealt anew
 pub record WorksOn (table : Table) (old new : Worker) : Type 0 where
@@ -37,9 +41,10 @@ pub record WorksOn (table : Table) (old new : Worker) : Type 0 where
   pub number : new.pass.number ≡ old.pass.number
   pub deal : (caller table new.pass).deal ≡ (caller table old.pass).deal
 
--- and by its entries it put and took so many events more
+-- and by its entries it put and took so many events more, and used as many numbers as it put
 pub record PutAndTook (table : Table) (old new : Worker) (put taken : ℕ) : Type 0 where
   pub on : WorksOn table old new
+  pub numbers : new.next ≡ old.next + put
   pub puts_more : put_count table new ≡ put_count table old + put
   pub takes_more : take_count table new ≡ take_count table old + taken
 

@@ -37,7 +37,7 @@ fn main(rt: HostRuntime) -> ExitCode {
     };
     let Some(job) = words::job_of(words.as_slice()) else {
         let _ = eprintln!(rt;
-            "usage: crq_hold THREADS PENDING HOLDS SEED, with 1 to {MOST_WORKERS} threads and 1 to 256 events"
+            "usage: crq_hold THREADS PENDING HOLDS SEED STEP, with 1 to {MOST_WORKERS} threads, 1 to 256 events and 1 to 1024 ticks"
         );
         return ExitCode::from(2);
     };

@@ -1,10 +1,10 @@
 //! A worker of the hold model.
 ghost use Rattle.std.specs.Prelude.{◌≤◌, ◌<◌, ◌-◌, ◌^◌};
 ghost use Rattle.crq_queue.specs.Wholes.{IsResting};
-ghost use Rattle.crq_queue.specs.Calls.{call, PutAnswers, TakeAnswers};
+ghost use Rattle.crq_queue.specs.Calls.{call, OwesNothing, PutAnswers, TakeAnswers};
 ghost use Rattle.crq_queue.specs.Waits.{PutAdded, TakeAdded};
 ghost use Rattle.crq_hold.specs.Waiting.{waited_puts, waited_takes};
-ghost use Rattle.crq_hold.specs.Workers.{IsWorker, PutAndTook, next_event, puts_of, takes_of};
+ghost use Rattle.crq_hold.specs.Workers.{IsWorker, IsSettled, PutAndTook, next_event, puts_of, takes_of};
 
 use crq_base::{Event, Short};
 use crq_queue::{Calendar, Pass, PutEnd, Refusal, TakeEnd};
@@ -15,15 +15,15 @@ use std::sync::Wait;
 pub struct Worker {
     /// Its pass.
     pub pass: Pass,
-    /// The number of its next event: it has put as many since its pass was dealt.
+    /// The number of its next event. Each event of its source that its pass has seen put has a lesser one.
     pub next: u64,
     /// How many holds it has made.
     pub holds: u64,
 }
 
 impl Worker {
-    /// Puts an event with the next number of the worker's source, within a budget of exchanges. It answers as the queue does;
-    /// where it is refused the number stays. Epochs comes, without a call, where the numbers are used up.
+    /// Puts an event with the next number of the worker's source, within a budget of exchanges. It answers as the queue does,
+    /// and an event that is still to be settled was put, too; where it is refused the number stays. Epochs comes, without a call, where the numbers are used up.
     pub fn put(
         &mut self,
         queue: &Calendar,
@@ -52,7 +52,7 @@ impl Worker {
     }
 
     /// Puts an event with the next number of the worker's source, and waits while that is refused for a while. It answers as
-    /// the queue does; where no row is to be had the number stays. Epochs comes, without a call, where the numbers are used up.
+    /// the queue does; where that is an error the number stays. Epochs comes, without a call, where the numbers are used up.
     pub fn put_waiting<R: Wait>(
         &mut self,
         rt: &R,
@@ -63,6 +63,8 @@ impl Worker {
         requires { IsWorker queue.now.table self.old }
         ensures counts { PutAndTook queue.now.table self.old self.new (waited_puts result) 0 }
         ensures added { self.old.next < 2 ^ 64 - 1 → PutAdded queue.now.table (next_event self.old time load) self.old.pass self.new.pass result }
+        ensures nothing { self.old.next < 2 ^ 64 - 1 → OwesNothing self.new.pass }
+        ensures settled { IsSettled self.old → IsSettled self.new }
     {
         if self.next == u64::MAX {
             return Err(Short::Epochs);
@@ -101,6 +103,7 @@ impl Worker {
         ensures rests { IsResting queue.now.table self.new.pass }
         ensures counts { IsWorker queue.now.table self.old → PutAndTook queue.now.table self.old self.new 0 (waited_takes result) }
         ensures added { TakeAdded queue.now.table limit self.old.pass self.new.pass result }
+        ensures nothing { OwesNothing self.new.pass }
     {
         queue.take(rt, &mut self.pass, limit)
     }

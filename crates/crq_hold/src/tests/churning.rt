@@ -3,6 +3,7 @@ ghost use Rattle.crq_base.specs.Sizes.{IsTeam};
 ghost use Rattle.crq_hold.specs.Workers.{IsWorker, WorksOn};
 
 use crate::team::team;
+use crate::tests::LIMIT;
 use crate::tests::ways::{Way, put_once, take_once};
 use crate::worker::Worker;
 use crq_base::{Event, First, MOST_WORKERS, TakeEnd};
@@ -30,11 +31,20 @@ struct Record {
     whole: bool,
 }
 
-/// The event that a source puts under this number.
-pub(crate) fn planned(src: u32, seq: u64) -> Event {
+/// The ticks on which most events fall.
+const SPAN: u64 = 256;
+/// How much later one of sixteen falls.
+const FAR: u32 = 1 << 24;
+
+/// The event that a source puts under this number: most fall on a few ticks, so that many lie behind current as it then is,
+/// and some come much later, which only a search finds.
+fn planned(src: u32, seq: u64) -> Event {
     let (value, _) = draw(seq.wrapping_mul(16).wrapping_add(u64::from(src)));
+    let near = (value % SPAN) as u32;
+    let is_far = value / SPAN % 16 == 0;
+    let time = if is_far { FAR + near } else { near };
     Event {
-        time: (value % 64) as u32,
+        time,
         src,
         seq,
         dst: 1,
@@ -43,11 +53,7 @@ pub(crate) fn planned(src: u32, seq: u64) -> Event {
 }
 
 /// All events that so many callers put, each so many of them.
-pub(crate) fn all_planned(
-    alloc: Global,
-    callers: u32,
-    each: u64,
-) -> Result<Vec<Event>, AllocError> {
+fn all_planned(alloc: Global, callers: u32, each: u64) -> Result<Vec<Event>, AllocError> {
     let mut events = Vec::new(alloc);
     for src in 0..callers {
         for seq in 0..each {
@@ -73,13 +79,7 @@ fn put_next<R: Wait>(rt: &R, queue: &Calendar, worker: &mut Worker, way: Way) ->
 }
 
 /// Puts the worker's next events, and says whether all were put.
-pub(crate) fn put_some<R: Wait>(
-    rt: &R,
-    queue: &Calendar,
-    worker: &mut Worker,
-    count: u32,
-    way: Way,
-) -> bool
+fn put_some<R: Wait>(rt: &R, queue: &Calendar, worker: &mut Worker, count: u32, way: Way) -> bool
     requires { IsWorker queue.now.table worker.old }
     ensures { WorksOn queue.now.table worker.old worker.new }
 {
@@ -97,7 +97,7 @@ fn take_next<R: Wait>(rt: &R, queue: &Calendar, worker: &mut Worker, way: Way) -
     ensures { WorksOn queue.now.table worker.old worker.new }
 {
     for _ in 0..TRIES {
-        if let Some(TakeEnd::Taken(event, _)) = take_once(rt, queue, worker, way) {
+        if let Some(TakeEnd::Taken(event, _)) = take_once(rt, queue, worker, LIMIT, way) {
             return Some(event);
         }
         thread::yield_now();
@@ -183,7 +183,10 @@ fn nothing_is_lost<R: Threads + Wait + Abort + Sync>(
 ) -> Result<(), Fail>
     requires { IsTeam callers }
 {
-    let batches = 2500u32.div_ceil(callers);
+    let batches = match way {
+        Way::Tries => 400u32.div_ceil(callers),
+        Way::Waits => 2500u32.div_ceil(callers),
+    };
     let each = u64::from(batches) * u64::from(BATCH);
     let mut all = Vec::new(alloc);
     for record in churn_all(rt, alloc, callers, batches, way)? {

@@ -50,7 +50,7 @@ fn waits_for_nobody(rt: HostRuntime) -> Result<(), Fail> {
         dst: 1,
         load: 7,
     };
-    let taken = TakeEnd::Taken(event, Route::Bucket(0));
+    let taken = TakeEnd::Taken(event, Route::Bucket(3));
     assert_eq!(rt; calendar.put(&rt, &mut pass, &event), Ok(()));
     assert_eq!(rt; calendar.take(&rt, &mut pass, 3), Ok(TakeEnd::Missed));
     assert_eq!(rt; calendar.take(&rt, &mut pass, 4), Ok(taken));
@@ -72,9 +72,12 @@ fn event(time: u32, seq: u64) -> Event
     }
 }
 
-/// The answer of a take that took the event of this time and number.
-fn taken(time: u32, seq: u64) -> TakeEnd {
-    TakeEnd::Taken(event(time, seq), Route::Bucket(0))
+/// The event that a take took. How it was found is another matter with each set.
+fn taken(end: TakeEnd) -> Option<Event> {
+    match end {
+        TakeEnd::Taken(event, _) => Some(event),
+        TakeEnd::Missed => None,
+    }
 }
 
 /// Puts two events with the one pass of any set that is empty, and takes three times.
@@ -82,7 +85,7 @@ fn put_and_take<R: Wait, S: EventSet>(
     rt: &R,
     set: &S,
     pass: &mut S::Pass,
-) -> Result<[TakeEnd; 3], Short>
+) -> Result<[Option<Event>; 3], Short>
     requires of { S.is_of set.now pass.old }
     requires one { (S.setup set.now).workers ≡ 1 }
     requires dealt { IsDealt [] 1 0 (S.view pass.old) }
@@ -94,7 +97,7 @@ fn put_and_take<R: Wait, S: EventSet>(
     let first = set.take(rt, pass, LIMIT)?;
     let second = set.take(rt, pass, LIMIT)?;
     let third = set.take(rt, pass, LIMIT)?;
-    Ok([first, second, third])
+    Ok([taken(first), taken(second), taken(third)])
 }
 
 /// By any maker, makes a set for one caller, puts and takes there, and closes it.
@@ -102,7 +105,7 @@ fn used_alone<R: Wait, M: SetMaker>(
     rt: &R,
     maker: &mut M,
     alloc: Global,
-) -> Result<[TakeEnd; 3], Short>
+) -> Result<[Option<Event>; 3], Short>
 where
     M::Set: Drop,
 {
@@ -121,7 +124,7 @@ where
 #[test]
 fn a_calendar_answers_as_a_plain_set(rt: HostRuntime) -> Result<(), Fail> {
     let alloc = rt.alloc();
-    let ends = [taken(3, 1), taken(9, 0), TakeEnd::Missed];
+    let ends = [Some(event(3, 1)), Some(event(9, 0)), None];
     let mut calendars = CalendarMaker::new(alloc);
     let mut plain = PlainMaker::new(alloc);
     assert_eq!(rt; used_alone(&rt, &mut calendars, alloc), Ok(ends));

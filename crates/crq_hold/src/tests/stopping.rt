@@ -1,9 +1,12 @@
 //! Callers that are stopped midway, and what the one that goes on is told once its rows are used up.
-ghost use Rattle.std.specs.Prelude.{◌≡◌, ℕ, Some, None, slice_get};
+ghost use Rattle.std.specs.Prelude.{◌≡◌, ℕ, false, Some, None, slice_get};
 ghost use Rattle.crq_base.specs.Sizes.{IsTeam, AreRows};
 ghost use Rattle.crq_base.specs.Words.{IsControl};
 ghost use Rattle.crq_rule.specs.HistoryParts.{EndsInBegin};
+ghost use Rattle.crq_rule.specs.Ranks.{bucket, shape_of};
 ghost use Rattle.crq_rows.specs.Passes.{caller, IsPassOf};
+ghost use Rattle.crq_list.specs.declared.parts.Place.TheVariants.{Bucket};
+ghost use Rattle.crq_list.specs.Taking.{IsTaking};
 ghost use Rattle.crq_queue.specs.Wholes.{IsResting};
 ghost use Rattle.crq_queue.specs.Runs.{IsInside};
 ghost use Rattle.crq_hold.specs.declared.worker.Worker.{Worker};
@@ -13,7 +16,8 @@ use crate::team::team;
 use crate::tests::LIMIT;
 use crate::tests::scarcity::{BUDGET, enter, fill, put_and_take};
 use crate::worker::Worker;
-use crq_base::{Control, Event, First, Holder, Refusal};
+use crq_base::{Control, Current, Event, First, Holder, PutEnd, Refusal};
+use crq_current::{current_step, next_position, raise_step};
 use crq_list::{CutOp, ListAt, MarkEnd, Place, Progress, TakeOp, begin_step, head_of};
 use crq_queue::{Calendar, Memory, Pass};
 use crq_rows::Owes;
@@ -36,9 +40,13 @@ enum Stopped {
     CutRow,
     /// Between two calls, with the row of the event that it took still to be cut.
     OwesCut,
+    /// Between two calls, with an event that it linked and hasn't settled.
+    OwesEvent,
+    /// In a take, after it raised current.
+    Raised,
 }
 
-use Stopped::{CutRow, HoldsGuard, Idle, Marked, OwesCut};
+use Stopped::{CutRow, HoldsGuard, Idle, Marked, OwesCut, OwesEvent, Raised};
 
 /// Begins a call, turns the guard on, and answers the control word that the call found.
 fn begin_inside(queue: &Calendar, pass: &mut Pass) -> Control
@@ -46,7 +54,7 @@ fn begin_inside(queue: &Calendar, pass: &mut Pass) -> Control
     ensures of { IsPassOf queue.now.table pass.new }
     ensures inside { IsInside queue.now.table result pass.new }
     ensures control { IsControl result }
-    ensures one { result.log ≡ 0 }
+    ensures steady { result.moving ≡ false }
     ensures began { EndsInBegin (caller queue.now.table pass.new).own }
     ensures debts { pass.new.debts ≡ pass.old.debts }
 {
@@ -55,17 +63,35 @@ fn begin_inside(queue: &Calendar, pass: &mut Pass) -> Control
     control
 }
 
-/// Marks the row of the least event, and answers that event and its row.
+/// Begins the take of the first event in current's bucket. It answers the take, and where current was found.
+fn take_here(queue: &Calendar, pass: &mut Pass, control: &Control) -> (TakeOp, Current)
+    requires of { IsPassOf queue.now.table pass.old }
+    requires inside { IsInside queue.now.table control.now pass.old }
+    requires control { IsControl control.now × (control.now.moving ≡ false) }
+    requires began { EndsInBegin (caller queue.now.table pass.old).own }
+    requires free { pass.old.debts.cut ≡ None }
+    ensures of { IsPassOf queue.now.table pass.new }
+    ensures free { pass.new.debts.cut ≡ None }
+    ensures at { IsTaking 0 queue.now.table control.now result.0 (caller queue.now.table pass.new) }
+    ensures place { result.0.place ≡ Bucket (bucket (shape_of control.now) result.1.tick) }
+    ensures sees { (caller queue.now.table pass.new).sight ≡ Some (record { table = control.now; current = result.1 }) }
+{
+    let current = current_step(&queue.table, pass, true);
+    let place = Place::Bucket(current.tick >> control.shift);
+    (TakeOp::new(*control, place, LIMIT), current)
+}
+
+/// Marks the row of the first event in current's bucket, and answers that event and its row.
 fn mark(queue: &Calendar, pass: &mut Pass, control: &Control) -> Option<(Event, u32)>
     requires of { IsPassOf queue.now.table pass.old }
     requires inside { IsInside queue.now.table control.now pass.old }
-    requires one { control.now.log ≡ 0 }
+    requires control { IsControl control.now × (control.now.moving ≡ false) }
     requires began { EndsInBegin (caller queue.now.table pass.old).own }
     requires free { pass.old.debts.cut ≡ None }
     ensures of { IsPassOf queue.now.table pass.new }
     ensures inside { IsInside queue.now.table control.now pass.new }
 {
-    let mut op = TakeOp::new(*control, Place::Bucket(0), LIMIT);
+    let (mut op, _current) = take_here(queue, pass, control);
     for _ in 0..STEPS {
         match op.step(&queue.table, pass) {
             Progress::More => {}
@@ -74,6 +100,30 @@ fn mark(queue: &Calendar, pass: &mut Pass, control: &Control) -> Option<(Event, 
         }
     }
     None
+}
+
+/// Walks current's bucket, in which there is no event, and raises current. It says whether it came so far.
+fn raise(queue: &Calendar, pass: &mut Pass, control: &Control) -> bool
+    requires of { IsPassOf queue.now.table pass.old }
+    requires inside { IsInside queue.now.table control.now pass.old }
+    requires control { IsControl control.now × (control.now.moving ≡ false) }
+    requires began { EndsInBegin (caller queue.now.table pass.old).own }
+    requires free { pass.old.debts.cut ≡ None }
+{
+    let (mut op, current) = take_here(queue, pass, control);
+    for _ in 0..STEPS {
+        match op.step(&queue.table, pass) {
+            Progress::More => {}
+            Progress::Done(MarkEnd::Nothing) => {
+                return match next_position(control, current) {
+                    Some(to) => raise_step(&queue.table, pass, control, current, to),
+                    None => false,
+                };
+            }
+            Progress::Done(_) => return false,
+        }
+    }
+    false
 }
 
 /// Begins to cut a row that was marked, up to the first exchange, which cuts the first dead row on the way. It says whether
@@ -110,6 +160,9 @@ fn stop_inside(queue: &Calendar, pass: &mut Pass, how: Stopped) -> bool
     if how == HoldsGuard {
         return true;
     }
+    if how == Raised {
+        return raise(queue, pass, &control);
+    }
     let Some((event, row)) = mark(queue, pass, &control) else {
         return false;
     };
@@ -134,7 +187,8 @@ fn stop(queue: &Calendar, running: &mut Worker, worker: Worker, how: Stopped) ->
             let end = worker.take(queue, LIMIT, 1);
             end.is_ok() && worker.pass.owes() == Owes::Cut
         }
-        HoldsGuard | Marked | CutRow => stop_inside(queue, &mut worker.pass, how),
+        OwesEvent => worker.put(queue, 0, 0, 1) == Ok(PutEnd::Owed),
+        HoldsGuard | Marked | CutRow | Raised => stop_inside(queue, &mut worker.pass, how),
     }
 }
 
@@ -220,6 +274,12 @@ fn who_stops_is_told(rt: HostRuntime) -> Result<(), Fail> {
         (2, 7, [OwesCut, Idle, Idle], 0, 11, Refusal::Rows),
         (2, 7, [OwesCut, Idle, Idle], 30, 11, Refusal::Rows),
         (2, 8, [CutRow, Idle, Idle], 11, 0, held(0)),
+        (2, 4, [Raised, Idle, Idle], 0, 8, held(0)),
+        (2, 4, [Raised, Idle, Idle], 8, 0, held(0)),
+        (2, 4, [OwesEvent, Idle, Idle], 0, 8, Refusal::Rows),
+        // The event that is owed is the first that comes out, so one of the running caller's own stays.
+        (2, 4, [OwesEvent, Idle, Idle], 8, 7, Refusal::Rows),
+        (2, 7, [OwesEvent, Idle, Idle], 30, 10, Refusal::Rows),
         (3, 4, [Idle, Idle, Idle], 0, 10, Refusal::Rows),
         (3, 4, [OwesCut, OwesCut, Idle], 0, 10, Refusal::Rows),
         (3, 5, [OwesCut, HoldsGuard, Idle], 0, 10, held(1)),
@@ -227,6 +287,11 @@ fn who_stops_is_told(rt: HostRuntime) -> Result<(), Fail> {
         (3, 6, [Idle, CutRow, Idle], 0, 11, held(1)),
         (3, 7, [Marked, CutRow, Idle], 11, 0, held(0)),
         (3, 8, [OwesCut, Idle, Idle], 40, 14, Refusal::Rows),
+        (3, 5, [OwesCut, Raised, Idle], 0, 10, held(1)),
+        (3, 5, [Raised, OwesEvent, Idle], 0, 11, held(0)),
+        (3, 6, [Raised, Marked, Idle], 4, 7, held(0)),
+        (3, 6, [OwesEvent, OwesEvent, Idle], 0, 12, Refusal::Rows),
+        (3, 6, [OwesEvent, OwesEvent, Idle], 20, 10, Refusal::Rows),
         (4, 4, [Idle, Idle, Idle], 0, 12, Refusal::Rows),
         (4, 4, [OwesCut, OwesCut, OwesCut], 0, 12, Refusal::Rows),
         (4, 5, [Idle, Idle, HoldsGuard], 0, 13, held(2)),
@@ -235,6 +300,8 @@ fn who_stops_is_told(rt: HostRuntime) -> Result<(), Fail> {
         (4, 7, [Marked, Marked, Marked], 12, 0, held(0)),
         (4, 8, [CutRow, HoldsGuard, OwesCut], 14, 0, held(0)),
         (4, 8, [OwesCut, Idle, OwesCut], 50, 16, Refusal::Rows),
+        (4, 7, [OwesCut, Raised, OwesEvent], 0, 14, held(1)),
+        (4, 5, [OwesEvent, OwesCut, Idle], 30, 12, Refusal::Rows),
     ];
     for (callers, rows, others, taken, puts, told) in table {
         let (callers, rows) = (callers.clamp(1, 4), rows.clamp(4, 8));

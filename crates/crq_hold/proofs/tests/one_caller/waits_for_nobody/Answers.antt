@@ -7,4 +7,4 @@ lift-pass-requires g c = let r = c.deal-passes.ensures.resting.each 0 (let one =
 
 pub put-requires-clause-rests : goal.put-requires-clause-rests
 put-requires-clause-rests g c = let r = c.deal-passes.ensures.resting.each 0 (let one = c.in_ok-calendar.ensures.size.0 in omega arith) in
-    subst (λ pass. IsResting c.in_ok-calendar.calendar.table pass) (let same = sym r.1 ∙ c.lift-pass.ensures.was in cc) r.3
+    subst (λ pass. IsResting c.in_ok-calendar.calendar.table pass) (let same = sym r.1 ∙ c.lift-pass.ensures.was in cc) r.3.rests
