@@ -18,7 +18,7 @@ use Rattle.crq_rule.specs.declared.debts.SettleDebt.{SettleDebt}
 use Rattle.crq_rule.specs.declared.layout.Start.{Start}
 use Rattle.crq_rule.specs.declared.view.Told.{Told}
 use Rattle.crq_rule.specs.Lists.{put}
-use Rattle.crq_rule.specs.Bounds.{permits, Bounds}
+use Rattle.crq_rule.specs.Bounds.{permits, coming, Bounds}
 use Rattle.crq_rule.specs.HistoryParts.{Numbers}
 use Rattle.crq_rule.specs.CurrentKinds.{permit_after, told_after}
 use Rattle.crq_rule.proofs.Puts.{put_here, put_else, put_all}
@@ -44,7 +44,7 @@ permits_none zero = refl
 permits_none (suc n) = let rest = permits_none n in omega arith
 
 -- one that had a permit has none
-permits_drop : (f : ℕ → Bool) (j n : ℕ) → j < n → f j ≡ true → permits (put f j false) n + 1 ≡ permits f n
+pub permits_drop : (f : ℕ → Bool) (j n : ℕ) → j < n → f j ≡ true → permits (put f j false) n + 1 ≡ permits f n
 permits_drop f j zero b has = absurd (omega arith)
 permits_drop f j (suc n) b has = dite (ℕ_discrete n j)
     (λ is. let here : flag_number (put f j false n) ≡ 0 = ap (λ k. flag_number (put f j false k)) is ∙ ap flag_number (put_here f j false) in let was : flag_number (f n) ≡ 1 = ap (λ k. flag_number (f k)) is ∙ ap flag_number has in
@@ -57,7 +57,7 @@ permit_kept y b has = cond_both (nat_lt y.epoch (2 ^ 32 - 64)) true b (λ z. z �
 
 -- Counts of entries
 
-count_more : (test : Entry → Bool) (h more : List Entry) → length (filter test (h ++ more)) ≡ length (filter test h) + length (filter test more)
+pub count_more : (test : Entry → Bool) (h more : List Entry) → length (filter test (h ++ more)) ≡ length (filter test h) + length (filter test more)
 count_more test h more = ap length (filter-append test h more) ∙ length-append (filter test h) (filter test more)
 
 -- entries are added
@@ -82,9 +82,9 @@ module _ (start : Start) (control : Control) (current : Current) (history : List
   bounds_loaded j old = record {
     tables = old.tables;
     opened = old.opened;
-    left = cond_both (nat_lt current.epoch (2 ^ 32 - 64)) true (permit j) (λ b. current.epoch + permits (put permit j b) start.layout.workers ≤ 2 ^ 32 - 48)
-        (λ low. let less = ltb-true current.epoch (2 ^ 32 - 64) low in let most = permits_low (put permit j true) start.layout.workers in let few = start.layout.few.1 in omega arith)
-        (λ _. subst (λ z. current.epoch + z ≤ 2 ^ 32 - 48) (sym (permits_same permit (put permit j (permit j)) start.layout.workers (λ k _. put_all permit j (permit j) (λ k b. b ≡ permit k) refl (λ _ _. refl) k))) old.left);
+    left = cond_both (nat_lt current.epoch (2 ^ 32 - 64)) true (permit j) (λ b. current.epoch + (permits (put permit j b) start.layout.workers + coming control) ≤ 2 ^ 32 - 48)
+        (λ low. let less = ltb-true current.epoch (2 ^ 32 - 64) low in let most = permits_low (put permit j true) start.layout.workers in let few = start.layout.few.1 in let one = flag_low control.moving in omega arith)
+        (λ _. subst (λ z. current.epoch + (z + coming control) ≤ 2 ^ 32 - 48) (sym (permits_same permit (put permit j (permit j)) start.layout.workers (λ k _. put_all permit j (permit j) (λ k b. b ≡ permit k) refl (λ _ _. refl) k))) old.left);
     entries = old.entries;
     owed = λ k d. put_all permit j (permit_after current (permit j)) (λ k b. k < start.layout.workers → settling k ≡ Some d → b ≡ true) (λ b is. permit_kept current (permit j) (old.owed j d b is)) (λ k _. old.owed k d) k;
   }

@@ -1,5 +1,5 @@
 -- A take that begins, and one that finds nothing, keep the invariant.
-use Rattle.std.proofs.Common.{◌≡◌, ◌≢◌, ⊎_elim, false, ℕ, ◌<◌, ◌≤◌, List, [], ◌∷◌, ◌++◌, length, Option, Some, None, sym, refl, subst, arith}
+use Rattle.std.proofs.Common.{◌≡◌, ◌≢◌, ⊎_elim, false, ℕ, ◌<◌, ◌≤◌, List, [], ◌∷◌, ◌++◌, length, Option, Some, None, sym, refl, ap, ◌∙◌, subst, arith}
 use Rattle.std.specs.List.{Contains}
 use Rattle.crq_base.specs.declared.event.Event.{Event}
 use Rattle.crq_base.specs.declared.entry.Entry.{Entry}
@@ -14,6 +14,7 @@ use Rattle.crq_rule.specs.declared.layout.Layout.{Layout}
 use Rattle.crq_rule.specs.declared.layout.Start.{Start}
 use Rattle.crq_rule.specs.declared.view.Found.{Found}
 use Rattle.crq_rule.specs.declared.view.Sight.{Sight}
+use Rattle.crq_rule.specs.declared.view.Stand.{Stand}
 use Rattle.crq_rule.specs.declared.view.Walk.{Walk}
 use Rattle.crq_rule.specs.Lists.{put}
 use Rattle.crq_rule.specs.Core.{Core, Holding, caller_of}
@@ -22,8 +23,12 @@ use Rattle.crq_rule.specs.HistoryParts.{Carriers}
 use Rattle.crq_rule.specs.Ranks.{Shape}
 use Rattle.crq_rule.specs.Invariant.{present_of, takes_of, Inv}
 use Rattle.crq_rule.specs.ListKinds.{EndedWalk, MayMiss, begun_by, control_loaded, missed}
-use Rattle.crq_rule.proofs.Puts.{put_all}
-use Rattle.crq_rule.proofs.Frames.{frame_found, frame_entry}
+use Rattle.crq_rule.proofs.Puts.{put_here, put_all}
+use Rattle.crq_rule.proofs.CoverLaws.{cover_less, less_old}
+use Rattle.crq_rule.proofs.StandLaws.{lanes_less, copying_nowhere}
+use Rattle.crq_rule.proofs.CopyLaws.{copies_less, unlinked_less, unlinked_more, unlinked_grown}
+use Rattle.crq_rule.proofs.Frames.{frame_guards, frame_found, frame_entry}
+use Rattle.crq_rule.proofs.HelpLaws.{helps_loaded}
 use Rattle.crq_rule.proofs.HistoryLaws.{told_other, told_begin, settling_more, pending_same}
 use Rattle.crq_rule.proofs.BoundLaws.{numbers_grown, bounds_grown}
 use Rattle.crq_rule.proofs.WalkerLaws.{silent, walkers_grown, walkers_rest, walkers_begin}
@@ -35,6 +40,9 @@ use Rattle.crq_rule.proofs.SearchLaws.{settled_left, ended_left}
 
 none_sight : (s : Sight) → None ≡ Some s → ⊥
 none_sight s e = cc
+
+none_stand : (s : Stand) → None ≡ Some s → ⊥
+none_stand s e = cc
 
 miss_begin : (j limit k : ℕ) → Miss j limit ≡ Begin k → ⊥
 miss_begin j limit k e = cc
@@ -71,7 +79,7 @@ carriers_same l history x link twin event holding none kept old = record {
 
 -- the control word was loaded
 pub control_keeps : (c : Core) (j : ℕ) → j < c.start.layout.workers → Inv c → Inv (control_loaded c j)
-control_keeps c j b inv = frame_found c (control_loaded c j) inv (finds_control _ _ _ _ _ _ j inv.sizes.now inv.finds) inv.numbers inv.walkers inv.bounds
+control_keeps c j b inv = frame_found c (control_loaded c j) inv (finds_control _ _ _ _ _ _ j inv.sizes.now inv.finds) inv.numbers inv.walkers inv.bounds (helps_loaded _ _ _ _ _ _ inv.finds _ _ j inv.helps)
 
 -- a caller that begins anew has read no table
 finds_begun : (start : Start) (control : Control) (shape : ℕ → Shape) (current : Current) (found : ℕ → Found) (sight : ℕ → Option Sight) (j : ℕ)
@@ -86,8 +94,19 @@ finds_begun start control shape current found sight j old = record {
 nothing : {e : Event} → Contains [] e → ⊥
 nothing h = let k = h.1 in absurd (omega arith)
 
+-- the caller leaves the row whose copy it was to link
+unlinks : (c : Core) (j : ℕ) → Inv c → Inv (record c { old = put c.old j None })
+unlinks c j inv = frame_guards c c.words.epoch c.words.announced c.epochs c.guard c.tick c.cut c.base c.rows (put c.old j None) c.walk inv inv.reading inv.guards inv.holders inv.cutting inv.stamps
+    (cover_less _ _ _ _ (less_old c.rows c.old c.copying j) inv.cover)
+    inv.standing
+    (copying_nowhere _ _ _ _ _ _ j inv.copying)
+    (lanes_less _ _ _ _ _ (less_old c.rows c.old c.copying j) inv.lanes)
+    inv.walkers inv.scarce
+    (copies_less _ _ _ (less_old c.rows c.old c.copying j) inv.copies)
+    (unlinked_less _ _ _ j inv.unlinked)
+
 pub begin_keeps : (c : Core) (j : ℕ) → j < c.start.layout.workers → Inv c → Inv (begun_by c j)
-begin_keeps c j b inv = frame_entry c (begun_by c j) inv
+begin_keeps c j b inv = frame_entry (record c { old = put c.old j None }) (begun_by c j) (unlinks c j inv)
     (finds_begun _ _ _ _ _ _ j (finds_control _ _ _ _ _ _ j inv.sizes.now inv.finds))
     inv.dues
     inv.steady
@@ -101,6 +120,8 @@ begin_keeps c j b inv = frame_entry c (begun_by c j) inv
     (refusals_put _ _ _ _ j [] (λ _. none_counted (c.history ++ Begin j ∷ []) j) (λ k ne. counted_grown _ _ k (c.refused k) (other_begin j k ne)) inv.refusals)
     (swept_begun _ _ _ _ _ _ j (λ k ne. other_begin j k ne) inv.swept)
     (bounds_grown _ _ _ _ _ _ (Begin j ∷ []) refl inv.bounds)
+    (helps_loaded _ _ _ _ _ _ inv.finds _ _ j inv.helps)
+    (unlinked_more _ _ _ (Begin j ∷ []) (λ k s _ is. other_begin j k (λ same. none_stand s (sym (ap (put c.old j None) same ∙ put_here c.old j None) ∙ is))) (unlinked_less _ _ _ j inv.unlinked))
 
 -- what was settled before the Begin and is below the limit is taken
 miss_legal : (c : Core) (j limit : ℕ) → j < c.start.layout.workers → MayMiss limit (caller_of c j) → Inv c → MayFollow c.history (Miss j limit)
@@ -128,3 +149,5 @@ miss_keeps c j limit b may inv = frame_entry c (missed c j limit) inv
     (refusals_grown _ _ _ _ (λ k. no_begin j limit k) inv.refusals)
     (swept_grown _ _ _ _ _ _ _ (λ k. no_begin j limit k) inv.swept)
     (bounds_grown _ _ _ _ _ _ (Miss j limit ∷ []) refl inv.bounds)
+    (helps_loaded _ _ _ _ _ _ inv.finds _ _ j inv.helps)
+    (unlinked_grown _ _ _ (Miss j limit ∷ []) (λ k. no_begin j limit k) inv.unlinked)

@@ -40,6 +40,22 @@ in_back (x ∷ xs) ys a i = inr (in_back xs ys a i)
 pub old_footing : (rows : ℕ → List Stand) (old : ℕ → Option Stand) (copying : ℕ → Option CopyDebt) (k : ℕ) (s : Stand) → old k ≡ Some s → In s.row (footings rows old copying k)
 old_footing rows old copying k s is = in_back (rows_of (rows k)) (rows_of_old (old k) ++ rows_of_copy (copying k)) s.row (subst (λ o. In s.row (rows_of_old o ++ rows_of_copy (copying k))) (sym is) (inl refl))
 
+-- and on both rows of a copy that it owes
+pub copy_footing : (rows : ℕ → List Stand) (old : ℕ → Option Stand) (copying : ℕ → Option CopyDebt) (k : ℕ) (d : CopyDebt) → copying k ≡ Some d → In d.old (footings rows old copying k) × In d.copy (footings rows old copying k)
+copy_footing rows old copying k d is = (at d.old (inl refl), at d.copy (inr (inl refl)))
+  where
+    at : (r : ℕ) → In r (d.old ∷ d.copy ∷ []) → In r (footings rows old copying k)
+    at r i = in_back (rows_of (rows k)) (rows_of_old (old k) ++ rows_of_copy (copying k)) r (in_back (rows_of_old (old k)) (rows_of_copy (copying k)) r (subst (λ o. In r (rows_of_copy o)) (sym is) i))
+
+in_middle : (xs ys zs : List ℕ) (a : ℕ) → In a (xs ++ zs) → In a (xs ++ (ys ++ zs))
+in_middle [] ys zs a i = in_back ys zs a i
+in_middle (x ∷ xs) ys zs a i = ⊎_elim inl (λ t. inr (in_middle xs ys zs a t)) i
+
+-- a caller leaves the frozen row whose copy it was to link
+pub less_old : (rows : ℕ → List Stand) (old : ℕ → Option Stand) (copying : ℕ → Option CopyDebt) (j k a : ℕ) → In a (footings rows (put old j None) copying k) → In a (footings rows old copying k)
+less_old rows old copying j k a = put_all old j None (λ k o. In a (rows_of (rows k) ++ (rows_of_old o ++ rows_of_copy (copying k))) → In a (footings rows old copying k))
+    (in_middle (rows_of (rows j)) (rows_of_old (old j)) (rows_of_copy (copying j)) a) (λ _ _ i. i) k
+
 none_left : (xs ys : List ℕ) → ((a : ℕ) → In a xs → In a ys) → ys ≡ [] → xs ≡ []
 none_left [] ys less none = refl
 none_left (x ∷ xs) ys less none = absurd (subst (In x) none (less x (inl refl)))

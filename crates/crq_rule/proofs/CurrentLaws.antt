@@ -13,6 +13,7 @@ use Rattle.crq_rule.specs.Parts.{Finds, Fits, NotAfter}
 use Rattle.crq_rule.specs.HistoryParts.{EndsInBegin, Sees}
 use Rattle.crq_rule.specs.CurrentKinds.{table_seen, sight_on, current_loaded, MayView}
 use Rattle.crq_rule.specs.Invariant.{present_of, takes_of, Inv}
+use Rattle.crq_rule.proofs.HelpLaws.{helps_current}
 use Rattle.crq_rule.proofs.Puts.{put_here, put_else, put_all}
 use Rattle.crq_rule.proofs.Prefixes.{of_take, drop_none}
 use Rattle.crq_rule.proofs.BoundLaws.{numbers_loaded, bounds_loaded}
@@ -73,3 +74,4 @@ module _ (c : Core) (j : ℕ) (b : j < c.start.layout.workers) (inv : Inv c) whe
       (λ s _ is. subst (λ r. Sees (present_of c) (c.begun j) r s) (sym (put_here c.read j read)) (sees_since walks may s (sym (put_here c.sight j sight) ∙ is)))
       (λ w _ is. absurd (none_walk w (sym (put_here c.walk j None) ∙ is))) inv.walkers)
       (bounds_loaded _ _ _ _ _ _ j inv.bounds)
+      (helps_current _ _ _ _ _ _ inv.finds _ _ j (Some c.words.current) inv.helps)

@@ -5,7 +5,8 @@ use native.Mathlib.Decide.{ℕ_discrete}
 use Rattle.crq_base.specs.declared.event.Event.{Event}
 use Rattle.crq_base.specs.declared.words.Link.{Link}
 use Rattle.crq_base.specs.declared.words.Mark.{Mark}
-use Rattle.crq_base.specs.declared.words.Mark.TheVariants.{Mov, Del, Val}
+use Rattle.crq_base.specs.declared.words.Mark.TheVariants.{Val, Inv as Invalid, Mov, Del}
+use Rattle.crq_base.specs.declared.words.Control.{Control}
 use Rattle.crq_base.specs.Words.{IsLink}
 use Rattle.crq_base.specs.Lists.{In}
 use Rattle.crq_rule.specs.declared.debts.CutDebt.{CutDebt}
@@ -17,22 +18,26 @@ use Rattle.crq_rule.specs.declared.view.Stand.{Stand}
 use Rattle.crq_rule.specs.Lists.{put}
 use Rattle.crq_rule.specs.Places.{IsRow, IsHead}
 use Rattle.crq_rule.specs.Core.{Core, IsOutside, DeadNames, HasName, Holding, in_hand, listed, cut_by, retired, caller_of}
-use Rattle.crq_rule.specs.Parts.{Spelled, Holders, Stamps, stamp_of, Chains, Leads, Cover, Covers, Ground, ground_of, footings, IsGuarded, HasTag, IsOn, rows_of, rows_of_old, rows_of_copy, newest}
-use Rattle.crq_rule.specs.ListParts.{Heads, Sorted, Marks, MarkFits, StandFits, Standing, Copying, IsFinal, Lanes, Writing, row_word, Naming, IsNamed, ranks}
+use Rattle.crq_rule.specs.Parts.{Spelled, Holders, Stamps, stamp_of, Chains, Leads, Cover, Covers, Ground, ground_of, footings, IsGuarded, HasTag, IsOn, Follows, rows_of, rows_of_old, rows_of_copy, newest}
+use Rattle.crq_rule.specs.ListParts.{Heads, IsShut, IsPrepared, IsOldMark, Sorted, Marks, MarkFits, StandFits, Standing, Copying, IsFinal, Lanes, Writing, row_word, Naming, IsNamed, ranks}
 use Rattle.crq_rule.specs.HistoryParts.{Carriers, IsLive, Walkers, StandsFrom, IsCarrying}
 use Rattle.crq_rule.specs.ScarceParts.{IsLate}
-use Rattle.crq_rule.specs.Invariant.{present_of, takes_of, Inv}
-use Rattle.crq_rule.specs.Ranks.{list_in, Rises, Cell, at_head, at_row, link_at, heads_set, links_set, without_row}
-use Rattle.crq_rule.specs.ListKinds.{cut_from, without_stand, unnamed, StandsOn, MayWalk, MayCut, unnamed_row}
+use Rattle.crq_rule.specs.Invariant.{present_of, takes_of, rows_of_core, Inv}
+use Rattle.crq_rule.specs.Ranks.{Shape, list_in, Rises, Cell, at_head, at_row, link_at, heads_set, links_set, without_row}
+use Rattle.crq_rule.specs.ListKinds.{is_cell, cut_from, without_stand, unnamed, StandsOn, MayWalk, MayCut, unnamed_row}
+use Rattle.crq_rule.specs.MoveKinds.{MayPop}
 use Rattle.crq_rule.proofs.Puts.{put_here, put_else, put_all}
 use Rattle.crq_rule.proofs.PartLaws.{sort, of_whom, read_cut, cutting_cut}
 use Rattle.crq_rule.proofs.HolderLaws.{none_some, some_some}
-use Rattle.crq_rule.specs.ListKinds.{is_cell}
-use Rattle.crq_rule.proofs.HeadLaws.{dead_kept, cell_final, cell_frozen, cell_listed, dead_carries, heads_rows}
+use Rattle.crq_rule.proofs.HeadLaws.{dead_kept, cell_final, cell_listed}
 use Rattle.crq_rule.proofs.WalkerLaws.{walkers_stop, walkers_links}
 use Rattle.crq_rule.proofs.SizeLaws.{sizes_rows, dues_named}
 use Rattle.crq_rule.proofs.NameLaws.{moved_second, has_moved, was_left}
-use Rattle.crq_rule.proofs.SteadyLaws.{steady_rows, steady_names, guarded_out, outside_twin}
+use Rattle.crq_rule.proofs.SteadyLaws.{steady_rows, steady_names, guarded_out}
+use Rattle.crq_rule.specs.Copies.{IsBound, Copies, Rooms, Bare}
+use Rattle.crq_rule.proofs.CopyLaws.{listed_out}
+use Rattle.crq_rule.proofs.CopyRows.{MayGo, go_final, not_inv, not_val, not_moved, Relinked, copies_relinked, copies_out, moved_ordered, bare_put}
+use Rattle.crq_rule.proofs.HelpLaws.{helps_heads}
 use Rattle.crq_rule.proofs.CoverLaws.{guarded_by, stand_row, row_footing, footing_covered}
 use Rattle.crq_rule.proofs.ScarceLaws.{since_low, scarce_lasts, lasts_held}
 use Rattle.crq_rule.proofs.SweepLaws.{swept_cut}
@@ -41,8 +46,19 @@ use Rattle.crq_rule.proofs.WithoutLaws.{first_in, next_in, leads_else, leads_fir
 on_is : (g : Guard) (x : ℕ) → g ≡ On x → IsOn g
 on_is g x is = subst IsOn (sym is) tt
 
-del_mov : Del ≡ Mov → ⊥
-del_mov e = cc
+-- a mark that isn't another one than that of a frozen row
+frozen_is : (m : Mark) → ((m ≡ Mov → ⊥) → ⊥) → m ≡ Mov
+frozen_is Val none = absurd (none (λ (e : ◌≡◌ {A = Mark} Val Mov). cc))
+frozen_is Invalid none = absurd (none (λ (e : ◌≡◌ {A = Mark} Invalid Mov). cc))
+frozen_is Mov none = refl
+frozen_is Del none = absurd (none (λ (e : ◌≡◌ {A = Mark} Del Mov). cc))
+
+-- what carries an event is present, or frozen and without a valid copy
+carries_cases : (m : Mark) (t : ℕ) (k : Mark) → IsCarrying m t k → (m ≡ Val) ⊎ ((m ≡ Mov) × ((t ≡ 0) ⊎ (k ≡ Invalid)))
+carries_cases Val t k is = inl refl
+carries_cases Invalid t k is = absurd is
+carries_cases Mov t k is = inr (refl, is)
+carries_cases Del t k is = absurd is
 
 -- Stands, and what is left of them without the row x
 
@@ -71,6 +87,32 @@ debt_left x (Some y) d is = dite (ℕ_discrete y.row x)
   where
     no_debt : (d : CutDebt) → None ≡ Some d → ⊥
     no_debt d e = cc
+
+-- Where the row of the cell is cut behind it, that cell is a head, or a row with the mark of a cell
+abbrev pub IsCutCell : (ℕ → Link) → Cell → Type 0
+IsCutCell links (at_head h) = Unit {0}
+IsCutCell links (at_row p) = is_cell (links p).mark ≡ true
+
+-- a cell is such a one
+cell_cuts : (heads links : ℕ → Link) (cell : Cell) → is_cell (link_at heads links cell).mark ≡ true → IsCutCell links cell
+cell_cuts heads links (at_head h) is = tt
+cell_cuts heads links (at_row p) is = is
+
+-- Heads change their rows alone, and none of those that are empty
+heads_filled : (control : Control) (shape : ℕ → Shape) (head head' : ℕ → Link) → ((q : ℕ) → (head' q).generation ≡ (head q).generation) → ((q : ℕ) → (head' q).mark ≡ (head q).mark) → ((q : ℕ) → (head q).row ≡ 0 → head' q ≡ head q)
+    → Heads control shape head → Heads control shape head'
+heads_filled control shape head head' generation mark empty was = record {
+  old = λ q b o. let h = was.old q b o in (generation q ∙ h.0, subst (IsOldMark control.moving) (sym (mark q)) h.1);
+  new = λ q b n. ⊎_elim (λ p. inl (prepared q p)) (λ s. inr (shut q s)) (was.new q b n);
+  other = λ q b o n. shut q (was.other q b o n);
+  order = λ p q b d o m n. prepared q (was.order p q b d o (sym (mark p) ∙ m) n);
+}
+  where
+    prepared : (q : ℕ) → IsPrepared (control.generation + 1) (head q) → IsPrepared (control.generation + 1) (head' q)
+    prepared q p = (generation q ∙ p.0, mark q ∙ p.1)
+
+    shut : (q : ℕ) → IsShut control.generation q (head q) → IsShut control.generation q (head' q)
+    shut q s = subst (IsShut control.generation q) (sym (empty q s.empty)) s
 
 -- The cell's link changes in its row alone
 
@@ -105,10 +147,10 @@ module _ (heads links : ℕ → Link) (w : ℕ) where
   link_spelled l low all (at_head h) = all
   link_spelled l low all (at_row p) = put_all links p (record (links p) { row = w }) (λ k z. IsRow l k → IsLink z) (λ b. record { generation = (all p b).generation; row = low }) (λ k _. all k)
 
-  -- a frozen head isn't changed
-  frozen_stays : (cell : Cell) → is_cell (link_at heads links cell).mark ≡ true → (q : ℕ) → (heads q).mark ≡ Mov → heads_cut cell q ≡ heads q
-  frozen_stays (at_row p) may q frozen = refl
-  frozen_stays (at_head h) may q frozen = put_else heads h (record (heads h) { row = w }) q (λ e. cell_frozen (heads h).mark may (ap (λ z. (heads z).mark) (sym e) ∙ frozen))
+  -- a head that leads to another row than the cell isn't changed
+  head_stays : (cell : Cell) (q : ℕ) → (heads q).row ≢ (link_at heads links cell).row → heads_cut cell q ≡ heads q
+  head_stays (at_row p) q ne = refl
+  head_stays (at_head h) q ne = put_else heads h (record (heads h) { row = w }) q (λ e. ne (ap (λ z. (heads z).row) e))
 
   -- each row's link is as it was, or the row is the cell
   link_is : (cell : Cell) (r : ℕ) → (links_cut cell r ≡ links r) ⊎ ((cell ≡ at_row r) × ((links_cut cell r).row ≡ w))
@@ -147,8 +189,16 @@ module _ (l : Layout) (hand : ℕ → List ℕ) (cut : ℕ → Option CutRow) (c
     ripe = λ k s t c i. let h = old.ripe k s t c i in (h.0, put_else holding x (cut_by j) s (λ (is : s ≡ x). let z : 3 ≡ 1 = ap sort (sym h.1 ∙ (ap holding is ∙ was)) in omega arith) ∙ h.1);
   }
 
-module _ (c : Core) (j : ℕ) (cell : Cell) (x : ℕ) (l : Link) (b : j < c.start.layout.workers) (may : MayCut cell x l (caller_of c j))
-    (val : is_cell (link_at c.words.head c.words.link cell).mark ≡ true) (names : (link_at c.words.head c.words.link cell).row ≡ x) (inv : Inv c) where
+-- the caller, which has no cut row, stands at the cell and on the row x, whose last link is l. It may go; behind a row of its list it is dead
+record Going (c : Core) (j : ℕ) (cell : Cell) (x : ℕ) (l : Link) : Type 0 where
+  none : c.cut j ≡ None
+  cell_is : MayWalk (c.rows j) cell
+  on : (s : Stand) × In s (c.rows j) × (s.row ≡ x) × (s.last ≡ Some l)
+  goes : MayGo c.words.link c.words.twin x
+  dead : (p : ℕ) → cell ≡ at_row p → (c.words.link x).mark ≡ Del
+
+module _ (c : Core) (j : ℕ) (cell : Cell) (x : ℕ) (l : Link) (b : j < c.start.layout.workers) (may : Going c j cell x l)
+    (val : IsCutCell c.words.link cell) (names : (link_at c.words.head c.words.link cell).row ≡ x) (inv : Inv c) where
   abbrev n : ℕ
   n = c.start.layout.workers
 
@@ -185,8 +235,8 @@ module _ (c : Core) (j : ℕ) (cell : Cell) (x : ℕ) (l : Link) (b : j < c.star
   at_x : c.words.link x ≡ l
   at_x = subst (λ z. c.words.link z ≡ l) may.on.2 (((inv.standing.each j may.on.0 b may.on.1).last l may.on.3)).0
 
-  dead : (c.words.link x).mark ≡ Del
-  dead = ap (λ (z : Link). z.mark) at_x ∙ may.dead
+  final : IsFinal (c.words.link x).mark
+  final = go_final c.words.link c.words.twin x may.goes
 
   covered : (r : ℕ) (e : Event) → StandsOn (c.rows j) r e → (g : ℕ) × Covers (ground_of c) j g r
   covered r e s = subst (λ r. (g : ℕ) × Covers (ground_of c) j g r) s.2 (footing_covered (ground_of c) c.cut c.holding inv.cover j s.0.row b (row_footing c.rows c.old c.copying j s.0.row (stand_row (c.rows j) s.0 s.1)))
@@ -204,7 +254,7 @@ module _ (c : Core) (j : ℕ) (cell : Cell) (x : ℕ) (l : Link) (b : j < c.star
   IsCellOf k (at_head h) = h ≡ k
   IsCellOf k (at_row p) = In p (c.chain k)
 
-  cell_list : (z : Cell) → MayWalk (c.rows j) z → is_cell (link_at c.words.head c.words.link z).mark ≡ true → (link_at c.words.head c.words.link z).row ≡ x → (k : ℕ) × IsHead k × In x (c.chain k) × IsCellOf k z
+  cell_list : (z : Cell) → MayWalk (c.rows j) z → IsCutCell c.words.link z → (link_at c.words.head c.words.link z).row ≡ x → (k : ℕ) × IsHead k × In x (c.chain k) × IsCellOf k z
   cell_list (at_head h) is present to = (h, is, first_in c.words.link x (c.chain h) row_x.0 (subst (λ z. Leads c.words.link z (c.chain h)) to (inv.chains.leads h is)), refl)
   cell_list (at_row p) is present to = let v : IsGuarded (ground_of c) p = guarded_by j (covered p is.0 is.1) in let row = inv.lanes.is_row p v in let k = cell_listed (c.holding p) (c.words.link p).mark present (guarded_out c inv p v) (inv.marks.mark p row) in let o = inv.holders.of_chain k.0 p row k.1 in
       (k.0, o.0, next_in c.words.link (c.words.head k.0).row p x (c.chain k.0) row_x.0 to (inv.chains.leads k.0 o.0) o.1, o.1)
@@ -219,16 +269,13 @@ module _ (c : Core) (j : ℕ) (cell : Cell) (x : ℕ) (l : Link) (b : j < c.star
   was : c.holding x ≡ listed q
   was = (inv.holders.in_chain q x place.0 place.1).1
 
-  lone : c.words.twin x ≡ 0
-  lone = inv.marks.bare x row_x (guarded_out c inv x (guarded_by j covered_x)) (λ m. del_mov (sym dead ∙ m))
-
   -- The change of the links
 
   changed : (r : ℕ) → (links r ≡ c.words.link r) ⊎ ((cell ≡ at_row r) × ((links r).row ≡ l.row))
   changed = link_is c.words.head c.words.link l.row cell
 
   present : (r : ℕ) → cell ≡ at_row r → is_cell (c.words.link r).mark ≡ true
-  present r e = subst (λ z. is_cell (link_at c.words.head c.words.link z).mark ≡ true) e val
+  present r e = subst (IsCutCell c.words.link) e val
 
   to_x : (r : ℕ) → cell ≡ at_row r → (c.words.link r).row ≡ x
   to_x r e = subst (λ z. (link_at c.words.head c.words.link z).row ≡ x) e names
@@ -241,8 +288,12 @@ module _ (c : Core) (j : ℕ) (cell : Cell) (x : ℕ) (l : Link) (b : j < c.star
 
   -- The parts
 
+  -- a head that doesn't lead to x stays
+  head_kept : (h : ℕ) → (c.words.head h).row ≢ x → heads h ≡ c.words.head h
+  head_kept h ne = head_stays c.words.head c.words.link l.row cell h (λ e. ne (e ∙ names))
+
   heads_part : Heads c.words.control c.shape heads
-  heads_part = heads_rows c.words.control c.shape c.words.head heads (head_generation c.words.head c.words.link l.row cell) (head_mark c.words.head c.words.link l.row cell) (frozen_stays c.words.head c.words.link l.row cell val) inv.heads
+  heads_part = heads_filled c.words.control c.shape c.words.head heads (head_generation c.words.head c.words.link l.row cell) (head_mark c.words.head c.words.link l.row cell) (λ h empty. head_kept h (λ to. let some = row_x.0 in omega arith)) inv.heads
 
   in_before : (k r : ℕ) → In r (put c.chain q left k) → In r (c.chain k)
   in_before k r = put_all c.chain q left (λ k xs. In r xs → In r (c.chain k)) (in_without_row x r (c.chain q)) (λ _ _ i. i) k
@@ -269,11 +320,27 @@ module _ (c : Core) (j : ℕ) (cell : Cell) (x : ℕ) (l : Link) (b : j < c.star
   chains_part : Chains heads links c.words.twin (put c.chain q left)
   chains_part = record {
     leads = leads_part cell place.2 names;
-    twins = λ k r a i. let h = inv.holders.in_chain k r a (in_before k r i) in inl (outside_twin c inv r h.0 (λ i held. let z : ◌≡◌ {A = ℕ} 1 0 = ap sort (sym h.1 ∙ held) in omega arith));
+    twins = λ k r a i. let in_list = in_before k r i in ⊎_elim inl (λ (h : (p : ℕ) × IsHead p × In (c.words.twin r) (c.chain p)). dite (ℕ_discrete (c.words.twin r) 0) inl (λ some. inr (
+      h.0,
+      h.1,
+      put_all c.chain q left (λ p xs. In (c.words.twin r) (c.chain p) → In (c.words.twin r) xs) (λ t. without_row_in x (c.words.twin r) (c.chain q) t (twin_stays k r a in_list some)) (λ _ _ t. t) h.0 h.2,
+    ))) (inv.chains.twins k r a in_list);
   }
+    where
+      -- the twin of a listed row is a copy that isn't frozen or dead
+      twin_stays : (k r : ℕ) → IsHead k → In r (c.chain k) → c.words.twin r ≢ 0 → c.words.twin r ≢ x
+      twin_stays k r a i some is = let h = inv.holders.in_chain k r a i in let bound : IsBound (rows_of_core c) r (c.words.twin r) = record {
+        row = h.0;
+        listed_is = (k, h.1);
+        frozen = frozen_is (c.words.link r).mark (λ other. some (inv.marks.bare r h.0 (listed_out c.holding r (k, h.1)) other));
+        twin_is = refl;
+        some = omega arith;
+      } in let copy = inv.copies.bound r (c.words.twin r) bound in
+          ⊎_elim (λ m. not_inv c.words.link c.words.twin x may.goes (c.words.twin r) m is) (λ m. not_val c.words.link c.words.twin x may.goes (c.words.twin r) m is) copy.mark
 
-  front_stays : (h s : ℕ) → ((c.words.head h).mark ≡ Mov) × ((c.words.head h).row ≡ s) → ((heads h).mark ≡ Mov) × ((heads h).row ≡ s)
-  front_stays h s front = subst (λ (y : Link). (y.mark ≡ Mov) × (y.row ≡ s)) (sym (frozen_stays c.words.head c.words.link l.row cell val h front.0)) front
+  -- the first row of a frozen head stays so, if it is another one than x
+  front_stays : (h s : ℕ) → s ≢ x → ((c.words.head h).mark ≡ Mov) × ((c.words.head h).row ≡ s) → ((heads h).mark ≡ Mov) × ((heads h).row ≡ s)
+  front_stays h s ne front = subst (λ (y : Link). (y.mark ≡ Mov) × (y.row ≡ s)) (sym (head_kept h (λ e. ne (sym front.1 ∙ e)))) front
 
   -- a row that is in no hand was in none, and one that is listed was listed
   was_outside : (r : ℕ) → IsOutside holding r → IsOutside c.holding r
@@ -287,8 +354,8 @@ module _ (c : Core) (j : ℕ) (cell : Cell) (x : ℕ) (l : Link) (b : j < c.star
 
   marks_part : Marks c.start.layout c.words.control heads links c.words.twin holding
   marks_part = record {
-    mark = λ r row. subst (MarkFits (holding r)) (sym (same_mark r)) (put_all c.holding x (cut_by j) (λ s h. IsRow c.start.layout s → MarkFits h (c.words.link s).mark) (λ _. subst IsFinal (sym dead) tt) (λ s _. inv.marks.mark s) r row);
-    first = λ k r row is frozen. front_stays k r (inv.marks.first k r row (listed_before r k is).0 (sym (same_mark r) ∙ frozen));
+    mark = λ r row. subst (MarkFits (holding r)) (sym (same_mark r)) (put_all c.holding x (cut_by j) (λ s h. IsRow c.start.layout s → MarkFits h (c.words.link s).mark) (λ _. final) (λ s _. inv.marks.mark s) r row);
+    first = λ k r row is frozen. let o = listed_before r k is in front_stays k r o.1 (inv.marks.first k r row o.0 (sym (same_mark r) ∙ frozen));
     bare = λ r row out live. inv.marks.bare r row (was_outside r out) (λ m. live (same_mark r ∙ m));
     aged = λ r row out frozen. subst (λ g. g < newest c.words.control) (sym (link_generation c.words.head c.words.link l.row cell r)) (inv.marks.aged r row (was_outside r out) (sym (same_mark r) ∙ frozen));
   }
@@ -349,11 +416,13 @@ module _ (c : Core) (j : ℕ) (cell : Cell) (x : ℕ) (l : Link) (b : j < c.star
   stand_after : (s : Stand) → StandFits c.words.head c.words.link c.words.twin c.words.event s → StandFits heads links c.words.twin c.words.event s
   stand_after s was = record {
     holds = was.holds;
+    of = link_generation c.words.head c.words.link l.row cell s.row ∙ was.of;
     last = λ m is. let o = was.last m is in
         (⊎_elim (λ e. e ∙ o.0) (λ (h : (cell ≡ at_row s.row) × ((links s.row).row ≡ l.row)). absurd (cell_final m.mark (ap (λ (z : Link). is_cell z.mark) (sym o.0) ∙ present s.row h.0) o.1)) (changed s.row), o.1);
     copy = was.copy;
     valid = λ v e. was.valid v (sym (same_mark s.row) ∙ e);
-    front = λ h is. ⊎_elim (λ final. inl (subst IsFinal (sym (same_mark s.row)) final)) (λ front. inr (front_stays h s.row front)) (was.front h is);
+    front = λ h is. ⊎_elim (λ final. inl (subst IsFinal (sym (same_mark s.row)) final)) (λ front. dite (ℕ_discrete s.row x)
+        (λ e. inl (subst IsFinal (sym (same_mark s.row ∙ ap (λ z. (c.words.link z).mark) e)) final)) (λ ne. inr (front_stays h s.row ne front))) (was.front h is);
   }
 
   standing_part : Standing n heads links c.words.twin c.words.event (put c.rows j now_rows)
@@ -378,8 +447,8 @@ module _ (c : Core) (j : ℕ) (cell : Cell) (x : ℕ) (l : Link) (b : j < c.star
   names_before : (k : ℕ) (d : CutDebt) → HasName (put c.named j now_names k) d → HasName (c.named k) d
   names_before k d = put_all c.named j now_names (λ i t. HasName t d → HasName (c.named i) d) (λ has. ⊎_elim (λ is. inl (debt_left x (c.named j).first d is)) (λ is. inr (debt_left x (c.named j).second d is)) (was_left _ _ d has)) (λ _ _ h. h) k
 
-  name_stays : (d : CutDebt) (r : ℕ) → IsNamed c.words.head d r (c.words.event r) (c.words.link r) → IsNamed heads d r (c.words.event r) (links r)
-  name_stays d r n = record { row = n.row; event = n.event; generation = n.generation ∙ sym (link_generation c.words.head c.words.link l.row cell r); front = λ is. front_stays d.head r (n.front is) }
+  name_stays : (d : CutDebt) (r : ℕ) → r ≢ x → IsNamed c.words.head d r (c.words.event r) (c.words.link r) → IsNamed heads d r (c.words.event r) (links r)
+  name_stays d r ne n = record { row = n.row; event = n.event; generation = n.generation ∙ sym (link_generation c.words.head c.words.link l.row cell r); front = λ is. front_stays d.head r ne (n.front is) }
 
   naming_part : Naming c.start.layout heads links c.words.event (put c.named j now_names) holding
   naming_part = record {
@@ -389,15 +458,16 @@ module _ (c : Core) (j : ℕ) (cell : Cell) (x : ℕ) (l : Link) (b : j < c.star
       (
         d,
         put_all c.named j now_names (λ i t. HasName (c.named i) d → HasName t d) (λ has. has_moved _ _ d (⊎_elim (λ h. inl (name_left x (c.named j).first d h (λ z. o.1 (sym old.2.2.row ∙ z)))) (λ h. inr (name_left x (c.named j).second d h (λ z. o.1 (sym old.2.2.row ∙ z)))) has)) (λ _ _ h. h) old.0 old.2.1,
-        name_stays d r old.2.2,
+        name_stays d r o.1 old.2.2,
       ),
     );
     place = λ k d a has. inv.naming.place k d a (names_before k d has);
   }
 
-  -- The row x was dead, so the same rows are live
+  -- The row x carried nothing, so the same rows are live
   not_x : (r : ℕ) → IsLive c.start.layout c.words.link c.words.twin c.holding r → r ≢ x
-  not_x r v e = dead_carries (c.words.link r).mark (c.words.twin r) (c.words.link (c.words.twin r)).mark (ap (λ z. (c.words.link z).mark) e ∙ dead) v.2
+  not_x r v = ⊎_elim (λ val. not_val c.words.link c.words.twin x may.goes r val) (λ (m : ((c.words.link r).mark ≡ Mov) × ((c.words.twin r ≡ 0) ⊎ ((c.words.link (c.words.twin r)).mark ≡ Invalid))). not_moved c.words.link c.words.twin x may.goes r m.0 m.1)
+      (carries_cases (c.words.link r).mark (c.words.twin r) (c.words.link (c.words.twin r)).mark v.2)
 
   live_now : (r : ℕ) → IsLive c.start.layout c.words.link c.words.twin c.holding r → IsLive c.start.layout links c.words.twin holding r
   live_now r v = (
@@ -423,8 +493,33 @@ module _ (c : Core) (j : ℕ) (cell : Cell) (x : ℕ) (l : Link) (b : j < c.star
     kept = subst (λ (m : Mark). (m ≡ Val) ⊎ (m ≡ Mov)) (sym (same_mark s.row)) s.kept;
     of = link_generation c.words.head c.words.link l.row cell s.row ∙ s.of;
     holds = s.holds;
-    follows = path_pass c.words.link links (λ _. 0) x passes refl at s.row s.follows.through (λ z. dead_kept (c.words.link s.row).mark (ap (λ z. (c.words.link z).mark) z ∙ dead) s.kept) s.follows.path;
+    follows = still cell refl;
   }
+    where
+      -- a row behind a head leaves all links as they are
+      still : (z : Cell) → cell ≡ z → Follows links at s.row
+      still (at_head h) is = subst (λ z. Follows (links_cut c.words.head c.words.link l.row z) at s.row) (sym is) s.follows
+      still (at_row p) is = path_pass c.words.link links (λ _. 0) x passes refl at s.row s.follows.through (λ z. dead_kept (c.words.link s.row).mark (ap (λ z. (c.words.link z).mark) z ∙ may.dead p is) s.kept) s.follows.path
+
+  -- the parts on copies
+  relinked_part : Relinked c.words.link links
+  relinked_part = record {
+    mark = same_mark;
+    generation = link_generation c.words.head c.words.link l.row cell;
+    final = λ r final. ⊎_elim (λ e. e) (λ (h : (cell ≡ at_row r) × ((links r).row ≡ l.row)). absurd (cell_final (c.words.link r).mark (present r h.0) final)) (changed r);
+  }
+
+  copies_part : Copies (rows_of_core (cut_from c j cell x l)) ground'
+  copies_part = copies_relinked _ _ links relinked_part (copies_out (rows_of_core c) (ground_of c) ground' j x may.goes guarded inv.copies)
+
+  rooms_part : Rooms n c.copying (put c.named j now_names)
+  rooms_part = record {
+    ordered = λ k. put_all c.named j now_names (λ k t. k < n → t.first ≡ None → t.second ≡ None) (λ _. moved_ordered (unnamed x (c.named j).first) (unnamed x (c.named j).second)) (λ k _. inv.rooms.ordered k) k;
+    room = λ k d. put_all c.named j now_names (λ k t. k < n → c.copying k ≡ Some d → t.second ≡ None) (λ a is. moved_second _ _ (ap (unnamed x) (inv.rooms.room j d a is))) (λ k _. inv.rooms.room k d) k;
+  }
+
+  bare_part : Bare c.words.control c.shape heads (put c.chain q left)
+  bare_part = bare_put c.words.control c.shape c.words.head heads c.chain q left (head_mark c.words.head c.words.link l.row cell) (λ _ _ _ _ _ _ _ none. ap (without_row x) none) inv.bare
 
   walkers_part : Walkers (present_of c) (record (takes_of c) { walk = put c.walk j None; rows = put c.rows j now_rows }) links c.words.event
   walkers_part = walkers_stop (present_of c) (takes_of c) _ _ j now_rows (walkers_links (present_of c) (takes_of c) _ _ links c.words.event (λ _ r _ _. link_generation c.words.head c.words.link l.row cell r) (λ _ g at e _ _ _. from_before g at e) inv.walkers)
@@ -457,7 +552,7 @@ module _ (c : Core) (j : ℕ) (cell : Cell) (x : ℕ) (l : Link) (b : j < c.star
     sizes = sizes_rows _ _ _ _ _ _ _ _ _ (λ h _. head_generation c.words.head c.words.link l.row cell h) (λ r _ out. inl (was_outside r out, link_generation c.words.head c.words.link l.row cell r)) inv.sizes;
     dues = dues_named _ _ _ _ _ _ _ (λ k d _ has. inl (names_before k d has)) inv.dues;
     steady = steady_names _ _ _ _ _ _ (λ k d _ has. inl (names_before k d has))
-        (λ k _. put_all c.named j now_names (λ k t. (c.named k).second ≡ None → t.second ≡ None) (λ none. moved_second _ _ (ap (unnamed x) none)) (λ _ _ h. h) k) (steady_rows _ _ _ _ _ _ _ (λ r _ out. inl (was_outside r out, link_generation c.words.head c.words.link l.row cell r, inl (same_mark r))) inv.steady);
+        (λ _ k _. put_all c.named j now_names (λ k t. (c.named k).second ≡ None → t.second ≡ None) (λ none. moved_second _ _ (ap (unnamed x) none)) (λ _ _ h. h) k) (steady_rows _ _ _ _ _ _ _ (λ r _ out. inl (was_outside r out, link_generation c.words.head c.words.link l.row cell r)) inv.steady);
     heads = heads_part;
     sorted = sorted_part;
     marks = marks_part;
@@ -477,9 +572,38 @@ module _ (c : Core) (j : ℕ) (cell : Cell) (x : ℕ) (l : Link) (b : j < c.star
         (λ g _ low _. inr (since_low c.words.epoch (c.words.announced j) g (c.guard j) (inv.guards.each j b) (omega arith)))) inv.scarce;
     refusals = inv.refusals;
     swept = swept_cut _ _ _ _ _ _ q x inv.swept;
+    copies = copies_part;
+    rooms = rooms_part;
+    bare = bare_part;
+    unlinked = inv.unlinked;
+    helps = helps_heads _ _ _ _ _ _ inv.sizes.now inv.finds _ _ _ (λ h. (head_generation c.words.head c.words.link l.row cell h, head_mark c.words.head c.words.link l.row cell h))
+        (λ h _ empty. ap (λ (z : Link). z.row) (head_kept h (λ to. let some = row_x.0 in omega arith)) ∙ empty) inv.helps;
   }
 
 -- Cut
 pub cut_keeps : (c : Core) (j : ℕ) (cell : Cell) (x : ℕ) (l : Link) → j < c.start.layout.workers → MayCut cell x l (caller_of c j) → is_cell (link_at c.words.head c.words.link cell).mark ≡ true → (link_at c.words.head c.words.link cell).row ≡ x
     → Inv c → Inv (cut_from c j cell x l)
-cut_keeps = cut_inv
+cut_keeps c j cell x l b may present names inv = cut_inv c j cell x l b (record { none = may.none; cell_is = may.cell_is; on = may.on; goes = inl dead; dead = λ _ _. dead }) (cell_cuts c.words.head c.words.link cell present) names inv
+  where
+    dead : (c.words.link x).mark ≡ Del
+    dead = ap (λ (z : Link). z.mark) (subst (λ z. c.words.link z ≡ l) may.on.2 ((inv.standing.each j may.on.0 b may.on.1).last l may.on.3).0) ∙ may.dead
+
+-- Pop: the row is dead, or has a copy that was found valid
+pub pop_keeps : (c : Core) (j q r : ℕ) (last : Link) → j < c.start.layout.workers → MayPop q r last (caller_of c j) → (c.words.head q).mark ≡ Mov → (c.words.head q).row ≡ r → Inv c → Inv (cut_from c j (at_head q) r last)
+pop_keeps c j q r last b may _ names inv = cut_inv c j (at_head q) r last b (record { none = may.none; cell_is = may.head; on = (s, may.on.1, may.on.2, may.on.3); goes = goes; dead = λ p is. absurd (head_row q p is) }) tt names inv
+  where
+    s : Stand
+    s = may.on.0
+
+    head_row : (q p : ℕ) → at_head q ≡ at_row p → ⊥
+    head_row q p e = cc
+
+    mark_is : (c.words.link r).mark ≡ last.mark
+    mark_is = ap (λ (z : Link). z.mark) (subst (λ z. c.words.link z ≡ last) may.on.2 ((inv.standing.each j s b may.on.1).last last may.on.3).0)
+
+    goes : MayGo c.words.link c.words.twin r
+    goes = ⊎_elim (λ d. inl (mark_is ∙ d)) (λ (m : (last.mark ≡ Mov) × ((u : Stand) × In u (c.rows j) × (s.twin ≡ Some u.row) × (u.valid ≡ true))).
+        let copy = (inv.standing.each j s b may.on.1).copy m.1.0.row m.1.2 in let twin : c.words.twin r ≡ m.1.0.row = ap c.words.twin (sym may.on.2) ∙ copy.0 in inr (
+          mark_is ∙ m.0,
+          ((λ none. let some = copy.1 in omega arith), (λ invalid. (inv.standing.each j m.1.0 b m.1.1).valid m.1.3 (ap (λ z. (c.words.link z).mark) (sym twin) ∙ invalid))),
+        )) may.on.4

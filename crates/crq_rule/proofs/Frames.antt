@@ -15,9 +15,11 @@ use Rattle.crq_rule.specs.ListParts.{Sizes, Dues, Marks, Standing, Copying, Lane
 use Rattle.crq_rule.specs.Steady.{Steady}
 use Rattle.crq_rule.specs.HistoryParts.{Carriers, Told, Numbers, Settling, Walkers}
 use Rattle.crq_rule.specs.Bounds.{Bounds}
+use Rattle.crq_rule.specs.Helping.{Helps}
 use Rattle.crq_rule.specs.ScarceParts.{Scarce, Refusals, Swept}
 use Rattle.crq_rule.specs.Ahead.{Ahead}
-use Rattle.crq_rule.specs.Invariant.{present_of, takes_of, Inv}
+use Rattle.crq_rule.specs.Copies.{Copies, Unlinked}
+use Rattle.crq_rule.specs.Invariant.{present_of, takes_of, rows_of_core, Inv}
 use Rattle.crq_rule.specs.Kinds.{after_made}
 
 -- the epoch word, announcements, guards, ticks, epochs read, tags, bases, positions and walks
@@ -33,8 +35,10 @@ pub frame_guards : (c : Core) (e : ℕ) (announced : ℕ → ℕ) (epochs : ℕ 
     → Lanes c.start.layout c.shape (record (ground_of c) { guard = guard; footing = footings rows old c.copying }) c.words.event
     → Walkers (present_of c) (record (takes_of c) { walk = walk; rows = rows }) c.words.link c.words.event
     → Scarce c.start.layout e c.history base guard c.holding
+    → Copies (rows_of_core c) (record (ground_of c) { guard = guard; footing = footings rows old c.copying })
+    → Unlinked c.start.layout.workers c.history old
     → Inv (record c { words = record c.words { epoch = e; announced = announced }; epochs = epochs; guard = guard; tick = tick; cut = cut; base = base; rows = rows; old = old; walk = walk })
-frame_guards c e announced epochs guard tick cut base rows old walk inv reading guards holders cutting stamps cover standing copying lanes walkers scarce = record {
+frame_guards c e announced epochs guard tick cut base rows old walk inv reading guards holders cutting stamps cover standing copying lanes walkers scarce copies unlinked = record {
   spelled = inv.spelled;
   reading = reading;
   finds = inv.finds;
@@ -65,6 +69,11 @@ frame_guards c e announced epochs guard tick cut base rows old walk inv reading 
   scarce = scarce;
   refusals = inv.refusals;
   swept = inv.swept;
+  helps = inv.helps;
+  copies = copies;
+  rooms = inv.rooms;
+  bare = inv.bare;
+  unlinked = unlinked;
 }
 
 -- stamps, rows in hand, rows looked at, cut rows, bases, refusals and holders
@@ -82,8 +91,9 @@ pub frame_rows : (c : Core) (stamp : ℕ → ℕ) (hand : ℕ → List ℕ) (rip
     → Carriers c.start.layout c.history c.words.link c.words.twin c.words.event holding
     → Scarce c.start.layout c.words.epoch c.history base c.guard holding
     → Refusals c.start.layout.workers c.history refused
+    → Copies (record (rows_of_core c) { holding = holding }) (ground_of c)
     → Inv (record c { words = record c.words { stamp = stamp }; hand = hand; ripening = ripening; cut = cut; base = base; refused = refused; holding = holding })
-frame_rows c stamp hand ripening cut base refused holding inv reading holders cutting stamps cover sizes steady marks writing naming carriers scarce refusals = record {
+frame_rows c stamp hand ripening cut base refused holding inv reading holders cutting stamps cover sizes steady marks writing naming carriers scarce refusals copies = record {
   spelled = inv.spelled;
   reading = reading;
   finds = inv.finds;
@@ -114,6 +124,11 @@ frame_rows c stamp hand ripening cut base refused holding inv reading holders cu
   scarce = scarce;
   refusals = refusals;
   swept = inv.swept;
+  helps = inv.helps;
+  copies = copies;
+  rooms = inv.rooms;
+  bare = inv.bare;
+  unlinked = inv.unlinked;
 }
 
 -- the state c, with the history, what each caller owes to settle, and what it found and knows of it, as in d
@@ -153,8 +168,10 @@ pub frame_moved : (c d : Core) (current : Current) → Inv c
     → Refusals c.start.layout.workers d.history d.refused
     → Swept c.start.layout d.history c.words.event c.chain d.sweep d.clean
     → Bounds c.start c.words.control current d.history d.settling d.permit
+    → Helps c.start.layout.workers c.words.control c.words.head d.found d.help
+    → Unlinked c.start.layout.workers d.history c.old
     → Inv (with_entries (record c { words = record c.words { current = current } }) d)
-frame_moved c d current inv spelled finds dues steady carriers told numbers settling walkers ahead scarce refusals swept bounds = record {
+frame_moved c d current inv spelled finds dues steady carriers told numbers settling walkers ahead scarce refusals swept bounds helps unlinked = record {
   spelled = spelled;
   reading = inv.reading;
   finds = finds;
@@ -185,6 +202,11 @@ frame_moved c d current inv spelled finds dues steady carriers told numbers sett
   scarce = scarce;
   refusals = refusals;
   swept = swept;
+  helps = helps;
+  copies = inv.copies;
+  rooms = inv.rooms;
+  bare = inv.bare;
+  unlinked = unlinked;
 }
 
 -- current stays
@@ -202,8 +224,10 @@ pub frame_entry : (c d : Core) → Inv c
     → Refusals c.start.layout.workers d.history d.refused
     → Swept c.start.layout d.history c.words.event c.chain d.sweep d.clean
     → Bounds c.start c.words.control c.words.current d.history d.settling d.permit
+    → Helps c.start.layout.workers c.words.control c.words.head d.found d.help
+    → Unlinked c.start.layout.workers d.history c.old
     → Inv (with_entries c d)
-frame_entry c d inv finds dues steady carriers told numbers settling walkers ahead scarce refusals swept bounds = frame_moved c d c.words.current inv inv.spelled finds dues steady carriers told numbers settling walkers ahead scarce refusals swept bounds
+frame_entry c d inv finds dues steady carriers told numbers settling walkers ahead scarce refusals swept bounds helps unlinked = frame_moved c d c.words.current inv inv.spelled finds dues steady carriers told numbers settling walkers ahead scarce refusals swept bounds helps unlinked
 
 -- the state c, with what each caller found, and the takes that walk, as in d
 abbrev with_found : Core → Core → Core
@@ -215,8 +239,9 @@ pub frame_found : (c d : Core) → Inv c
     → Numbers c.start.layout.workers c.history d.told
     → Walkers (present_of c) (takes_of (with_found c d)) c.words.link c.words.event
     → Bounds c.start c.words.control c.words.current c.history c.settling d.permit
+    → Helps c.start.layout.workers c.words.control c.words.head d.found d.help
     → Inv (with_found c d)
-frame_found c d inv finds numbers walkers bounds = frame_entry c (with_found c d) inv finds inv.dues inv.steady inv.carriers inv.told numbers inv.settling walkers inv.ahead inv.scarce inv.refusals inv.swept bounds
+frame_found c d inv finds numbers walkers bounds helps = frame_entry c (with_found c d) inv finds inv.dues inv.steady inv.carriers inv.told numbers inv.settling walkers inv.ahead inv.scarce inv.refusals inv.swept bounds helps inv.unlinked
 
 -- current, permits, and the walks of takes
 pub frame_current : (c : Core) (current : Current) (permit : ℕ → Bool) (walk : ℕ → Option Walk) → Inv c
@@ -257,6 +282,11 @@ frame_current c current permit walk inv spelled finds walkers ahead bounds = rec
   scarce = inv.scarce;
   refusals = inv.refusals;
   swept = inv.swept;
+  helps = inv.helps;
+  copies = inv.copies;
+  rooms = inv.rooms;
+  bare = inv.bare;
+  unlinked = inv.unlinked;
 }
 
 -- the list of steps made, which no part reads
@@ -292,4 +322,9 @@ frame_made c j m inv = record {
   scarce = inv.scarce;
   refusals = inv.refusals;
   swept = inv.swept;
+  helps = inv.helps;
+  copies = inv.copies;
+  rooms = inv.rooms;
+  bare = inv.bare;
+  unlinked = inv.unlinked;
 }

@@ -43,6 +43,10 @@ mov_del e = cc
 pub val_carries : (m : Mark) (t : ℕ) (k : Mark) → m ≡ Val → IsCarrying m t k
 val_carries m t k val = subst (λ m. IsCarrying m t k) (sym val) tt
 
+-- a frozen row that has no copy
+pub bare_carries : (m : Mark) (t : ℕ) (k : Mark) → m ≡ Mov → t ≡ 0 → IsCarrying m t k
+bare_carries m t k frozen bare = subst (λ m. IsCarrying m t k) (sym frozen) (inl bare)
+
 pub dead_carries : (m : Mark) (t : ℕ) (k : Mark) → m ≡ Del → IsCarrying m t k → ⊥
 dead_carries m t k dead is = subst (λ m. IsCarrying m t k) dead is
 

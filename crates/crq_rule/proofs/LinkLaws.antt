@@ -9,8 +9,8 @@ use Rattle.crq_base.specs.declared.entry.Entry.TheVariants.{Begin, Put}
 use Rattle.crq_base.specs.declared.words.Link.{Link}
 use Rattle.crq_base.specs.declared.words.Control.{Control}
 use Rattle.crq_base.specs.declared.words.Mark.{Mark}
-use Rattle.crq_base.specs.declared.words.Mark.TheVariants.{Val, Mov, Del}
-use Rattle.crq_base.specs.Words.{IsLink}
+use Rattle.crq_base.specs.declared.words.Mark.TheVariants.{Val, Inv as Invalid, Mov, Del}
+use Rattle.crq_base.specs.Words.{IsLink, flag_number}
 use Rattle.crq_base.specs.Histories.{puts}
 use Rattle.crq_base.proofs.WordLaws.{link_one}
 use Rattle.crq_base.specs.Lists.{In, IsOnce}
@@ -23,27 +23,32 @@ use Rattle.crq_rule.specs.declared.view.Wrote.{Wrote}
 use Rattle.crq_rule.specs.Lists.{put}
 use Rattle.crq_rule.specs.Places.{IsRow, IsHomeRow, IsHead}
 use Rattle.crq_rule.specs.Core.{Core, IsOutside, HasName, caller_of, Holding, in_hand, listed, cut_by, retired}
-use Rattle.crq_rule.specs.Parts.{Fits, Spelled, IsEvent, Holders, Stamps, stamp_of, Chains, Leads, Names, IsPath, Reaches, Ground, ground_of, footings, Covers, IsGuarded, Cover, HasTag, IsOn, newest}
-use Rattle.crq_rule.specs.ListParts.{ranks, DueFits, Dues, Heads, Sorted, MarkFits, Marks, IsFinal, StandFits, Standing, Copying, Lanes, row_word, Writing, IsNamed, Naming}
+use Rattle.crq_rule.specs.Parts.{Spelled, IsEvent, Holders, Stamps, stamp_of, Chains, Leads, Names, IsPath, Reaches, Ground, ground_of, footings, Covers, IsGuarded, Cover, HasTag, IsOn, newest}
+use Rattle.crq_rule.specs.ListParts.{ranks, DueFits, Dues, IsShut, IsPrepared, IsOldHead, IsNewHead, Heads, Sizes, Sorted, MarkFits, Marks, IsFinal, StandFits, Standing, Copying, Lanes, row_word, Writing, IsNamed, Naming}
 use Rattle.crq_rule.specs.HistoryParts.{IsCarrying, IsLive, Carriers, StandsFrom, Walkers}
-use Rattle.crq_rule.specs.Ranks.{rank, Shape, list_in, head_of, Cell, at_head, at_row, link_at, heads_set, links_set, Rises, after_cell}
-use Rattle.crq_rule.specs.Invariant.{present_of, takes_of, Inv}
-use Rattle.crq_rule.specs.ListKinds.{is_cell, unhanded, forgotten, owed_event, linked, StandsOn, ComesAfter, MayLink}
+use Rattle.crq_rule.specs.Ranks.{rank, Shape, list_in, head_of, IsTold, Cell, at_head, at_row, link_at, heads_set, links_set, Rises, after_cell}
+use Rattle.crq_rule.specs.Invariant.{present_of, takes_of, rows_of_core, Inv}
+use Rattle.crq_rule.specs.Steady.{Steady}
+use Rattle.crq_rule.specs.Copies.{Bare}
+use Rattle.crq_rule.proofs.CopyRows.{Relinked, copies_relinked, copies_in, bare_put}
+use Rattle.crq_rule.specs.ListKinds.{is_cell, unhanded, forgotten, owed_event, linked, StandsOn, IsWritten, ComesAfter, ComesBefore, MayLink}
 use Rattle.crq_rule.proofs.Puts.{put_here, put_else, put_all}
 use Rattle.crq_rule.proofs.PartLaws.{home_is_row, one_home, sort, of_whom, apart}
 use Rattle.crq_rule.specs.declared.debts.CutDebt.{CutDebt}
 use Rattle.crq_rule.specs.declared.debts.SettleDebt.{SettleDebt}
 use Rattle.std.proofs.lemmas.Option.{same_Some}
-use Rattle.crq_rule.proofs.HeadLaws.{cell_final, cell_frozen, cell_listed, val_carries, heads_rows}
+use Rattle.crq_rule.proofs.HeadLaws.{cell_final, cell_frozen, cell_dead, cell_listed, val_carries, heads_rows}
 use Rattle.crq_rule.proofs.SizeLaws.{fitting_list, sizes_rows}
-use Rattle.crq_rule.proofs.SteadyLaws.{found_now, steady_rows}
+use Rattle.crq_rule.specs.Helping.{Helps}
+use Rattle.crq_rule.proofs.HelpLaws.{helps_heads}
+use Rattle.crq_rule.proofs.SteadyLaws.{found_generation, steady_rows}
 use Rattle.crq_rule.proofs.CoverLaws.{stand_row, row_footing}
 use Rattle.crq_rule.proofs.HistoryLaws.{fresh_put, told_put, settling_put, settled_put, pending_put, put_pending, not_out}
 use Rattle.crq_rule.proofs.BoundLaws.{numbers_grown, bounds_grown, bounds_owed}
 use Rattle.crq_rule.proofs.WalkerLaws.{new_put, walkers_grown, walkers_owing, walkers_links}
 use Rattle.crq_rule.proofs.AheadLaws.{ahead_grown}
 use Rattle.crq_rule.proofs.ScarceLaws.{base_lasts, base_grown, lasts_held, scarce_drop, refusals_grown}
-use Rattle.crq_rule.proofs.SweepLaws.{swept_grown, swept_linked}
+use Rattle.crq_rule.proofs.SweepLaws.{was_before, swept_grown, swept_linked}
 use Rattle.crq_rule.proofs.ChainLaws.{IsOf, IsBelow, cell_leads, cell_rises, in_cell, cell_in, cell_next, leads_else, links_else, heads_else, links_same, heads_same, links_all, heads_all}
 
 -- Lists
@@ -139,12 +144,6 @@ reaches_after (at_row p) head link twin q r a b xs new is same some of out t = p
 
 -- What is known before the step
 
-val_del : Val ≡ Del → ⊥
-val_del e = cc
-
-val_mov : Val ≡ Mov → ⊥
-val_mov e = cc
-
 on_is : (g : Guard) → IsOn g → (x : ℕ) × (g ≡ On x)
 on_is Off on = absurd on
 on_is (Entering y) on = absurd on
@@ -162,29 +161,30 @@ rank_some : (e : Event) (r : ℕ) → 0 < r → 0 < rank e r
 unfolding rank
 rank_some e r some = omega arith
 
--- the row r is in hand, holds e, and leads to where the cell leads, which is of the list q
-record Linking (c : Core) (j : ℕ) (cell : Cell) (l : Link) (r q : ℕ) (e : Event) : Type 0 where
-  inside : j < c.start.layout.workers
-  row : IsRow c.start.layout r
-  hand : In r (c.hand j)
-  held : c.holding r ≡ in_hand j
-  spelled : IsLink l
-  link_is : c.words.link r ≡ record l { mark = Val }
-  twin_is : c.words.twin r ≡ 0
-  event_is : c.words.event r ≡ e
-  cell_is : link_at c.words.head c.words.link cell ≡ l
-  mark_is : is_cell l.mark ≡ true
-  now : l.generation ≡ c.words.control.generation
-  is_head : IsHead q
-  of : IsOf cell q (c.chain q)
-  below : IsBelow (ranks c.words.event) cell r
-  next : (l.row ≡ 0) ⊎ (ranks c.words.event r < ranks c.words.event l.row)
+-- the row r is in hand, holds e, has the mark m, and leads to where the cell leads, which is of the list q
+pub record Linking (c : Core) (j : ℕ) (cell : Cell) (l : Link) (r q : ℕ) (e : Event) (m : Mark) : Type 0 where
+  pub inside : j < c.start.layout.workers
+  pub row : IsRow c.start.layout r
+  pub hand : In r (c.hand j)
+  pub held : c.holding r ≡ in_hand j
+  pub spelled : IsLink l
+  pub link_is : c.words.link r ≡ record l { mark = m }
+  pub own_is : is_cell m ≡ true
+  pub twin_is : c.words.twin r ≡ 0
+  pub event_is : c.words.event r ≡ e
+  pub cell_is : link_at c.words.head c.words.link cell ≡ l
+  pub mark_is : is_cell l.mark ≡ true
+  pub told : IsTold c.words.control l.generation
+  pub is_head : IsHead q
+  pub of : IsOf cell q (c.chain q)
+  pub below : IsBelow (ranks c.words.event) cell r
+  pub next : (l.row ≡ 0) ⊎ (ranks c.words.event r < ranks c.words.event l.row)
 
--- the list of a cell whose link is of the table of a control word that was found
-cell_of : (c : Core) (j : ℕ) (x : Control) (cell : Cell) (r : ℕ) (e : Event) → j < c.start.layout.workers → IsOn (c.guard j) → Fits c.start c.words.control c.shape x → is_cell (link_at c.words.head c.words.link cell).mark ≡ true
-    → (link_at c.words.head c.words.link cell).generation ≡ x.generation → c.words.event r ≡ e → ComesAfter x (c.rows j) cell r e → Inv c → let q = head_of x e in IsHead q × IsOf cell q (c.chain q) × IsBelow (ranks c.words.event) cell r
-cell_of c j x (at_head h) r e b on fits mark same event after inv = (subst IsHead (sym after.1) after.0, sym after.1, tt)
-cell_of c j x (at_row p) r e b on fits mark same event after inv =
+-- the list of a cell whose link is of the table of the generation g, where `list` says of which list an event is there
+cell_of : (c : Core) (j g : ℕ) (list : Event → ℕ) (cell : Cell) (r : ℕ) (e : Event) → j < c.start.layout.workers → IsOn (c.guard j) → ((f : Event) → list_in c.shape g f ≡ list f) → is_cell (link_at c.words.head c.words.link cell).mark ≡ true
+    → (link_at c.words.head c.words.link cell).generation ≡ g → c.words.event r ≡ e → ComesAfter list (c.rows j) cell r e → Inv c → let q = list e in IsHead q × IsOf cell q (c.chain q) × IsBelow (ranks c.words.event) cell r
+cell_of c j x list (at_head h) r e b on fits mark same event after inv = (subst IsHead (sym after.1) after.0, sym after.1, tt)
+cell_of c j x list (at_row p) r e b on fits mark same event after inv =
     let f = after.0 in let s = after.1 in let g = on_is (c.guard j) on in
     let covers : Covers (ground_of c) j g.0 p = record {
       inside = b;
@@ -197,42 +197,52 @@ cell_of c j x (at_row p) r e b on fits mark same event after inv =
     let lists = cell_listed (c.holding p) (c.words.link p).mark mark (λ k h. inv.cover.free j g.0 p k covers h) (inv.marks.mark p row) in
     let found = inv.holders.of_chain lists.0 p row lists.1 in
     let holds : c.words.event p ≡ f = subst (λ z. c.words.event z ≡ f) s.2 ((inv.standing.each j s.0 b s.1).holds ∙ s.3) in
-    let generation : (c.words.head lists.0).generation ≡ x.generation = sym (inv.sorted.generation lists.0 p found.0 found.1) ∙ same in
-    let here : lists.0 ≡ head_of x e = sym (inv.sorted.belongs lists.0 p found.0 found.1) ∙ ((λ i. list_in c.shape (generation i) (holds i)) ∙ (fitting_list c.start c.words.control c.shape x fits f ∙ after.3)) in (
+    let generation : (c.words.head lists.0).generation ≡ x = sym (inv.sorted.generation lists.0 p found.0 found.1) ∙ same in
+    let here : lists.0 ≡ list e = sym (inv.sorted.belongs lists.0 p found.0 found.1) ∙ ((λ i. list_in c.shape (generation i) (holds i)) ∙ (fits f ∙ after.3)) in (
       subst IsHead here found.0,
       subst (λ z. In p (c.chain z)) here found.1,
       subst (λ (z : Event × Event). rank z.0 p < rank z.1 r) (λ i. (sym holds i, sym event i)) after.2,
     )
 
-known : (c : Core) (j : ℕ) (x : Control) (cell : Cell) (l : Link) (r : ℕ) (e : Event) → j < c.start.layout.workers → MayLink c.start.layout.workers x cell l r e (caller_of c j) → link_at c.words.head c.words.link cell ≡ l → Inv c
-    → Linking c j cell l r (list_in c.shape l.generation e) e
-known c j x cell l r e b may is inv =
-    let held = inv.holders.held j r b may.in_hand_is in
+-- what is known where a caller, whose guard is on, has written the words of a row in hand, and found the cell
+pub known_by : (c : Core) (j : ℕ) (list : Event → ℕ) (cell : Cell) (l : Link) (r : ℕ) (e : Event) (m : Mark) → j < c.start.layout.workers → IsOn (c.guard j) → In r (c.hand j) → IsEvent e → IsLink l → is_cell l.mark ≡ true
+    → IsTold c.words.control l.generation → ((f : Event) → list_in c.shape l.generation f ≡ list f) → is_cell m ≡ true → IsWritten m (c.written j) r e l → ComesAfter list (c.rows j) cell r e → ComesBefore (c.rows j) l.row r e
+    → link_at c.words.head c.words.link cell ≡ l → Inv c → Linking c j cell l r (list_in c.shape l.generation e) e m
+known_by c j list cell l r e m b on hand fits spelled open_is told lists own w after before is inv =
+    let held = inv.holders.held j r b hand in
     let row = home_is_row c.start.layout j r b held.0 in
-    let w = may.written in let word = inv.writing.stands j in
-    let event = event_one (c.words.event r) e (inv.spelled.events r row) may.event (word _ b w.time_is) (word _ b w.source_is) (word _ b w.sequence_is) (word _ b w.load_is) in
-    let fits = inv.finds.controls j x b may.control in
-    let list : head_of x e ≡ list_in c.shape l.generation e = sym (fitting_list c.start c.words.control c.shape x fits e) ∙ ap (λ g. list_in c.shape g e) (sym may.expected.2) in
-    let at = subst (λ q. IsHead q × IsOf cell q (c.chain q) × IsBelow (ranks c.words.event) cell r) list
-    (cell_of c j x cell r e b may.on fits (ap (λ (y : Link). is_cell y.mark) is ∙ may.expected.1) (ap (λ (y : Link). y.generation) is ∙ may.expected.2) event may.after inv) in record {
+    let word = inv.writing.stands j in
+    let event = event_one (c.words.event r) e (inv.spelled.events r row) fits (word _ b w.time_is) (word _ b w.source_is) (word _ b w.sequence_is) (word _ b w.load_is) in
+    let at = subst (λ q. IsHead q × IsOf cell q (c.chain q) × IsBelow (ranks c.words.event) cell r) (sym (lists e))
+    (cell_of c j l.generation list cell r e b on lists (ap (λ (y : Link). is_cell y.mark) is ∙ open_is) (ap (λ (y : Link). y.generation) is) event after inv) in record {
       inside = b;
       row = row;
-      hand = may.in_hand_is;
+      hand = hand;
       held = held.1;
-      spelled = may.expected.0;
-      link_is = link_one (c.words.link r) (record l { mark = Val }) (inv.spelled.links r row) (record { generation = may.expected.0.generation; row = may.expected.0.row }) (word _ b w.link_is);
+      spelled = spelled;
+      link_is = link_one (c.words.link r) (record l { mark = m }) (inv.spelled.links r row) (record { generation = spelled.generation; row = spelled.row }) (word _ b w.link_is);
+      own_is = own;
       twin_is = word _ b w.twin_is;
       event_is = event;
       cell_is = is;
-      mark_is = may.expected.1;
-      now = may.expected.2 ∙ ap (λ (z : Control). z.generation) (found_now c inv j x b may.control);
+      mark_is = open_is;
+      told = told;
       is_head = at.0;
       of = at.1;
       below = at.2;
       next = ⊎_elim inl (λ (h : (f : Event) × StandsOn (c.rows j) l.row f × (rank e r < rank f l.row)).
           let s = h.1 in let holds : c.words.event l.row ≡ h.0 = subst (λ z. c.words.event z ≡ h.0) s.2 ((inv.standing.each j s.0 b s.1).holds ∙ s.3) in
-          inr (subst (λ (z : Event × Event). rank z.0 r < rank z.1 l.row) (λ i. (sym event i, sym holds i)) h.2)) may.before;
+          inr (subst (λ (z : Event × Event). rank z.0 r < rank z.1 l.row) (λ i. (sym event i, sym holds i)) h.2)) before;
     }
+
+-- a link that was expected is of the open table
+open_now : (c : Core) (j : ℕ) (x : Control) (cell : Cell) (l : Link) (r : ℕ) (e : Event) → j < c.start.layout.workers → MayLink c.start.layout.workers x cell l r e (caller_of c j) → Inv c → l.generation ≡ c.words.control.generation
+open_now c j x cell l r e b may inv = may.expected.2 ∙ found_generation c inv j x b may.control
+
+known : (c : Core) (j : ℕ) (x : Control) (cell : Cell) (l : Link) (r : ℕ) (e : Event) → j < c.start.layout.workers → MayLink c.start.layout.workers x cell l r e (caller_of c j) → link_at c.words.head c.words.link cell ≡ l → Inv c
+    → Linking c j cell l r (list_in c.shape l.generation e) e Val
+known c j x cell l r e b may is inv = known_by c j (head_of x) cell l r e Val b may.on may.in_hand_is may.event may.expected.0 may.expected.1 (inl (open_now c j x cell l r e b may inv))
+    (λ f. ap (λ g. list_in c.shape g f) may.expected.2 ∙ fitting_list c.start c.words.control c.shape x (inv.finds.controls j x b may.control) f) refl may.written may.after may.before is inv
 
 -- the debt of the event is of the open table
 due_fits : (c : Core) (g : ℕ) (e : Event) → g ≡ c.words.control.generation → IsEvent e → Inv c → DueFits c.words.control c.shape (owed_event g (c.shape g) e)
@@ -243,37 +253,38 @@ due_fits c g e now event inv = record {
   event = event;
 }
 
+-- a table that control tells of is no later one than the newest
+pub told_low : (x : Control) (g : ℕ) → IsTold x g → g ≤ newest x
+told_low x g told = ⊎_elim (λ (now : g ≡ x.generation). omega arith) (λ (h : (x.moving ≡ true) × (g ≡ x.generation + 1)). let top : newest x ≡ x.generation + 1 = ap (λ b. x.generation + flag_number b) h.0 in let is = h.1 in omega arith) told
+
 -- The parts after the step
 
-module _ (c : Core) (j : ℕ) (cell : Cell) (l : Link) (r : ℕ) (e : Event) where
+module _ (c : Core) (j : ℕ) (cell : Cell) (l : Link) (r : ℕ) (e : Event) (m : Mark) where
   abbrev q : ℕ
   q = list_in c.shape l.generation e
 
   abbrev new : Link
   new = record l { row = r }
 
-  abbrev head' : ℕ → Link
+  abbrev pub head' : ℕ → Link
   head' = heads_set c.words.head cell new
 
-  abbrev link' : ℕ → Link
+  abbrev pub link' : ℕ → Link
   link' = links_set c.words.link cell new
 
-  abbrev ground' : Ground
-  ground' = record (ground_of c) { link = link' }
-
-  abbrev less : List ℕ
+  abbrev pub less : List ℕ
   less = unhanded r (c.hand j)
 
-  abbrev hand' : ℕ → List ℕ
+  abbrev pub hand' : ℕ → List ℕ
   hand' = put c.hand j less
 
-  abbrev more : List ℕ
+  abbrev pub more : List ℕ
   more = after_cell cell r (c.chain q)
 
-  abbrev chain' : ℕ → List ℕ
+  abbrev pub chain' : ℕ → List ℕ
   chain' = put c.chain q more
 
-  abbrev holding' : ℕ → Holding
+  abbrev pub holding' : ℕ → Holding
   holding' = put c.holding r (listed q)
 
   -- the event is owed
@@ -283,12 +294,12 @@ module _ (c : Core) (j : ℕ) (cell : Cell) (l : Link) (r : ℕ) (e : Event) whe
   abbrev settling' : ℕ → Option SettleDebt
   settling' = put c.settling j (Some due)
 
-  module _ (f : Linking c j cell l r q e) (inv : Inv c) where
+  module _ (f : Linking c j cell l r q e m) (inv : Inv c) where
     -- the step changes the row of a link alone
-    same_mark : (s : ℕ) → (link' s).mark ≡ (c.words.link s).mark
+    pub same_mark : (s : ℕ) → (link' s).mark ≡ (c.words.link s).mark
     same_mark s = links_same (λ (y : Link). y.mark) cell c.words.head c.words.link new s (ap (λ (y : Link). y.mark) (sym f.cell_is))
 
-    same_generation : (s : ℕ) → (link' s).generation ≡ (c.words.link s).generation
+    pub same_generation : (s : ℕ) → (link' s).generation ≡ (c.words.link s).generation
     same_generation s = links_same (λ (y : Link). y.generation) cell c.words.head c.words.link new s (ap (λ (y : Link). y.generation) (sym f.cell_is))
 
     same_row : (c.words.link r).row ≡ (link_at c.words.head c.words.link cell).row
@@ -305,7 +316,7 @@ module _ (c : Core) (j : ℕ) (cell : Cell) (l : Link) (r : ℕ) (e : Event) whe
     link_else : (s : ℕ) → (In s (c.chain q) → ⊥) → link' s ≡ c.words.link s
     link_else s out = links_else cell c.words.link new q s (c.chain q) f.of out
 
-    link_here : link' r ≡ c.words.link r
+    pub link_here : link' r ≡ c.words.link r
     link_here = link_else r (unlisted q f.is_head)
 
     other_list : (h s : ℕ) → IsHead h → h ≢ q → In s (c.chain h) → In s (c.chain q) → ⊥
@@ -320,14 +331,14 @@ module _ (c : Core) (j : ℕ) (cell : Cell) (l : Link) (r : ℕ) (e : Event) whe
     new_is : IsLink new
     new_is = let low = f.row.1 in let fit = c.start.layout.all_fit in record { generation = f.spelled.generation; row = omega arith }
 
-    -- the row r is of the open table, and the others in no hand weren't in one
-    new_now : (link' r).generation ≡ c.words.control.generation
-    new_now = same_generation r ∙ (ap (λ (y : Link). y.generation) f.link_is ∙ f.now)
+    -- control tells of the table of the row r, and the others in no hand weren't in one
+    new_told : IsTold c.words.control (link' r).generation
+    new_told = subst (IsTold c.words.control) (sym (same_generation r ∙ ap (λ (y : Link). y.generation) f.link_is)) f.told
 
-    was_outside : (s : ℕ) → IsOutside holding' s → (s ≡ r) ⊎ IsOutside c.holding s
+    pub was_outside : (s : ℕ) → IsOutside holding' s → (s ≡ r) ⊎ IsOutside c.holding s
     was_outside s out = dite (ℕ_discrete s r) inl (λ ne. inr (λ i at. out i (put_else c.holding r (listed q) s ne ∙ at)))
 
-    spelled_after : Spelled c.start.layout c.words.control c.words.current c.words.pin head' link' c.words.twin c.words.event
+    pub spelled_after : Spelled c.start.layout c.words.control c.words.current c.words.pin head' link' c.words.twin c.words.event
     spelled_after = let old = inv.spelled in record {
       is_control = old.is_control;
       is_current = old.is_current;
@@ -338,7 +349,7 @@ module _ (c : Core) (j : ℕ) (cell : Cell) (l : Link) (r : ℕ) (e : Event) whe
       events = old.events;
     }
 
-    holders_after : Holders c.start.layout hand' c.cut chain' holding'
+    pub holders_after : Holders c.start.layout hand' c.cut chain' holding'
     holders_after = let n = c.start.layout.workers in let old = inv.holders in record {
       once = put_all c.hand j less (λ k xs. k < n → IsOnce xs) (λ b. unhanded_once r (c.hand j) (old.once j b)) (λ k _. old.once k);
       held = λ k s. put_all c.hand j less (λ k xs. k < n → In s xs → IsHomeRow c.start.layout k s × (holding' s ≡ in_hand k))
@@ -358,7 +369,7 @@ module _ (c : Core) (j : ℕ) (cell : Cell) (l : Link) (r : ℕ) (e : Event) whe
           (λ s _. old.of_cut k s) s;
     }
 
-    stamps_after : Stamps c.start.layout c.words.epoch c.words.stamp c.ripening holding'
+    pub stamps_after : Stamps c.start.layout c.words.epoch c.words.stamp c.ripening holding'
     stamps_after = let old = inv.stamps in record {
       shown = put_all c.holding r (listed q) (λ s h. IsRow c.start.layout s → c.words.stamp s ≡ stamp_of h) (λ b. old.shown r b ∙ ap stamp_of f.held) (λ s _. old.shown s);
       tag = λ s t. put_all c.holding r (listed q) (λ s h. IsRow c.start.layout s → h ≡ retired t → t ≤ c.words.epoch) (λ _ z. absurd (let z : 1 ≡ 3 = ap sort z in omega arith)) (λ s _. old.tag s t) s;
@@ -366,7 +377,7 @@ module _ (c : Core) (j : ℕ) (cell : Cell) (l : Link) (r : ℕ) (e : Event) whe
     }
 
     -- the mark of the row r, and of a head that is frozen
-    own_mark : (link' r).mark ≡ Val
+    pub own_mark : (link' r).mark ≡ m
     own_mark = same_mark r ∙ ap (λ (y : Link). y.mark) f.link_is
 
     frozen_stays : (cell : Cell) → link_at c.words.head c.words.link cell ≡ l → (h : ℕ) → (c.words.head h).mark ≡ Mov → heads_set c.words.head cell new h ≡ c.words.head h
@@ -376,17 +387,17 @@ module _ (c : Core) (j : ℕ) (cell : Cell) (l : Link) (r : ℕ) (e : Event) whe
     front_stays : (h s : ℕ) → ((c.words.head h).mark ≡ Mov) × ((c.words.head h).row ≡ s) → ((head' h).mark ≡ Mov) × ((head' h).row ≡ s)
     front_stays h s front = subst (λ (y : Link). (y.mark ≡ Mov) × (y.row ≡ s)) (sym (frozen_stays cell f.cell_is h front.0)) front
 
-    -- a row in no hand is the row r, which is present, or was in none
-    was_else : (s : ℕ) → IsOutside holding' s → ((s ≡ r) × ((link' s).mark ≡ Val)) ⊎ IsOutside c.holding s
+    -- a row in no hand is the row r, or was in none
+    was_else : (s : ℕ) → IsOutside holding' s → ((s ≡ r) × ((link' s).mark ≡ m)) ⊎ IsOutside c.holding s
     was_else s out = ⊎_elim (λ (z : s ≡ r). inl (z, ap (λ y. (link' y).mark) z ∙ own_mark)) inr (was_outside s out)
 
-    marks_after : Marks c.start.layout c.words.control head' link' c.words.twin holding'
+    pub marks_after : Marks c.start.layout c.words.control head' link' c.words.twin holding'
     marks_after = let old = inv.marks in record {
       mark = λ s. put_all c.holding r (listed q) (λ s h. IsRow c.start.layout s → MarkFits h (link' s).mark) (λ _. tt) (λ s _ b. subst (MarkFits (c.holding s)) (sym (same_mark s)) (old.mark s b)) s;
       first = λ h s b at frozen. put_all c.holding r (listed q) (λ s x. IsRow c.start.layout s → x ≡ listed h → (link' s).mark ≡ Mov → ((head' h).mark ≡ Mov) × ((head' h).row ≡ s))
-          (λ _ _ m. absurd (val_mov (sym own_mark ∙ m))) (λ s _ b at m. front_stays h s (old.first h s b at (sym (same_mark s) ∙ m))) s b at frozen;
-      bare = λ s b out live. ⊎_elim (λ z. ap c.words.twin z.0 ∙ f.twin_is) (λ was. old.bare s b was (λ m. live (same_mark s ∙ m))) (was_else s out);
-      aged = λ s b out m. ⊎_elim (λ z. absurd (val_mov (sym z.1 ∙ m))) (λ was. subst (λ g. g < newest c.words.control) (sym (same_generation s)) (old.aged s b was (sym (same_mark s) ∙ m))) (was_else s out);
+          (λ _ _ is. absurd (cell_frozen m f.own_is (sym own_mark ∙ is))) (λ s _ b at is. front_stays h s (old.first h s b at (sym (same_mark s) ∙ is))) s b at frozen;
+      bare = λ s b out live. ⊎_elim (λ z. ap c.words.twin z.0 ∙ f.twin_is) (λ was. old.bare s b was (λ is. live (same_mark s ∙ is))) (was_else s out);
+      aged = λ s b out is. ⊎_elim (λ z. absurd (cell_frozen m f.own_is (sym z.1 ∙ is))) (λ was. subst (λ g. g < newest c.words.control) (sym (same_generation s)) (old.aged s b was (sym (same_mark s) ∙ is))) (was_else s out);
     }
 
     -- the twin of the row s is 0 or listed
@@ -400,7 +411,7 @@ module _ (c : Core) (j : ℕ) (cell : Cell) (l : Link) (r : ℕ) (e : Event) whe
       put_all c.chain q more (λ p xs. In (c.words.twin s) (c.chain p) → In (c.words.twin s) xs) (λ i. cell_in cell q r (c.words.twin s) (c.chain q) f.of (inr i)) (λ _ _ i. i) h.0 h.2,
     )) was
 
-    chains_after : Chains head' link' c.words.twin chain'
+    pub chains_after : Chains head' link' c.words.twin chain'
     chains_after = record {
       leads = put_all c.chain q more (λ h xs. IsHead h → Leads link' (head' h).row xs)
           (λ _. cell_leads cell c.words.head c.words.link (ranks c.words.event) q r new (c.chain q) f.of leads (inv.sorted.rises q f.is_head) refl same_row (unlisted q f.is_head))
@@ -410,14 +421,17 @@ module _ (c : Core) (j : ℕ) (cell : Cell) (l : Link) (r : ℕ) (e : Event) whe
           (λ b i. ⊎_elim (λ (z : s ≡ r). inl (ap c.words.twin z ∙ f.twin_is)) (λ i. twin_in s (inv.chains.twins q s b i)) (in_cell cell r s (c.chain q) i)) (λ h _ b i. twin_in s (inv.chains.twins h s b i)) h;
     }
 
-    same_head : (h : ℕ) → (head' h).generation ≡ (c.words.head h).generation
+    pub same_head : (h : ℕ) → (head' h).generation ≡ (c.words.head h).generation
     same_head h = heads_same (λ (y : Link). y.generation) cell c.words.head c.words.link new h (ap (λ (y : Link). y.generation) (sym f.cell_is))
 
-    heads_after : Heads c.words.control c.shape head'
+    pub heads_after : Heads c.words.control c.shape head'
     heads_after = heads_rows c.words.control c.shape c.words.head head' same_head (λ h. heads_same (λ (y : Link). y.mark) cell c.words.head c.words.link new h (ap (λ (y : Link). y.mark) (sym f.cell_is))) (frozen_stays cell f.cell_is) inv.heads
 
+    pub helps_after : Helps c.start.layout.workers c.words.control head' c.found c.help
+    helps_after = helps_heads _ _ _ _ _ _ inv.sizes.now inv.finds _ _ head' (λ h. (same_head h, heads_same (λ (y : Link). y.mark) cell c.words.head c.words.link new h (ap (λ (y : Link). y.mark) (sym f.cell_is)))) (λ h frozen empty. ap (λ (y : Link). y.row) (frozen_stays cell f.cell_is h frozen) ∙ empty) inv.helps
+
     -- the link found is of the list's generation
-    generation_is : (cell : Cell) → link_at c.words.head c.words.link cell ≡ l → IsOf cell q (c.chain q) → l.generation ≡ (c.words.head q).generation
+    pub generation_is : (cell : Cell) → link_at c.words.head c.words.link cell ≡ l → IsOf cell q (c.chain q) → l.generation ≡ (c.words.head q).generation
     generation_is (at_head h) is of = ap (λ (y : Link). y.generation) (sym is ∙ ap c.words.head of)
     generation_is (at_row p) is of = ap (λ (y : Link). y.generation) (sym is) ∙ inv.sorted.generation q p f.is_head of
 
@@ -425,7 +439,7 @@ module _ (c : Core) (j : ℕ) (cell : Cell) (l : Link) (r : ℕ) (e : Event) whe
     list_here : (s : ℕ) → In s (c.chain q) → list_in c.shape l.generation (c.words.event s) ≡ q
     list_here s i = ap (λ g. list_in c.shape g (c.words.event s)) (generation_is cell f.cell_is f.of) ∙ inv.sorted.belongs q s f.is_head i
 
-    sorted_after : Sorted c.shape head' link' c.words.event chain'
+    pub sorted_after : Sorted c.shape head' link' c.words.event chain'
     sorted_after = let old = inv.sorted in record {
       rises = put_all c.chain q more (λ h xs. IsHead h → Rises (ranks c.words.event) 0 xs)
           (λ _. cell_rises cell c.words.head c.words.link (ranks c.words.event) q r (c.chain q) (λ s i. (inv.holders.in_chain q s f.is_head i).0.0) f.of leads (old.rises q f.is_head) (rank_some (c.words.event r) r f.row.0) f.below
@@ -439,47 +453,34 @@ module _ (c : Core) (j : ℕ) (cell : Cell) (l : Link) (r : ℕ) (e : Event) whe
           (λ h _. old.generation h s) h b i ∙ sym (same_head h));
     }
 
-    -- what a guard covers now is the row r, or was covered before
-    covers_before : (k g s : ℕ) → Covers ground' k g s → (s ≡ r) ⊎ Covers (ground_of c) k g s
-    covers_before k g s v = ⊎_elim inl (λ t. inr (record { inside = v.inside; on = v.on; at = v.at; stands = v.stands; reaches = t }))
-        (reaches_before cell c.words.head c.words.link c.words.twin r v.at s new refl same_row f.twin_is
-        (λ t. inv.cover.free k g r j (record { inside = v.inside; on = v.on; at = v.at; stands = v.stands; reaches = t }) f.held) v.reaches)
+    -- what the new links lead to from where a caller stood is the row r, or was covered before
+    pub covered_from : (k g a s : ℕ) → k < c.start.layout.workers → c.guard k ≡ On g → In a ((ground_of c).footing k) → Reaches link' c.words.twin a s → (s ≡ r) ⊎ Covers (ground_of c) k g s
+    covered_from k g a s b on stands reaches = ⊎_elim inl (λ t. inr (record { inside = b; on = on; at = a; stands = stands; reaches = t }))
+        (reaches_before cell c.words.head c.words.link c.words.twin r a s new refl same_row f.twin_is (λ t. inv.cover.free k g r j (record { inside = b; on = on; at = a; stands = stands; reaches = t }) f.held) reaches)
 
-    other_covered : (k g s : ℕ) → s ≢ r → Covers ground' k g s → Covers (ground_of c) k g s
-    other_covered k g s ne v = ⊎_elim (λ z. absurd (ne z)) (λ v. v) (covers_before k g s v)
-
-    cover_after : Cover ground' c.cut holding'
-    cover_after = let n = c.start.layout.workers in let old = inv.cover in record {
-      free = λ k g s i v is. put_all c.holding r (listed q) (λ s h. Covers ground' k g s → h ≡ in_hand i → ⊥) (λ _ z. let z : ◌≡◌ {A = ℕ} 1 0 = ap sort z in omega arith)
-          (λ s ne v. old.free k g s i (other_covered k g s ne v)) s v is;
-      tags = λ k g s t v has. put_all c.holding r (listed q) (λ s h. Covers ground' k g s → HasTag n c.cut c.holding s t ⊎ (h ≡ retired t) → g ≤ t)
-          (λ _ has. absurd (⊎_elim untagged (λ z. let z : ◌≡◌ {A = ℕ} 1 3 = ap sort z in omega arith) has))
-          (λ s ne v has. old.tags k g s t (other_covered k g s ne v) (⊎_elim (λ h. h) inl has)) s v (⊎_elim inr (λ h. inl (inr h)) has);
-      resting = old.resting;
-    }
-      where
-        untagged : {t : ℕ} → HasTag c.start.layout.workers c.cut c.holding r t → ⊥
-        untagged has = ⊎_elim (λ z. let z : ◌≡◌ {A = ℕ} 0 3 = ap sort (sym f.held ∙ z) in omega arith)
-            (λ h. let z : ◌≡◌ {A = ℕ} 0 2 = ap sort (sym f.held ∙ (ap c.holding (sym h.4) ∙ (inv.holders.is_cut h.0 h.1 h.2 h.3).1)) in omega arith) has
+    -- so where callers stand as before
+    pub covers_same : (k g s : ℕ) → Covers (record (ground_of c) { link = link' }) k g s → (s ≡ r) ⊎ Covers (ground_of c) k g s
+    covers_same k g s v = covered_from k g v.at s v.inside v.on v.stands v.reaches
 
     -- a link that is the last one stays
     link_last : (cell : Cell) → link_at c.words.head c.words.link cell ≡ l → (s : ℕ) → IsFinal (c.words.link s).mark → links_set c.words.link cell new s ≡ c.words.link s
     link_last (at_head h) is s final = refl
     link_last (at_row p) is s final = put_else c.words.link p new s (λ (z : s ≡ p). cell_final (c.words.link s).mark (ap (λ y. is_cell (c.words.link y).mark) z ∙ (ap (λ (y : Link). is_cell y.mark) is ∙ f.mark_is)) final)
 
-    stand_after : (s : Stand) → StandFits c.words.head c.words.link c.words.twin c.words.event s → StandFits head' link' c.words.twin c.words.event s
+    pub stand_after : (s : Stand) → StandFits c.words.head c.words.link c.words.twin c.words.event s → StandFits head' link' c.words.twin c.words.event s
     stand_after s was = record {
       holds = was.holds;
+      of = same_generation s.row ∙ was.of;
       last = λ x is. let t = was.last x is in (link_last cell f.cell_is s.row (subst (λ (y : Link). IsFinal y.mark) (sym t.0) t.1) ∙ t.0, t.1);
       copy = was.copy;
       valid = λ v e. was.valid v (sym (same_mark s.row) ∙ e);
       front = λ h is. ⊎_elim (λ final. inl (subst IsFinal (sym (same_mark s.row)) final)) (λ front. inr (front_stays h s.row front)) (was.front h is);
     }
 
-    standing_after : Standing c.start.layout.workers head' link' c.words.twin c.words.event c.rows
+    pub standing_after : Standing c.start.layout.workers head' link' c.words.twin c.words.event c.rows
     standing_after = record { each = λ k s b i. stand_after s (inv.standing.each k s b i) }
 
-    copying_after : Copying c.start.layout.workers head' link' c.words.twin c.words.event c.old
+    pub copying_after : Copying c.start.layout.workers head' link' c.words.twin c.words.event c.old
     copying_after = record { each = λ k s b is. let o = inv.copying.each k s b is in (stand_after s o.0, same_mark s.row ∙ o.1) }
 
     -- a link that changes is that of a listed row below the row r
@@ -502,34 +503,56 @@ module _ (c : Core) (j : ℕ) (cell : Cell) (l : Link) (r : ℕ) (e : Event) whe
           same_generation l.row ∙ (inv.sorted.generation q l.row f.is_head listed_next ∙ sym (generation_is cell f.cell_is f.of)),
         )
 
-    guarded_before : (s : ℕ) → IsGuarded ground' s → (s ≡ r) ⊎ IsGuarded (ground_of c) s
-    guarded_before s v = ⊎_elim inl (λ o. inr (v.0, v.1, o)) (covers_before v.0 v.1 s v.2)
+    -- Callers stand on these rows, which cover no more than the row r and what was covered
+    module _ (footing : ℕ → List ℕ) (covers_before : (k g s : ℕ) → Covers (record (ground_of c) { link = link'; footing = footing }) k g s → (s ≡ r) ⊎ Covers (ground_of c) k g s) where
+      abbrev ground' : Ground
+      ground' = record (ground_of c) { link = link'; footing = footing }
 
-    lane : (s : ℕ) → IsGuarded ground' s → Lane s (link' s)
-    lane s v = ⊎_elim
-        (λ same. subst (Lane s) (sym same) (⊎_elim
-        (λ (z : s ≡ r). subst (λ y. Lane y (c.words.link y)) (sym z) (subst (Lane r) (sym f.link_is) lane_of_new))
-        (λ v some. (inv.lanes.rises s v some, inv.lanes.stays s v some, same_generation (c.words.link s).row ∙ inv.lanes.generation s v some)) (guarded_before s v)))
-        (λ (h : (link' s ≡ new) × (ranks c.words.event s < ranks c.words.event r) × In s (c.chain q)). subst (Lane s) (sym h.0) (λ some. (
-          h.1,
-          ap (list_in c.shape l.generation) f.event_is ∙ sym (list_here s h.2),
-          same_generation r ∙ ap (λ (y : Link). y.generation) f.link_is,
-        )))
-        (link_either cell f.of f.below s)
+      other_covered : (k g s : ℕ) → s ≢ r → Covers ground' k g s → Covers (ground_of c) k g s
+      other_covered k g s ne v = ⊎_elim (λ z. absurd (ne z)) (λ v. v) (covers_before k g s v)
 
-    lanes_after : Lanes c.start.layout c.shape ground' c.words.event
-    lanes_after = record {
-      is_row = λ s v. ⊎_elim (λ z. subst (IsRow c.start.layout) (sym z) f.row) (inv.lanes.is_row s) (guarded_before s v);
-      rises = λ s v some. (lane s v some).0;
-      stays = λ s v some. (lane s v some).1;
-      generation = λ s v some. (lane s v some).2;
-      twins = λ s v frozen some. ⊎_elim
-          (λ (z : s ≡ r). absurd (val_mov (sym own_mark ∙ subst (λ y. (link' y).mark ≡ Mov) z frozen)))
-          (λ o. let h = inv.lanes.twins s o (sym (same_mark s) ∙ frozen) some in (same_generation (c.words.twin s) ∙ (h.0 ∙ ap (λ g. g + 1) (sym (same_generation s))), h.1))
-          (guarded_before s v);
-    }
+      pub cover_after : ((k : ℕ) → k < c.start.layout.workers → (IsOn (c.guard k) → ⊥) → footing k ≡ []) → Cover ground' c.cut holding'
+      cover_after rests = let n = c.start.layout.workers in let old = inv.cover in record {
+        free = λ k g s i v is. put_all c.holding r (listed q) (λ s h. Covers ground' k g s → h ≡ in_hand i → ⊥) (λ _ z. let z : ◌≡◌ {A = ℕ} 1 0 = ap sort z in omega arith)
+            (λ s ne v. old.free k g s i (other_covered k g s ne v)) s v is;
+        tags = λ k g s t v has. put_all c.holding r (listed q) (λ s h. Covers ground' k g s → HasTag n c.cut c.holding s t ⊎ (h ≡ retired t) → g ≤ t)
+            (λ _ has. absurd (⊎_elim untagged (λ z. let z : ◌≡◌ {A = ℕ} 1 3 = ap sort z in omega arith) has))
+            (λ s ne v has. old.tags k g s t (other_covered k g s ne v) (⊎_elim (λ h. h) inl has)) s v (⊎_elim inr (λ h. inl (inr h)) has);
+        resting = rests;
+      }
+        where
+          untagged : {t : ℕ} → HasTag c.start.layout.workers c.cut c.holding r t → ⊥
+          untagged has = ⊎_elim (λ z. let z : ◌≡◌ {A = ℕ} 0 3 = ap sort (sym f.held ∙ z) in omega arith)
+              (λ h. let z : ◌≡◌ {A = ℕ} 0 2 = ap sort (sym f.held ∙ (ap c.holding (sym h.4) ∙ (inv.holders.is_cut h.0 h.1 h.2 h.3).1)) in omega arith) has
 
-    writing_after : Writing c.start.layout.workers link' c.words.twin c.words.event hand' (put c.written j (forgotten r (c.written j)))
+      guarded_before : (s : ℕ) → IsGuarded ground' s → (s ≡ r) ⊎ IsGuarded (ground_of c) s
+      guarded_before s v = ⊎_elim inl (λ o. inr (v.0, v.1, o)) (covers_before v.0 v.1 s v.2)
+
+      lane : (s : ℕ) → IsGuarded ground' s → Lane s (link' s)
+      lane s v = ⊎_elim
+          (λ same. subst (Lane s) (sym same) (⊎_elim
+          (λ (z : s ≡ r). subst (λ y. Lane y (c.words.link y)) (sym z) (subst (Lane r) (sym f.link_is) lane_of_new))
+          (λ v some. (inv.lanes.rises s v some, inv.lanes.stays s v some, same_generation (c.words.link s).row ∙ inv.lanes.generation s v some)) (guarded_before s v)))
+          (λ (h : (link' s ≡ new) × (ranks c.words.event s < ranks c.words.event r) × In s (c.chain q)). subst (Lane s) (sym h.0) (λ some. (
+            h.1,
+            ap (list_in c.shape l.generation) f.event_is ∙ sym (list_here s h.2),
+            same_generation r ∙ ap (λ (y : Link). y.generation) f.link_is,
+          )))
+          (link_either cell f.of f.below s)
+
+      pub lanes_after : Lanes c.start.layout c.shape ground' c.words.event
+      lanes_after = record {
+        is_row = λ s v. ⊎_elim (λ z. subst (IsRow c.start.layout) (sym z) f.row) (inv.lanes.is_row s) (guarded_before s v);
+        rises = λ s v some. (lane s v some).0;
+        stays = λ s v some. (lane s v some).1;
+        generation = λ s v some. (lane s v some).2;
+        twins = λ s v frozen some. ⊎_elim
+            (λ (z : s ≡ r). absurd (cell_frozen m f.own_is (sym own_mark ∙ subst (λ y. (link' y).mark ≡ Mov) z frozen)))
+            (λ o. let h = inv.lanes.twins s o (sym (same_mark s) ∙ frozen) some in (same_generation (c.words.twin s) ∙ (h.0 ∙ ap (λ g. g + 1) (sym (same_generation s))), h.1))
+            (guarded_before s v);
+      }
+
+    pub writing_after : Writing c.start.layout.workers link' c.words.twin c.words.event hand' (put c.written j (forgotten r (c.written j)))
     writing_after = let n = c.start.layout.workers in let old = inv.writing in record {
       placed = λ k x. put_all c.written j (forgotten r (c.written j)) (λ k xs. k < n → In x xs → x.place < 6) (λ b i. old.placed j x b (in_forgotten r (c.written j) x i).0) (λ k _. old.placed k x) k;
       in_hand_is = λ k x. put_all c.written j (forgotten r (c.written j)) (λ k xs. k < n → In x xs → In x.row (hand' k))
@@ -545,30 +568,52 @@ module _ (c : Core) (j : ℕ) (cell : Cell) (l : Link) (r : ℕ) (e : Event) whe
     name_stays : (d : CutDebt) (s : ℕ) → IsNamed c.words.head d s (c.words.event s) (c.words.link s) → IsNamed head' d s (c.words.event s) (link' s)
     name_stays d s n = record { row = n.row; event = n.event; generation = n.generation ∙ sym (same_generation s); front = λ is. front_stays d.head s (n.front is) }
 
-    naming_after : Naming c.start.layout head' link' c.words.event c.named holding'
+    pub naming_after : Naming c.start.layout head' link' c.words.event c.named holding'
     naming_after = record {
       named = λ s h. put_all c.holding r (listed q)
           (λ s x. IsRow c.start.layout s → x ≡ listed h → (link' s).mark ≡ Del → (k : ℕ) × (k < c.start.layout.workers) × ((d : CutDebt) × HasName (c.named k) d × IsNamed head' d s (c.words.event s) (link' s)))
-          (λ _ _ is. absurd (val_del (sym own_mark ∙ is)))
+          (λ _ _ is. absurd (cell_dead m f.own_is (sym own_mark ∙ is)))
           (λ s _ b at is. let o = inv.naming.named s h b at (sym (same_mark s) ∙ is) in (o.0, o.1, (o.2.0, o.2.1, name_stays o.2.0 s o.2.2))) s;
       place = inv.naming.place;
     }
 
-    -- the row r is live now, and all that were stay so
-    live_here : IsLive c.start.layout link' c.words.twin holding' r
-    live_here = (f.row, (q, put_here c.holding r (listed q)), val_carries (link' r).mark (c.words.twin r) (link' (c.words.twin r)).mark own_mark)
+    -- the parts that say of which tables rows are
+    pub sizes_after : Sizes c.start c.words.control c.shape head' link' holding'
+    sizes_after = sizes_rows _ _ _ _ _ _ _ _ _ (λ h _. same_head h) (λ s b out. ⊎_elim (λ (z : s ≡ r). inr (subst (λ y. (link' y).generation ≤ newest c.words.control) (sym z) (told_low c.words.control (link' r).generation new_told)))
+        (λ h. inl (h, same_generation s)) (was_outside s out)) inv.sizes
 
-    live_after : (s : ℕ) → IsLive c.start.layout c.words.link c.words.twin c.holding s → IsLive c.start.layout link' c.words.twin holding' s
+    pub steady_after : Steady c.start c.words.control link' holding' c.named
+    steady_after = steady_rows _ _ _ _ _ _ _ (λ s b out. ⊎_elim (λ (z : s ≡ r). inr (subst (λ y. IsTold c.words.control (link' y).generation) (sym z) new_told)) (λ h. inl (h, same_generation s)) (was_outside s out)) inv.steady
+
+    -- links change in the rows that they name
+    pub relinked_after : Relinked c.words.link link'
+    relinked_after = record { mark = same_mark; generation = same_generation; final = link_last cell f.cell_is }
+
+    -- the list q is none of the table that control moves into, if the link found is of the open one
+    no_new : l.generation ≡ c.words.control.generation → IsNewHead c.words.control c.shape q → ⊥
+    no_new now new = let same : (c.words.head q).generation ≡ c.words.control.generation = sym (generation_is cell f.cell_is f.of) ∙ now in
+        ⊎_elim (λ (p : IsPrepared (c.words.control.generation + 1) (c.words.head q)). let g = p.0 in omega arith) (λ (s : IsShut c.words.control.generation q (c.words.head q)). let g = s.older in omega arith) (inv.heads.new q f.is_head new)
+
+    pub bare_after : (c.words.control.moving ≡ true → (p : ℕ) → IsHead p → IsOldHead c.words.control c.shape p → (c.words.head p).mark ≡ Val → IsNewHead c.words.control c.shape q → ⊥) → Bare c.words.control c.shape head' chain'
+    bare_after none = bare_put c.words.control c.shape c.words.head head' c.chain q more (λ h. heads_same (λ (y : Link). y.mark) cell c.words.head c.words.link new h (ap (λ (y : Link). y.mark) (sym f.cell_is)))
+        (λ moving p hp _ old val is _. absurd (none moving p hp old val is)) inv.bare
+
+    -- all rows that were live stay so, and no others are but the row r
+    pub live_after : (s : ℕ) → IsLive c.start.layout c.words.link c.words.twin c.holding s → IsLive c.start.layout link' c.words.twin holding' s
     live_after s live = (live.0, (live.1.0, stays s (listed live.1.0) live.1.1 (omega arith)), subst (λ (z : Mark × Mark). IsCarrying z.0 (c.words.twin s) z.1) (λ i. (sym (same_mark s) i, sym (same_mark (c.words.twin s)) i)) live.2)
 
-    live_before : (s : ℕ) → IsLive c.start.layout link' c.words.twin holding' s → (s ≡ r) ⊎ IsLive c.start.layout c.words.link c.words.twin c.holding s
+    pub live_before : (s : ℕ) → IsLive c.start.layout link' c.words.twin holding' s → (s ≡ r) ⊎ IsLive c.start.layout c.words.link c.words.twin c.holding s
     live_before s live = dite (ℕ_discrete s r) inl (λ ne. inr (
       live.0,
       (live.1.0, sym (put_else c.holding r (listed q) s ne) ∙ live.1.1),
       subst (λ (z : Mark × Mark). IsCarrying z.0 (c.words.twin s) z.1) (λ i. (same_mark s i, same_mark (c.words.twin s) i)) live.2,
     ))
 
-    module _ (none : Contains (puts c.history) e → ⊥) where
+    module _ (present : m ≡ Val) (none : Contains (puts c.history) e → ⊥) where
+      -- the row r is live now
+      live_here : IsLive c.start.layout link' c.words.twin holding' r
+      live_here = (f.row, (q, put_here c.holding r (listed q)), val_carries (link' r).mark (c.words.twin r) (link' (c.words.twin r)).mark (own_mark ∙ present))
+
       carriers_after : Carriers c.start.layout (c.history ++ Put j e ∷ []) link' c.words.twin c.words.event holding'
       carriers_after = let old = inv.carriers in record {
         carried = λ x pending. ⊎_elim (λ p. let t = old.carried x p in (t.0, live_after t.0 t.1, t.2)) (λ (is : x ≡ e). (r, live_here, f.event_is ∙ sym is)) (pending_put c.history j e x pending);
@@ -583,7 +628,7 @@ module _ (c : Core) (j : ℕ) (cell : Cell) (l : Link) (r : ℕ) (e : Event) whe
           other : (s : ℕ) → IsLive c.start.layout c.words.link c.words.twin c.holding s → c.words.event s ≡ e → ⊥
           other s live is = none (subst (Contains (puts c.history)) is (inv.carriers.pending s live).put)
 
-    from_after : (g at : ℕ) (x : Event) → StandsFrom c.words.link c.words.event g at x → StandsFrom link' c.words.event g at x
+    pub from_after : (g at : ℕ) (x : Event) → StandsFrom c.words.link c.words.event g at x → StandsFrom link' c.words.event g at x
     from_after g at x old = record {
       row = old.row;
       some_row = old.some_row;
@@ -594,22 +639,25 @@ module _ (c : Core) (j : ℕ) (cell : Cell) (l : Link) (r : ℕ) (e : Event) whe
     }
 
     -- no take has read a later table than the one that the event is owed to
-    is_now : (i : ℕ) (d : SettleDebt) → settling' i ≡ Some d → (c.settling i ≡ Some d) ⊎ ((k : ℕ) (s : Sight) → k < c.start.layout.workers → c.sight k ≡ Some s → s.table.generation ≤ d.generation)
-    is_now i d = put_all c.settling j (Some due) (λ i o. o ≡ Some d → (c.settling i ≡ Some d) ⊎ ((k : ℕ) (s : Sight) → k < c.start.layout.workers → c.sight k ≡ Some s → s.table.generation ≤ d.generation))
-        (λ is. inr (λ k s b sees. let low = (inv.finds.sights k s b sees).0.low in let now = f.now in let of = ap (λ (x : SettleDebt). x.generation) (same_Some due d is) in omega arith)) (λ _ _ is. inl is) i
+    is_now : l.generation ≡ c.words.control.generation → (i : ℕ) (d : SettleDebt) → settling' i ≡ Some d → (c.settling i ≡ Some d) ⊎ ((k : ℕ) (s : Sight) → k < c.start.layout.workers → c.sight k ≡ Some s → s.table.generation ≤ d.generation)
+    is_now now i d = put_all c.settling j (Some due) (λ i o. o ≡ Some d → (c.settling i ≡ Some d) ⊎ ((k : ℕ) (s : Sight) → k < c.start.layout.workers → c.sight k ≡ Some s → s.table.generation ≤ d.generation))
+        (λ is. inr (λ k s b sees. let low = (inv.finds.sights k s b sees).0.low in let of = ap (λ (x : SettleDebt). x.generation) (same_Some due d is) in omega arith)) (λ _ _ is. inl is) i
 
-    walkers_after : (Contains (puts c.history) e → ⊥) → Walkers (record (present_of c) { history = c.history ++ Put j e ∷ []; settling = settling' }) (takes_of c) link' c.words.event
-    walkers_after fresh = let more : List Entry = Put j e ∷ [] in
+    walkers_after : l.generation ≡ c.words.control.generation → (Contains (puts c.history) e → ⊥) → Walkers (record (present_of c) { history = c.history ++ Put j e ∷ []; settling = settling' }) (takes_of c) link' c.words.event
+    walkers_after now fresh = let more : List Entry = Put j e ∷ [] in
         walkers_links (record (present_of c) { history = c.history ++ more; settling = settling' }) _ _ _ link' c.words.event (λ _ s _ _. same_generation s) (λ _ g at x _ _ _. from_after g at x)
-        (walkers_owing (record (present_of c) { history = c.history ++ more }) _ _ _ settling' (λ i d _ is. is_now i d is) (walkers_grown (present_of c) _ _ _ more (new_put c.history j e inv.told.legal fresh) inv.walkers))
+        (walkers_owing (record (present_of c) { history = c.history ++ more }) _ _ _ settling' (λ i d _ is. is_now now i d is) (walkers_grown (present_of c) _ _ _ more (new_put c.history j e inv.told.legal fresh) inv.walkers))
 
-    dues_after : IsEvent e → Dues c.start.layout.workers c.words.control c.shape settling' c.copying c.named
-    dues_after event = record {
+    dues_after : l.generation ≡ c.words.control.generation → IsEvent e → Dues c.start.layout.workers c.words.control c.shape settling' c.copying c.named
+    dues_after now event = record {
       settles = λ k d. put_all c.settling j (Some due) (λ k o. k < c.start.layout.workers → o ≡ Some d → DueFits c.words.control c.shape d)
-          (λ _ is. subst (DueFits c.words.control c.shape) (same_Some due d is) (due_fits c l.generation e f.now event inv)) (λ k _. inv.dues.settles k d) k;
+          (λ _ is. subst (DueFits c.words.control c.shape) (same_Some due d is) (due_fits c l.generation e now event inv)) (λ k _. inv.dues.settles k d) k;
       copies = inv.dues.copies;
       named = inv.dues.named;
     }
+
+val_invalid : Val ≡ Invalid → ⊥
+val_invalid e = cc
 
 -- a put is no Begin
 no_begin : (j : ℕ) (e : Event) (k : ℕ) → In (Begin k) (Put j e ∷ []) → ⊥
@@ -617,35 +665,34 @@ no_begin j e k i = ⊎_elim (λ (q : Begin k ≡ Put j e). cc) (λ n. n) i
 
 -- Link keeps the invariant
 pub link_keeps : (c : Core) (j : ℕ) (cell : Cell) (l : Link) (r : ℕ) (e : Event) → j < c.start.layout.workers → ((x : Control) × MayLink c.start.layout.workers x cell l r e (caller_of c j)) → link_at c.words.head c.words.link cell ≡ l → Inv c → Inv (linked c j cell l r e)
-link_keeps c j cell l r e b (x, may) is inv = let f = known c j x cell l r e b may is inv in record {
-  spelled = spelled_after c j cell l r e f inv;
+link_keeps c j cell l r e b (x, may) is inv = let f = known c j x cell l r e b may is inv in let now = open_now c j x cell l r e b may inv in record {
+  spelled = spelled_after c j cell l r e Val f inv;
   reading = inv.reading;
   finds = inv.finds;
   guards = inv.guards;
-  holders = holders_after c j cell l r e f inv;
+  holders = holders_after c j cell l r e Val f inv;
   cutting = inv.cutting;
-  stamps = stamps_after c j cell l r e f inv;
-  chains = chains_after c j cell l r e f inv;
-  cover = cover_after c j cell l r e f inv;
-  sizes = sizes_rows _ _ _ _ _ _ _ _ _ (λ h _. same_head c j cell l r e f inv h) (λ s b out. ⊎_elim (λ (z : s ≡ r). inr (let now = ap (λ z. (link' c j cell l r e z).generation) z ∙ new_now c j cell l r e f inv in omega arith))
-      (λ h. inl (h, same_generation c j cell l r e f inv s)) (was_outside c j cell l r e f inv s out)) inv.sizes;
-  dues = dues_after c j cell l r e f inv may.event;
-  steady = steady_rows _ _ _ _ _ _ _ (λ s b out. ⊎_elim (λ (z : s ≡ r). inr (ap (λ z. (link' c j cell l r e z).generation) z ∙ new_now c j cell l r e f inv, ap (λ z. (link' c j cell l r e z).mark) z ∙ own_mark c j cell l r e f inv))
-      (λ h. inl (h, same_generation c j cell l r e f inv s, inl (same_mark c j cell l r e f inv s))) (was_outside c j cell l r e f inv s out)) inv.steady;
-  heads = heads_after c j cell l r e f inv;
-  sorted = sorted_after c j cell l r e f inv;
-  marks = marks_after c j cell l r e f inv;
-  standing = standing_after c j cell l r e f inv;
-  copying = copying_after c j cell l r e f inv;
-  lanes = lanes_after c j cell l r e f inv;
-  writing = writing_after c j cell l r e f inv;
-  naming = naming_after c j cell l r e f inv;
-  carriers = carriers_after c j cell l r e f inv (fresh_put c.start.layout.workers c.history c.deal c.own c.begun j e b may.fresh inv.told);
+  stamps = stamps_after c j cell l r e Val f inv;
+  chains = chains_after c j cell l r e Val f inv;
+  cover = cover_after c j cell l r e Val f inv (ground_of c).footing (covers_same c j cell l r e Val f inv) inv.cover.resting;
+  sizes = sizes_after c j cell l r e Val f inv;
+  dues = dues_after c j cell l r e Val f inv now may.event;
+  steady = steady_after c j cell l r e Val f inv;
+  heads = heads_after c j cell l r e Val f inv;
+  helps = helps_after c j cell l r e Val f inv;
+  sorted = sorted_after c j cell l r e Val f inv;
+  marks = marks_after c j cell l r e Val f inv;
+  standing = standing_after c j cell l r e Val f inv;
+  copying = copying_after c j cell l r e Val f inv;
+  lanes = lanes_after c j cell l r e Val f inv (ground_of c).footing (covers_same c j cell l r e Val f inv);
+  writing = writing_after c j cell l r e Val f inv;
+  naming = naming_after c j cell l r e Val f inv;
+  carriers = carriers_after c j cell l r e Val f inv refl (fresh_put c.start.layout.workers c.history c.deal c.own c.begun j e b may.fresh inv.told);
   told = told_put c.start.layout.workers c.history c.deal c.own c.begun j e b may.fresh inv.told;
   numbers = numbers_grown _ _ _ (Put j e ∷ []) inv.numbers;
-  bounds = bounds_owed _ _ _ _ _ _ j (due c j cell l r e) may.permit (bounds_grown _ _ _ _ _ _ (Put j e ∷ []) refl inv.bounds);
-  settling = let new = fresh_put c.start.layout.workers c.history c.deal c.own c.begun j e b may.fresh inv.told in settling_put _ _ _ j (due c j cell l r e) b may.settled new inv.settling (λ s. new (settled_put c.history inv.told.legal e s));
-  walkers = walkers_after c j cell l r e f inv (fresh_put c.start.layout.workers c.history c.deal c.own c.begun j e b may.fresh inv.told);
+  bounds = bounds_owed _ _ _ _ _ _ j (due c j cell l r e Val) may.permit (bounds_grown _ _ _ _ _ _ (Put j e ∷ []) refl inv.bounds);
+  settling = let new = fresh_put c.start.layout.workers c.history c.deal c.own c.begun j e b may.fresh inv.told in settling_put _ _ _ j (due c j cell l r e Val) b may.settled new inv.settling (λ s. new (settled_put c.history inv.told.legal e s));
+  walkers = walkers_after c j cell l r e Val f inv now (fresh_put c.start.layout.workers c.history c.deal c.own c.begun j e b may.fresh inv.told);
   ahead = ahead_grown c.history (Put j e ∷ []) c.words.current refl inv.ahead;
   scarce = let home = (inv.holders.held j r b may.in_hand_is).0 in scarce_drop _ _ _ _ _ _ _ _ j
       (λ k x _ ne old. base_grown _ _ _ (Put j e ∷ []) _ _ k x (no_begin j e k) (base_lasts _ _ _ _ _ _ _ _ k x (le_refl _)
@@ -653,4 +700,10 @@ link_keeps c j cell l r e b (x, may) is inv = let f = known c j x cell l r e b m
   refusals = refusals_grown _ _ _ _ (λ k. no_begin j e k) inv.refusals;
   swept = swept_linked c j cell (list_in c.shape l.generation e) r e b (inv.holders.held j r b may.in_hand_is).0 f.event_is (fresh_put c.start.layout.workers c.history c.deal c.own c.begun j e b may.fresh inv.told) inv
       (swept_grown _ _ _ _ _ _ _ (λ k. no_begin j e k) inv.swept) (no_begin j e);
+  copies = copies_relinked _ _ (link' c j cell l r e Val) (relinked_after c j cell l r e Val f inv)
+      (copies_in (rows_of_core c) (ground_of c) (ground_of (linked c j cell l r e)) j r (list_in c.shape l.generation e) f.row f.held f.twin_is
+      (λ s v. ⊎_elim inl (λ o. inr (v.0, v.1, o)) (covers_same c j cell l r e Val f inv v.0 v.1 s v.2)) (λ invalid. val_invalid (ap (λ (y : Link). y.mark) (sym f.link_is) ∙ invalid)) inv.copies);
+  rooms = inv.rooms;
+  bare = bare_after c j cell l r e Val f inv (λ _ _ _ _ _ new. no_new c j cell l r e Val f inv now new);
+  unlinked = record { each = λ k s b is w. inv.unlinked.each k s b is (was_before c.history (Put j e ∷ []) k s.event (no_begin j e k) w) };
 }

@@ -22,7 +22,8 @@ use Rattle.crq_rule.specs.Steady.{Steady}
 use Rattle.crq_rule.specs.ListParts.{Sizes, Dues, Heads, Sorted, Marks, Standing, Copying, Lanes, Writing, Naming, IsShut}
 use Rattle.crq_rule.specs.HistoryParts.{Carriers, Told, Settling, Walkers, IsLive}
 use Rattle.crq_rule.specs.Ahead.{Ahead}
-use Rattle.crq_rule.specs.Invariant.{present_of, takes_of}
+use Rattle.crq_rule.specs.Copies.{Copies, Rooms, Bare, Unlinked}
+use Rattle.crq_rule.specs.Invariant.{present_of, takes_of, rows_of_core}
 use Rattle.crq_rule.specs.Opening.{home_of, opening_log, opening_core, opening_head, open_head, shut_head}
 use Rattle.crq_rule.proofs.PartLaws.{sort}
 
@@ -50,7 +51,7 @@ no_name d has = ⊎_elim (no_debt d) (no_debt d) has
 pub no_settle : (d : SettleDebt) → None ≡ Some d → ⊥
 no_settle d e = cc
 
-no_copy : (d : CopyDebt) → None ≡ Some d → ⊥
+pub no_copy : (d : CopyDebt) → None ≡ Some d → ⊥
 no_copy d e = cc
 
 pub opening_control : (s : Start) → IsFirst s.first → IsControl (opening_core s).words.control
@@ -122,7 +123,27 @@ module _ (s : Start) (first : IsFirst s.first) where
   opening_dues = record { settles = λ k d _ is. absurd (no_settle d is); copies = λ k d _ is. absurd (no_copy d is); named = λ k d _ has. absurd (no_name d has) }
 
   pub opening_steady : Steady s (opening_core s).words.control (opening_core s).words.link (opening_core s).holding (opening_core s).named
-  opening_steady = record { still = refl; first = refl; rows = λ r _ out. absurd (out (home_of s.layout r) refl); marks = λ r _ out. absurd (out (home_of s.layout r) refl); named = λ k d _ has. absurd (no_name d has); single = λ _ _. refl }
+  opening_steady = record { still = λ _. refl; first = refl; rows = λ r _ out. absurd (out (home_of s.layout r) refl); named = λ k d _ has. absurd (no_name d has); single = λ _ _ _. refl }
+
+  pub opening_copies : Copies (rows_of_core (opening_core s)) (ground_of (opening_core s))
+  opening_copies = record {
+    bound = λ o t b. absurd (hand_listed (home_of s.layout o) b.listed_is.0 b.listed_is.1);
+    one = λ o p t b _. absurd (hand_listed (home_of s.layout o) b.listed_is.0 b.listed_is.1);
+    owned = λ t _ out _. absurd (out (home_of s.layout t) refl);
+    apart = λ o t b _. absurd (hand_listed (home_of s.layout o) b.listed_is.0 b.listed_is.1);
+    alone = λ j k d e _ _ is _ _. absurd (no_copy d is);
+    left = λ r v _ _. absurd (off_on v.1 v.2.on);
+    debt = λ k d _ is. absurd (no_copy d is);
+  }
+
+  pub opening_rooms : Rooms s.layout.workers (opening_core s).copying (opening_core s).named
+  opening_rooms = record { ordered = λ _ _ _. refl; room = λ k d _ is. absurd (no_copy d is) }
+
+  pub opening_bare : Bare (opening_core s).words.control (opening_core s).shape (opening_core s).words.head (opening_core s).chain
+  opening_bare = record { bare = λ moving. absurd (false≢true moving) }
+
+  pub opening_unlinked : Unlinked s.layout.workers (opening_core s).history (opening_core s).old
+  opening_unlinked = record { each = λ k t _ is. absurd (no_old t is) }
 
   none_live : (r : ℕ) → IsLive s.layout (opening_core s).words.link (opening_core s).words.twin (opening_core s).holding r → ⊥
   none_live r live = hand_listed _ live.1.0 live.1.1

@@ -1,5 +1,5 @@
 -- What a step function asks of each kind on lists.
-use Rattle.std.proofs.Common.{◌≡◌, ◌≢◌, inl, ℕ, zero, suc, ◌+◌, ◌*◌, ◌^◌, ◌<◌, ◌≤◌, Bool, false, List, [], ◌∷◌, ◌++◌, Option, None, Some, cond, get_or, set, eqb, sym, refl, ap, ◌∙◌, subst, arith, eq-eqb, ne_eqb, ⊎_elim}
+use Rattle.std.proofs.Common.{◌≡◌, ◌≢◌, ◌⊎◌, inl, inr, ℕ, zero, suc, ◌+◌, ◌*◌, ◌^◌, ◌<◌, ◌≤◌, Bool, true, false, List, [], ◌∷◌, ◌++◌, Option, None, Some, cond, get_or, set, eqb, sym, refl, ap, ◌∙◌, subst, arith, eq-eqb, ne_eqb, ⊎_elim}
 use mathlib.Core.Logic.{dite}
 use native.Mathlib.Decide.{ℕ_discrete}
 use prog.Atomic.{either}
@@ -16,15 +16,17 @@ use Rattle.crq_rule.specs.declared.view.Sight.{Sight}
 use Rattle.crq_rule.specs.declared.view.Stand.{Stand}
 use Rattle.crq_rule.specs.declared.view.Walk.{Walk}
 use Rattle.crq_rule.specs.declared.view.Caller.{Caller}
-use Rattle.crq_rule.specs.Places.{index, control, link, IsPlace, IsRow, word_of}
+use Rattle.crq_rule.specs.Places.{index, control, link, IsPlace, IsRow, IsHead, word_of}
 use Rattle.crq_rule.specs.Core.{Core, caller_of, owed_by}
 use Rattle.crq_rule.specs.Parts.{ground_of, IsOn, Leads, IsGuarded}
-use Rattle.crq_rule.specs.ListParts.{row_word}
+use Rattle.crq_rule.specs.ListParts.{row_word, IsShut, IsPrepared}
 use Rattle.crq_rule.specs.Invariant.{Inv}
-use Rattle.crq_rule.specs.Ranks.{rank, shape_of, list_in, head_of, IsOpen, Cell, at_head, at_row, cell_place, link_at, heads_set, links_set}
-use Rattle.crq_rule.specs.ListKinds.{Aim, is_cell, stands_after, walk_after, taken_on, sweep_on, clean_on, Content, new_link, no_twin, new_time, new_source, new_sequence, new_load, IsContent, content_number, content_word, row_place, wrote, writes, links, event_word, loads_control, begins, marks, cuts, misses, MayWalk, MaySeek, MayLink, MayMark, MayCut, MayMiss, ComesAfter, owed_event, unhanded, forgotten, cut_debt, name_in, without_stand, relieved_names, unnamed_row, FoundFirst}
+use Rattle.crq_rule.specs.Ranks.{rank, shape_of, list_in, head_of, Cell, at_head, at_row, cell_place, link_at, heads_set, links_set}
+use Rattle.crq_rule.specs.ListKinds.{Aim, is_cell, stands_after, walk_after, taken_on, sweep_on, clean_on, Content, new_link, no_twin, new_time, new_source, new_sequence, new_load, IsContent, content_number, content_word, row_place, wrote, writes, links, event_word, loads_control, control_loaded, begins, marks, cuts, misses, MayWalk, MaySeek, MayLink, MayMark, MayCut, MayMiss, ComesAfter, owed_event, unhanded, forgotten, cut_debt, name_in, without_stand, relieved_names, unnamed_row, FoundFirst}
 use Rattle.crq_rule.specs.Steps.{Kind, write, walk, link as link_kind, link_fails, control_load, begin, mark, mark_fails, cut, cut_fails, miss, May, After, kind_of, place_of}
 use Rattle.crq_rule.specs.Rule.{IsWords}
+use Rattle.crq_rule.specs.Stated.{IsNext}
+use Rattle.crq_rule.specs.Helping.{help_after, helped_by}
 use Rattle.crq_rule.specs.Moves.{MovesBy, By, Walked, WalksOn, IsWalkable, FoundControl, wins, quiet}
 use Rattle.crq_base.proofs.WordLaws.{link_one}
 use Rattle.crq_base.specs.Lists.{In}
@@ -32,9 +34,8 @@ use Rattle.crq_rule.proofs.Puts.{put_here}
 use Rattle.crq_rule.proofs.Placing.{shows_set}
 use Rattle.crq_rule.proofs.CoverLaws.{guarded_by, names_covered}
 use Rattle.crq_rule.proofs.GuardSteps.{same_words}
-use Rattle.crq_rule.proofs.PartLaws.{sort}
 use Rattle.crq_rule.proofs.SizeLaws.{fitting_list}
-use Rattle.crq_rule.proofs.SteadyLaws.{open_is, outside_mark, guarded_out, steady_still, found_now, outside_now, guarded_now, open_list}
+use Rattle.crq_rule.proofs.SteadyLaws.{open_is, next_is, guarded_out, steady_still, still_mark, moves_so, found_generation, found_open, found_moving, found_told}
 use Rattle.crq_rule.proofs.Lawfuls.{stand_covered}
 use Rattle.crq_rule.proofs.SearchLaws.{own_walk, best_kept}
 use Rattle.crq_rule.proofs.Keeps.{words_stay, rest_stays}
@@ -72,7 +73,7 @@ row_word_is c r (suc (suc (suc zero))) = refl
 row_word_is c r (suc (suc (suc (suc zero)))) = refl
 row_word_is c r (suc (suc (suc (suc (suc n))))) = refl
 
-cell_word : (c : Core) (cell : Cell) → word_of c.words (cell_place cell) ≡ link_word (link_at c.words.head c.words.link cell)
+pub cell_word : (c : Core) (cell : Cell) → word_of c.words (cell_place cell) ≡ link_word (link_at c.words.head c.words.link cell)
 cell_word c (at_head q) = refl
 cell_word c (at_row r) = refl
 
@@ -83,6 +84,11 @@ event_word_is l t e (suc (suc zero)) b = refl
 event_word_is l t e (suc (suc (suc zero))) b = refl
 event_word_is l t e (suc (suc (suc (suc zero)))) b = refl
 event_word_is l t e (suc (suc (suc (suc (suc n))))) b = refl
+
+-- a cell that a row comes after may be walked
+pub linked_cell : (list : Event → ℕ) (ss : List Stand) (cell : Cell) (r : ℕ) (e : Event) → ComesAfter list ss cell r e → MayWalk ss cell
+linked_cell list ss (at_head q) r e after = after.0
+linked_cell list ss (at_row s) r e after = (after.0, after.1)
 
 module _ (key : Start) (p : Caller) where
   abbrev j : ℕ
@@ -98,48 +104,52 @@ module _ (key : Start) (p : Caller) where
   )
 
   -- a cell that may be walked has a place
-  cell_is : (cell : Cell) (c : Core) (ws : List ℕ) → j < c.start.layout.workers → Inv c → IsWords key c ws → MayWalk (c.rows j) cell → IsPlace key.layout (cell_place cell)
+  pub cell_is : (cell : Cell) (c : Core) (ws : List ℕ) → j < c.start.layout.workers → Inv c → IsWords key c ws → MayWalk (c.rows j) cell → IsPlace key.layout (cell_place cell)
   cell_is (at_head q) c ws b inv words may = may
   cell_is (at_row r) c ws b inv words may = subst (λ (z : Start). IsRow z.layout r) words.start (subst (λ r. IsRow c.start.layout r) may.1.2 (stood c b inv may.1.0 may.1.1))
     where
       stood : (c : Core) → j < c.start.layout.workers → Inv c → (s : Stand) → In s (c.rows j) → IsRow c.start.layout s.row
       stood c b inv s i = inv.lanes.is_row s.row (guarded_by j (stand_covered c j s b i inv))
 
-  cell_link : (cell : Cell) (c : Core) → j < c.start.layout.workers → Inv c → MayWalk (c.rows j) cell → IsLink (link_at c.words.head c.words.link cell)
+  pub cell_link : (cell : Cell) (c : Core) → j < c.start.layout.workers → Inv c → MayWalk (c.rows j) cell → IsLink (link_at c.words.head c.words.link cell)
   cell_link (at_head q) c b inv may = inv.spelled.heads q may
   cell_link (at_row r) c b inv may = subst (λ r. IsLink (c.words.link r)) may.1.2 (inv.spelled.links may.1.0.row (inv.lanes.is_row may.1.0.row (guarded_by j (stand_covered c j may.1.0 b may.1.1 inv))))
-
-  same_event : (f e : Event) → f ≡ e → e ≡ f
-  same_event f e q = sym q
 
   -- the row that a walked cell names
   named : (cell : Cell) (c : Core) → j < c.start.layout.workers → Inv c → MayWalk (c.rows j) cell → let l = link_at c.words.head c.words.link cell in 0 < l.row
       → IsRow c.start.layout l.row × WalksOn cell l (c.words.event l.row) (caller_of c j)
-  named (at_head q) c b inv may some = let i = first_in (c.chain q) (inv.chains.leads q may) in
-      ((inv.holders.in_chain q (c.words.head q).row may i).0, λ x is _. subst (λ z. head_of z (c.words.event (c.words.head q).row) ≡ q) (sym (found_now c inv j x b is)) (here (c.words.head q).row i))
+  named (at_head q) c b inv may some = let l = c.words.head q in let i = first_in (c.chain q) (inv.chains.leads q may) in
+      ((inv.holders.in_chain q l.row may i).0, λ x is told _. sym (found_told c inv j x b is l.generation told (c.words.event l.row)) ∙ inv.sorted.belongs q l.row may i)
     where
-      here : (r : ℕ) → In r (c.chain q) → head_of c.words.control (c.words.event r) ≡ q
-      here r i = let h = inv.holders.in_chain q r may i in let now = outside_now c inv r h.0 (λ k held. let z : ◌≡◌ {A = ℕ} 1 0 = ap sort (sym h.1 ∙ held) in omega arith) in
-          sym (open_list c inv (c.words.event r)) ∙ (ap (λ g. list_in c.shape g (c.words.event r)) (sym now ∙ inv.sorted.generation q r may i) ∙ inv.sorted.belongs q r may i)
-
       first_in : (rs : List ℕ) → Leads c.words.link (c.words.head q).row rs → In (c.words.head q).row rs
       first_in [] l = absurd (omega arith)
       first_in (r ∷ rs) l = inl l.0
-  named (at_row r) c b inv may some = let s = may.1.0 in let v = stand_covered c j s b may.1.1 inv in let row : s.row ≡ r = may.1.2 in
+  named (at_row r) c b inv may some = let s = may.1.0 in let v = stand_covered c j s b may.1.1 inv in let row : s.row ≡ r = may.1.2 in let l = c.words.link r in
       let from : IsGuarded (ground_of c) r = subst (IsGuarded (ground_of c)) row (guarded_by j v) in (
-        inv.lanes.is_row (c.words.link r).row (from.0, from.1, names_covered (ground_of c) from.0 from.1 r (c.words.link r).row from.2 (some, inl refl)),
+        inv.lanes.is_row l.row (from.0, from.1, names_covered (ground_of c) from.0 from.1 r l.row from.2 (some, inl refl)),
         λ f is _. let holds : c.words.event r ≡ f = subst (λ (z : ℕ × Event). c.words.event z.0 ≡ z.1) (λ i. (is.2 i, is.3 i)) ((inv.standing.each j is.0 b is.1).holds) in (
-          subst (λ e. rank e r < rank (c.words.event (c.words.link r).row) (c.words.link r).row) holds (inv.lanes.rises r from some),
-          λ x ctl. subst (λ y. head_of y (c.words.event (c.words.link r).row) ≡ head_of y f) (sym (found_now c inv j x b ctl))
-              (sym (open_list c inv (c.words.event (c.words.link r).row)) ∙ (subst (λ g. list_in c.shape g (c.words.event (c.words.link r).row) ≡ list_in c.shape g (c.words.event r)) (guarded_now c inv r from) (inv.lanes.stays r from some)
-              ∙ (ap (list_in c.shape c.words.control.generation) holds ∙ open_list c inv f))),
+          subst (λ e. rank e r < rank (c.words.event l.row) l.row) holds (inv.lanes.rises r from some),
+          λ x ctl told. sym (found_told c inv j x b ctl l.generation told (c.words.event l.row)) ∙ (inv.lanes.stays r from some ∙ (ap (list_in c.shape l.generation) holds ∙ found_told c inv j x b ctl l.generation told f)),
         ),
       )
 
+  -- a head of the table that the open one moves into is prepared, where it isn't older
+  next_prepared : (c : Core) → Inv c → (q : ℕ) → IsHead q → IsNext c.words.control q → c.words.control.generation < (c.words.head q).generation → ((c.words.head q).mark ≡ Val) × ((c.words.head q).generation ≡ c.words.control.generation + 1)
+  next_prepared c inv q head is late = ⊎_elim (λ (h : IsPrepared (c.words.control.generation + 1) (c.words.head q)). (h.1, h.0)) (λ (shut : IsShut c.words.control.generation q (c.words.head q)). let low = shut.older in absurd (omega arith)) (next_is c inv q head is)
+
+  -- a covered row is present or dead, where the table may not move
+  row_mark : (c : Core) → Inv c → (r : ℕ) → IsGuarded (ground_of c) r → (moves : Bool) → c.start.moves ≡ moves → (((c.words.link r).mark ≡ Val) ⊎ ((c.words.link r).mark ≡ Del)) ⊎ (c.start.moves ≡ true)
+  row_mark c inv r v true is = inr is
+  row_mark c inv r v false is = inl (still_mark c inv is r (inv.lanes.is_row r v) (guarded_out c inv r v))
+
   walkable : (cell : Cell) (c : Core) → j < c.start.layout.workers → Inv c → MayWalk (c.rows j) cell → IsWalkable cell (link_at c.words.head c.words.link cell) (caller_of c j)
-  walkable (at_head q) c b inv may = λ x is opened. let z = found_now c inv j x b is in let h = open_is c inv q may (subst (λ y. IsOpen y q) z opened) in (h.0, h.1 ∙ ap (λ (y : Control). y.generation) (sym z))
+  walkable (at_head q) c b inv may = λ x is. (
+    λ opened. let h = open_is c inv q may (found_open c inv j q x b is opened) in (⊎_elim inl (λ frozen. inr (frozen.1, moves_so c inv frozen.0)) h.0, h.1 ∙ sym (found_generation c inv j x b is)),
+    λ moves next late. let same = found_moving c inv j x b is moves in
+        subst (λ (y : Control). y.generation < (c.words.head q).generation → ((c.words.head q).mark ≡ Val) × ((c.words.head q).generation ≡ y.generation + 1)) (sym same) (next_prepared c inv q may (subst (λ y. IsNext y q) same (moves, next))) late,
+  )
   walkable (at_row r) c b inv may = let v : IsGuarded (ground_of c) r = subst (IsGuarded (ground_of c)) may.1.2 (guarded_by j (stand_covered c j may.1.0 b may.1.1 inv)) in
-      (outside_mark c inv r (inv.lanes.is_row r v) (guarded_out c inv r v), λ x found. guarded_now c inv r v ∙ ap (λ (y : Control). y.generation) (sym (found_now c inv j x b found)))
+      (row_mark c inv r v c.start.moves refl, λ s i row. subst (λ r. (c.words.link r).generation ≡ s.generation) row (inv.standing.each j s b i).of)
 
   abbrev walk_now : Core → Cell → Aim → Option Walk
   walk_now c cell aim = walk_after cell aim (c.sight j) (link_at c.words.head c.words.link cell) (c.walk j) (c.rows j)
@@ -163,6 +173,7 @@ module _ (key : Start) (p : Caller) where
             sweep = sym (put_here c.sweep j (sweep_on (taken_on aim (c.found j).control cell (c.rows j) (c.sweep j)) l e (c.sweep j))) i;
             clean = sym (put_here c.clean j (clean_on (taken_on aim (c.found j).control cell (c.rows j) (c.sweep j)) l (c.clean j))) i;
             debts = owed_by (c.settling j) (c.copying j) (sym (put_here c.named j (relieved_names (c.found j).control cell (c.rows j) l e (c.named j))) i);
+            help = sym (put_here c.help j (helped_by (c.found j).control j cell l (c.help j))) i;
           };
           row = λ some. let n = named cell c b inv may' some in (n.0, inv.spelled.events l.row n.0);
           next = next_of cell c b inv may';
@@ -171,7 +182,7 @@ module _ (key : Start) (p : Caller) where
       )
     where
       next_of : (cell : Cell) (c : Core) → j < c.start.layout.workers → (inv : Inv c) → (may : MayWalk (c.rows j) cell) → WalksOn cell (link_at c.words.head c.words.link cell) (c.words.event (link_at c.words.head c.words.link cell).row) (caller_of c j)
-      next_of (at_head q) c b inv may = λ x is some. (named (at_head q) c b inv may some).1 x is some
+      next_of (at_head q) c b inv may = λ x is told some. (named (at_head q) c b inv may some).1 x is told some
       next_of (at_row r) c b inv may = λ f is some. (named (at_row r) c b inv may some).1 f is some
 
   -- an exchange that found another word than it expected
@@ -196,13 +207,8 @@ module _ (key : Start) (p : Caller) where
     ((λ i. cond (b i) (f (mine i)) (mine i)) ∙ after, tt),
   )
 
-  -- the cell of a link: its place, and its word
-  linked_cell : (cell : Cell) (x : Control) (c : Core) (ws : List ℕ) (r : ℕ) (e : Event) → j < c.start.layout.workers → Inv c → IsWords key c ws → ComesAfter x (c.rows j) cell r e → MayWalk (c.rows j) cell
-  linked_cell (at_head q) x c ws r e b inv words after = after.0
-  linked_cell (at_row s) x c ws r e b inv words after = (after.0, after.1)
-
   -- the word of a link that is set at a cell
-  set_there : (c c' : Core) (cell : Cell) (l : Link) → c'.words.head ≡ heads_set c.words.head cell l → c'.words.link ≡ links_set c.words.link cell l → word_of c'.words (cell_place cell) ≡ link_word l
+  pub set_there : (c c' : Core) (cell : Cell) (l : Link) → c'.words.head ≡ heads_set c.words.head cell l → c'.words.link ≡ links_set c.words.link cell l → word_of c'.words (cell_place cell) ≡ link_word l
   set_there c c' (at_head q) l heads links = ap (λ (f : ℕ → Link). link_word (f q)) heads ∙ ap link_word (put_here c.words.head q l)
   set_there c c' (at_row r) l heads links = ap (λ (f : ℕ → Link). link_word (f r)) links ∙ ap link_word (put_here c.words.link r l)
 
@@ -211,7 +217,7 @@ module _ (key : Start) (p : Caller) where
   link_moves x cell l r e may c ws inv words b is = let new : Link = record l { row = r } in let w = index key.layout (cell_place cell) in
       let may' : MayLink c.start.layout.workers x cell l r e (caller_of c j) = subst (λ (z : Start × Caller). MayLink z.0.layout.workers x cell l r e z.1) (λ i. (sym words.start i, is i)) may in
       let due : owed_event x.generation (shape_of x) e ≡ owed_event l.generation (c.shape l.generation) e = ap (λ s. owed_event x.generation s e) (sym (inv.finds.controls j x b may'.control).size) ∙ ap (λ g. owed_event g (c.shape g) e) (sym may'.expected.2) in
-      let walkable' = linked_cell cell x c ws r e b inv words may'.after in let place = cell_is cell c ws b inv words walkable' in let at = words.shows.each (cell_place cell) place in
+      let walkable' = linked_cell (head_of x) (c.rows j) cell r e may'.after in let place = cell_is cell c ws b inv words walkable' in let at = words.shows.each (cell_place cell) place in
       dite (ℕ_discrete (get_or ws w 0) (link_word l))
       (λ hit. let found : link_at c.words.head c.words.link cell ≡ l = link_one _ _ (cell_link cell c b inv walkable') may.expected.0 (sym (cell_word c cell) ∙ (sym at ∙ hit)) in let k = link_kind cell l r e in
       won LinkKind k w (link_word l) (link_word new) (links x r e) refl c ws ((x, may'), found) is hit
@@ -225,14 +231,14 @@ module _ (key : Start) (p : Caller) where
       }))
       (λ apart. lost LinkKind (link_fails cell) w (link_word l) (link_word new) (links x r e) refl (λ _. tt) (λ _. refl) c ws words is apart)
 
-  pub cut_moves : (cell : Cell) (l : Link) (y : ℕ) (last : Link) → IsLink l → l.mark ≡ Val → l.row ≡ y → MayCut cell y last p
+  pub cut_moves : (cell : Cell) (l : Link) (y : ℕ) (last : Link) → IsLink l → is_cell l.mark ≡ true → l.row ≡ y → MayCut cell y last p
       → MovesBy CutKind key p (index key.layout (cell_place cell)) (λ w. either (eqb w (link_word l)) (link_word (record l { row = last.row })) w) (By (wins (link_word l) (cuts y)) quiet)
-  cut_moves cell l y last bits val row may c ws inv words b is = let new : Link = record l { row = last.row } in let w = index key.layout (cell_place cell) in
+  cut_moves cell l y last bits passable row may c ws inv words b is = let new : Link = record l { row = last.row } in let w = index key.layout (cell_place cell) in
       let may' : MayCut cell y last (caller_of c j) = subst (MayCut cell y last) is may in
       let place = cell_is cell c ws b inv words may'.cell_is in let at = words.shows.each (cell_place cell) place in
       dite (ℕ_discrete (get_or ws w 0) (link_word l))
       (λ hit. let found : link_at c.words.head c.words.link cell ≡ l = link_one _ _ (cell_link cell c b inv may'.cell_is) bits (sym (cell_word c cell) ∙ (sym at ∙ hit)) in let k = cut cell y last in
-      won CutKind k w (link_word l) (link_word new) (cuts y) refl c ws (may', (ap (λ (z : Link). is_cell z.mark) found ∙ ap is_cell val, ap (λ (z : Link). z.row) found ∙ row)) is hit
+      won CutKind k w (link_word l) (link_word new) (cuts y) refl c ws (may', (ap (λ (z : Link). is_cell z.mark) found ∙ passable, ap (λ (z : Link). z.row) found ∙ row)) is hit
       (words_after key k c j ws (link_word new) place (set_there c (After k c j) cell (record (link_at c.words.head c.words.link cell) { row = last.row }) refl refl ∙ ap (λ (z : Link). link_word (record z { row = last.row })) found) words)
       (λ i. record (caller_of c j) {
         cut = sym (put_here c.cut j (Some (record { row = y; tags = [] }))) i;
@@ -243,15 +249,15 @@ module _ (key : Start) (p : Caller) where
       (λ apart. lost CutKind (cut_fails cell) w (link_word l) (link_word new) (cuts y) refl (λ _. tt) (λ _. refl) c ws words is apart)
 
   -- the row that a walk found to be the first is of the table that the take saw
-  found_generation : (c : Core) → Inv c → j < c.start.layout.workers → (s : Sight) (w : Walk) (r : ℕ) (e : Event) → c.sight j ≡ Some s → c.walk j ≡ Some w → 0 < r → (o : Option ℕ) → w.bucket ≡ o → FoundFirst o s.table (c.rows j) w r e
+  first_generation : (c : Core) → Inv c → j < c.start.layout.workers → (s : Sight) (w : Walk) (r : ℕ) (e : Event) → c.sight j ≡ Some s → c.walk j ≡ Some w → 0 < r → (o : Option ℕ) → w.bucket ≡ o → FoundFirst o s.table (c.rows j) w r e
       → (c.words.link r).generation ≡ s.table.generation
-  found_generation c inv b s w r e sees is some None none found = (best_kept c inv j b s w sees is (r, e) found.1).1
-  found_generation c inv b s w r e sees is some (Some u) of found = ⊎_elim (λ z. let same = found.0 in absurd (omega arith)) (λ h. subst (λ r. (c.words.link r).generation ≡ s.table.generation) found.0 h.1) (own_walk c inv j s w b sees is).at_stand
+  first_generation c inv b s w r e sees is some None none found = (best_kept c inv j b s w sees is (r, e) found.1).1
+  first_generation c inv b s w r e sees is some (Some u) of found = ⊎_elim (λ z. let same = found.0 in absurd (omega arith)) (λ h. subst (λ r. (c.words.link r).generation ≡ s.table.generation) found.0 h.1) (own_walk c inv j s w b sees is).at_stand
 
   walk_generation : (c : Core) → Inv c → (x : Control) {r : ℕ} {e : Event} → j < c.start.layout.workers → MayMark x r e (caller_of c j) → (c.words.link r).generation ≡ x.generation
   walk_generation c inv x {r} {e} b may = let w = may.walks in
       let some = (inv.lanes.is_row r (subst (IsGuarded (ground_of c)) may.on.2 (guarded_by j (stand_covered c j may.on.0 b may.on.1 inv)))).0 in
-      found_generation c inv b (record { table = x; current = may.sight.0 }) w.0 r e may.sight.1 w.1 some w.0.bucket refl w.2
+      first_generation c inv b (record { table = x; current = may.sight.0 }) w.0 r e may.sight.1 w.1 some w.0.bucket refl w.2
 
   pub mark_moves : (x : Control) (r : ℕ) (e : Event) (l : Link) → IsLink l → l.mark ≡ Val → MayMark x r e p
       → MovesBy MarkKind key p (index key.layout (link r)) (λ w. either (eqb w (link_word l)) (link_word (record l { mark = Del })) w) (By (wins (link_word l) (marks x r e)) quiet)
@@ -285,13 +291,19 @@ module _ (key : Start) (p : Caller) where
         steady = steady_still c inv;
       }
 
+  pub told_here : (c : Core) → loads_control c.words.control (caller_of c j) ≡ caller_of (control_loaded c j) j
+  told_here c = λ i. record (caller_of c j) {
+    found = sym (put_here c.found j (record (c.found j) { control = Some c.words.control })) i;
+    help = sym (put_here c.help j (help_after c.words.control (c.help j))) i;
+  }
+
   pub control_moves : MovesBy ControlLoad key p (index key.layout control) (λ w. w) (FoundControl loads_control)
   control_moves c ws inv words b is = (
     control_load,
     refl,
     tt,
     same_words key c (After control_load c j) ws (index key.layout control) refl refl words,
-    control_found control_load loads_control c ws inv words is (λ i. record (caller_of c j) { found = sym (put_here c.found j (record (c.found j) { control = Some c.words.control })) i }),
+    control_found control_load loads_control c ws inv words is (told_here c),
   )
 
   pub begin_moves : MovesBy Begin key p (index key.layout control) (λ w. w) (FoundControl begins)
@@ -301,6 +313,7 @@ module _ (key : Start) (p : Caller) where
     tt,
     same_words key c (After begin c j) ws (index key.layout control) refl refl words,
     control_found begin begins c ws inv words is (λ i. record (caller_of c j) {
+      position = record { rows = c.rows j; old = sym (put_here c.old j None) i };
       own = sym (put_here c.own j (c.own j ++ BeginEntry j ∷ [])) i;
       base = sym (put_here c.base j None) i;
       refused = sym (put_here c.refused j []) i;
@@ -309,6 +322,7 @@ module _ (key : Start) (p : Caller) where
       sight = sym (put_here c.sight j None) i;
       walk = sym (put_here c.walk j None) i;
       found = sym (put_here c.found j (record (c.found j) { control = Some c.words.control })) i;
+      help = sym (put_here c.help j (help_after c.words.control (c.help j))) i;
     }),
   )
 
@@ -322,5 +336,6 @@ module _ (key : Start) (p : Caller) where
       own = sym (put_here c.own j (c.own j ++ MissEntry j limit ∷ [])) i;
       walk = sym (put_here c.walk j None) i;
       found = sym (put_here c.found j (record (c.found j) { control = Some c.words.control })) i;
+      help = sym (put_here c.help j (help_after c.words.control (c.help j))) i;
     }),
   )

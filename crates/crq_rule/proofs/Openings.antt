@@ -21,6 +21,7 @@ use Rattle.crq_rule.specs.declared.layout.Start.{Start}
 use Rattle.crq_rule.specs.declared.pass.Rest.{Rest}
 use Rattle.crq_rule.specs.declared.pass.Seating.{Seating}
 use Rattle.crq_rule.specs.declared.pass.Seating.TheVariants.{Resting}
+use Rattle.crq_rule.specs.declared.view.Help.{Help}
 use Rattle.crq_rule.specs.declared.view.Caller.{Caller}
 use Rattle.crq_rule.specs.declared.view.View.{View}
 use Rattle.crq_rule.specs.Widths.{width}
@@ -39,7 +40,7 @@ use Rattle.crq_rule.proofs.Pendings.{none_counted}
 use Rattle.crq_rule.proofs.ScarceLaws.{none_base}
 use Rattle.crq_rule.proofs.SweepLaws.{none_sweep}
 use Rattle.crq_rule.proofs.BoundLaws.{permits_none}
-use Rattle.crq_rule.proofs.ListOpening.{off_on, opening_control, opening_sizes, opening_dues, opening_steady, opening_heads, opening_sorted, opening_marks, opening_standing, opening_copying, opening_lanes, opening_writing, opening_naming, opening_carriers, opening_told, opening_settling, opening_walkers, opening_ahead, no_sight, no_settle}
+use Rattle.crq_rule.proofs.ListOpening.{off_on, opening_control, opening_sizes, opening_dues, opening_steady, opening_heads, opening_sorted, opening_marks, opening_standing, opening_copying, opening_lanes, opening_writing, opening_naming, opening_carriers, opening_told, opening_settling, opening_walkers, opening_ahead, opening_copies, opening_rooms, opening_bare, opening_unlinked, no_sight, no_settle}
 
 -- Words
 
@@ -133,6 +134,9 @@ opening_link g q b = either_way (leb (first_head_of g) q && ltb q (first_head_of
     either_way true = record { generation = b; row = omega arith }
     either_way false = record { generation = omega arith; row = omega arith }
 
+pub none_help : (h : Help) → None ≡ Some h → ⊥
+none_help h e = cc
+
 -- the core state of a new table meets the invariant
 pub opening_inv : (s : Start) → IsFirst s.first → Inv (opening_core s)
 opening_inv s first = let top = first.upto in let low = first.epoch in record {
@@ -180,6 +184,11 @@ opening_inv s first = let top = first.upto in let low = first.epoch in record {
   scarce = record { each = λ k b _ is. absurd (none_base b is) };
   refusals = record { each = λ k _. none_counted [] k };
   swept = record { left = λ k r s _ is. absurd (none_sweep s is); clean_is = λ k q r _ i. absurd i };
+  helps = record { finds = λ k h _ is. absurd (none_help h is); passed = λ k h _ is. absurd (none_help h is) };
+  copies = opening_copies s first;
+  rooms = opening_rooms s first;
+  bare = opening_bare s first;
+  unlinked = opening_unlinked s first;
 }
   where
     heads_empty : (t : Bool) → (cond t (open_head s.first.generation) shut_head).row ≡ 0

@@ -20,7 +20,7 @@ use Rattle.crq_rule.proofs.BucketLaws.{tick_low, bucket_rises, next_tick}
 use Rattle.crq_rule.proofs.Frames.{frame_current}
 use Rattle.crq_rule.proofs.HistoryLaws.{settled_put}
 use Rattle.crq_rule.proofs.SearchLaws.{own_walk, walk_beyond, past_none}
-use Rattle.crq_rule.proofs.SteadyLaws.{seen_now}
+use Rattle.crq_rule.proofs.SteadyLaws.{seen_generation}
 use Rattle.crq_rule.proofs.WalkerLaws.{walkers_current, walkers_rest}
 
 -- what isn't after current isn't after the next bucket
@@ -43,7 +43,7 @@ none_left c inv j x y b may e read kept same = let w = may.walks.0 in let u = bu
 later_since : (c : Core) → Inv c → (j : ℕ) (x : Control) (y : Current) → j < c.start.layout.workers → MayRaise x y (caller_of c j) → c.words.current ≡ y → (e : Event) → Contains (puts (drop (c.read j) c.history)) e → Contains (settleds c.history) e
     → bucket (shape_of x) y.tick < bucket (shape_of x) e.time
 later_since c inv j x y b may is e put settled = let s : Sight = record { table = x; current = y } in
-    (inv.walkers.seen j s b may.sight).ahead (sym is) (ap (λ (z : Control). z.generation) (seen_now c inv j s b may.sight)) e put settled
+    (inv.walkers.seen j s b may.sight).ahead (sym is) (seen_generation c inv j s b may.sight) e put settled
 
 raise_ahead : (c : Core) (j : ℕ) (x : Control) (y : Current) → Inv c → j < c.start.layout.workers → MayRaise x y (caller_of c j) → c.words.current ≡ y → Ahead c.history (next_position x y)
 raise_ahead c j x y inv b may is = record {

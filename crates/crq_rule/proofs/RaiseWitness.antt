@@ -15,7 +15,7 @@ use Rattle.crq_rule.proofs.Witnessing.{start, old}
 
 -- the first caller turns its guard on, begins a take, loads current for it, and finds the list of its bucket empty
 
-abbrev guarded : Core
+abbrev pub guarded : Core
 guarded = After confirm (After (enter 0) (After epoch_load (opening_core start) 0) 0) 0
 
 abbrev viewing : Core
@@ -30,7 +30,7 @@ table = (opening_core start).words.control
 abbrev before : Current
 before = (opening_core start).words.current
 
-guarded_inv : Inv guarded
+pub guarded_inv : Inv guarded
 unfolding put
 guarded_inv = keeps confirm (After (enter 0) (After epoch_load (opening_core start) 0) 0) 0 (omega arith) (0, refl)
     (keeps (enter 0) (After epoch_load (opening_core start) 0) 0 (omega arith) (refl, inl refl) (keeps epoch_load (opening_core start) 0 (omega arith) tt old))

@@ -19,6 +19,7 @@ use Rattle.crq_rule.proofs.HolderLaws.{none_some, holders_retire, holders_claim}
 use Rattle.crq_rule.proofs.CoverLaws.{cover_retire, cover_claim, uncovered}
 use Rattle.crq_rule.proofs.StandLaws.{marks_held, writing_more, naming_held, carriers_held}
 use Rattle.crq_rule.proofs.ScarceLaws.{since_low, scarce_put, scarce_lasts, lasts_held, refusals_put, base_after, refused_counted}
+use Rattle.crq_rule.proofs.CopyLaws.{copies_retire, copies_claim}
 use Rattle.crq_rule.proofs.Frames.{frame_rows}
 use Rattle.crq_rule.proofs.GuardLaws.{on_low}
 use Rattle.crq_rule.proofs.Lawfuls.{found_by}
@@ -32,13 +33,14 @@ retire_keeps c j r t b may inv = let x = may.0 in let at = inv.holders.is_cut j 
     (stamps_retire _ _ _ _ _ r t (λ e. let z : 2 ≡ 3 = sym (ap sort held) ∙ e in absurd (omega arith)) (inv.reading.tags j t x b may.1 may.3) inv.stamps)
     (cover_retire _ _ _ j r t (inr (j, x, b, may.1, may.2, may.3)) inv.cover)
     (sizes_rows _ _ _ _ _ _ _ _ _ (λ _ _. refl) (λ s _ out. inl (kept held s out, refl)) inv.sizes)
-    (steady_rows _ _ _ _ _ _ _ (λ s _ out. inl (kept held s out, refl, inl refl)) inv.steady)
+    (steady_rows _ _ _ _ _ _ _ (λ s _ out. inl (kept held s out, refl)) inv.steady)
     (marks_held _ _ _ _ r (retired t) _ _ (λ z. omega arith) (λ row. subst (λ h. MarkFits h (c.words.link r).mark) held (inv.marks.mark r row)) (kept held) inv.marks)
     inv.writing
     (naming_held _ _ c.words.twin _ r (retired t) _ _ _ (λ z. omega arith) inv.naming)
     (carriers_held _ _ _ _ r (retired t) _ _ (other held) (λ z. omega arith) inv.carriers)
     (scarce_lasts _ _ _ _ _ _ _ _ _ (le_refl _) (λ k inside. lasts_held _ _ _ _ r (retired t) k (λ g home late. before held g late) (λ g home low is. inr (after g low))) inv.scarce)
     inv.refusals
+    (copies_retire _ _ j r t held inv.copies)
   where
     -- the tag isn't above the epoch, nor that more than one above what the guard found; and the tag isn't below that
     before : c.holding r ≡ cut_by j → (g : ℕ) → g + 2 ≤ t → IsLate c.guard g (c.holding r)
@@ -58,6 +60,7 @@ pub look_keeps : (c : Core) (j r : ℕ) → j < c.start.layout.workers → IsHom
 look_keeps c j r b home inv = frame_rows c _ _ _ _ _ _ _ inv inv.reading inv.holders inv.cutting (stamps_look _ _ _ _ _ j r b home inv.stamps) inv.cover inv.sizes inv.steady inv.marks inv.writing inv.naming inv.carriers
     (scarce_put _ _ _ _ _ _ _ _ _ _ j (base_looked c j r) (λ x _ is. base_after c j b inv r x home is) (λ _ _ _ _ old. old) inv.scarce)
     (refusals_put _ _ _ _ j (refused_after c.start.layout.home (c.hand j) (base_looked c j r) (c.refused j)) (λ _. refused_counted c j b inv r home) (λ _ _ old. old) inv.refusals)
+    inv.copies
 
 -- A row that a caller may claim is covered by no guard
 pub claimable_uncovered : (c : Core) (j r e : ℕ) → j < c.start.layout.workers → In e (c.epochs j) → IsRipe (c.ripening j) r e → Inv c
@@ -73,13 +76,14 @@ claim_keeps c j r e b read ripe inv = let at = inv.stamps.ripe j r ripe.0 b ripe
     (stamps_claim _ _ _ _ _ j r b at.0 inv.stamps)
     (cover_claim _ _ _ j r (claimable_uncovered c j r e b read ripe inv) inv.cover)
     (sizes_rows _ _ _ _ _ _ _ _ _ (λ _ _. refl) (λ s _ out. inl (kept s out, refl)) inv.sizes)
-    (steady_rows _ _ _ _ _ _ _ (λ s _ out. inl (kept s out, refl, inl refl)) inv.steady)
+    (steady_rows _ _ _ _ _ _ _ (λ s _ out. inl (kept s out, refl)) inv.steady)
     (marks_held _ _ _ _ r (in_hand j) _ _ (λ z. omega arith) (λ _. tt) kept inv.marks)
     (writing_more _ _ _ _ _ _ j r inv.writing)
     (naming_held _ _ c.words.twin _ r (in_hand j) _ _ _ (λ z. omega arith) inv.naming)
     (carriers_held _ _ _ _ r (in_hand j) _ _ (other at.1) (λ z. omega arith) inv.carriers)
     (scarce_lasts _ _ _ _ _ _ _ _ _ (le_refl _) (λ k inside. lasts_held _ _ _ _ r (in_hand j) k (λ _ _ n. absurd n) (λ _ home _ _. inl (ap in_hand (one_home c.start.layout j k r at.0 home)))) inv.scarce)
     inv.refusals
+    (copies_claim _ _ j r ripe.0 at.1 inv.copies)
   where
     kept : (s : ℕ) → IsOutside (put c.holding r (in_hand j)) s → IsOutside c.holding s
     kept s out i at = dite (ℕ_discrete s r) (λ e. absurd (out j (ap (put c.holding r (in_hand j)) e ∙ put_here c.holding r (in_hand j)))) (λ ne. out i (put_else c.holding r (in_hand j) s ne ∙ at))

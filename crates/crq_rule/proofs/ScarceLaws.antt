@@ -1,13 +1,14 @@
 -- How the parts on the shortage of rows stay, what a recovery knows at its first load, and the count of a refusal.
-use Rattle.std.proofs.Common.{◌≡◌, ◌≢◌, ◌⊎◌, ⊎_elim, inl, inr, Bool, true, false, cond, eqb, leb, ◌&&◌, ℕ, zero, suc, ◌+◌, ◌*◌, ◌<◌, ◌≤◌, List, [], ◌∷◌, ◌++◌, length, Option, Some, None, sym, refl, ap, ◌∙◌, subst, arith, le_refl}
+use Rattle.std.proofs.Common.{◌≡◌, ◌≢◌, ◌⊎◌, ⊎_elim, inl, inr, Bool, true, false, cond, eqb, leb, ◌&&◌, ℕ, zero, suc, ◌+◌, ◌*◌, ◌<◌, ◌≤◌, List, [], ◌∷◌, ◌++◌, length, Option, Some, None, sym, refl, ap, ◌∙◌, subst, arith, le_refl, eq-eqb}
 use mathlib.Core.Logic.{dite}
 use native.Mathlib.Decide.{ℕ_discrete}
-use Rattle.std.proofs.lemmas.Bool.{false≢true, leb-true, eqb-true}
+use Rattle.std.proofs.lemmas.Bool.{false≢true, leb-true, le-leb, eqb-true, cond_both}
 use Rattle.std.proofs.lemmas.List.{length-append, take-append-le, take_all}
 use Rattle.crq_base.specs.declared.event.Event.{Event}
 use Rattle.crq_base.specs.declared.entry.Entry.{Entry}
 use Rattle.crq_base.specs.declared.entry.Entry.TheVariants.{Begin}
-use Rattle.crq_base.specs.declared.words.Mark.TheVariants.{Val}
+use Rattle.crq_base.specs.declared.words.Mark.{Mark}
+use Rattle.crq_base.specs.declared.words.Mark.TheVariants.{Val, Inv as Invalid, Mov, Del}
 use Rattle.crq_base.specs.Lists.{In}
 use Rattle.crq_base.specs.Refusals.{AreCounted}
 use Rattle.crq_rule.specs.declared.debts.CutDebt.{CutDebt}
@@ -22,15 +23,19 @@ use Rattle.crq_rule.specs.Core.{Core, DeadNames, caller_of, Holding, in_hand, li
 use Rattle.crq_rule.specs.Parts.{GuardIs, OnSince, IsOn, stamp_of}
 use Rattle.crq_rule.specs.HistoryParts.{IsLive}
 use Rattle.crq_rule.specs.ScarceParts.{pending, IsLate, IsScarce, slots, IsBase, Scarce, Refusals}
-use Rattle.crq_rule.specs.Invariant.{Inv}
+use Rattle.crq_rule.specs.Invariant.{rows_of_core, Inv}
+use Rattle.crq_rule.specs.Copies.{IsBound, IsCopying}
+use Rattle.crq_rule.specs.Helping.{is_mov}
+use Rattle.crq_rule.specs.ListKinds.{is_val}
 use Rattle.crq_rule.specs.Kinds.{new_base, has_risen, is_late_word, looked_base, refused_after, base_looked, FoundNoRow}
 use Rattle.crq_rule.specs.Rule.{rows_from}
 use Rattle.crq_rule.proofs.Puts.{put_all}
-use Rattle.crq_rule.proofs.HeadLaws.{val_carries}
-use Rattle.crq_rule.proofs.SteadyLaws.{listed_mark}
+use Rattle.crq_rule.specs.HistoryParts.{IsCarrying}
+use Rattle.crq_rule.proofs.HeadLaws.{val_carries, bare_carries}
+use Rattle.crq_rule.proofs.CopyLaws.{listed_out}
 use Rattle.crq_rule.proofs.PartLaws.{home_is_row, one_home}
 use Rattle.crq_rule.proofs.Counting.{within_list, rows_in, rows_once, rows_long}
-use Rattle.crq_rule.proofs.Pendings.{both, either_of, pending_in, in_pending, counted_grown, pending_counted}
+use Rattle.crq_rule.proofs.Pendings.{both, and_of, either_of, pending_in, in_pending, counted_grown, pending_counted}
 
 pub none_base : (b : Base) → None ≡ Some b → ⊥
 none_base b e = cc
@@ -171,7 +176,11 @@ second_row : (o : Option CutDebt) (copy : Option CopyDebt) (d : CutDebt) → o �
 unfolding second_owed
 second_row o copy d is = ap (λ o. second_owed o copy) is
 
--- the rows that carry these events, and their twins
+copy_row : (o : Option CutDebt) (copy : Option CopyDebt) (d : CopyDebt) → o ≡ None → copy ≡ Some d → second_owed o copy ≡ d.copy
+unfolding second_owed
+copy_row o copy d none is = λ i. second_owed (none i) (is i)
+
+-- the rows that carry these events, and their second rows
 carrying : (ℕ → ℕ) → (es : List Event) → ((e : Event) → In e es → ℕ) → List ℕ
 carrying twin [] at = []
 carrying twin (e ∷ es) at = at e (inl refl) ∷ twin (at e (inl refl)) ∷ carrying twin es (λ x i. at x (inr i))
@@ -186,6 +195,59 @@ unfolding carrying
 in_carrying twin [] at r e i is = i
 in_carrying twin (x ∷ es) at r e i is = ⊎_elim (λ (q : e ≡ x). inl (sym (is x (inl refl) q))) (λ t. inr (inr (in_carrying twin es (λ x i. at x (inr i)) r e t (λ x i. is x (inr i))))) i
 
+in_second : (twin : ℕ → ℕ) (es : List Event) (at : (e : Event) → In e es → ℕ) (r : ℕ) (e : Event) → In e es → ((x : Event) (i : In x es) → e ≡ x → twin (at x i) ≡ r) → In r (carrying twin es at)
+unfolding carrying
+in_second twin [] at r e i is = i
+in_second twin (x ∷ es) at r e i is = ⊎_elim (λ (q : e ≡ x). inr (inl (sym (is x (inl refl) q)))) (λ t. inr (inr (in_second twin es (λ x i. at x (inr i)) r e t (λ x i. is x (inr i))))) i
+
+-- the row below n that passes a test, if there is one
+found_row : (ℕ → Bool) → ℕ → ℕ
+found_row test zero = 0
+found_row test (suc n) = cond (test n) n (found_row test n)
+
+found_low : (test : ℕ → Bool) (n : ℕ) → found_row test (suc n) ≤ n
+unfolding found_row
+found_low test zero = cond_both (test 0) 0 0 (λ z. z ≤ 0) (λ _. omega arith) (λ _. omega arith)
+found_low test (suc n) = cond_both (test (suc n)) (suc n) (found_row test (suc n)) (λ z. z ≤ suc n) (λ _. omega arith) (λ _. let low = found_low test n in omega arith)
+
+-- where a row passes, one that passes is found
+found_passes : (test : ℕ → Bool) (n r : ℕ) → r < n → test r ≡ true → test (found_row test n) ≡ true
+unfolding found_row
+found_passes test zero r low is = absurd (omega arith)
+found_passes test (suc n) r low is = cond_both (test n) n (found_row test n) (λ z. test z ≡ true) (λ yes. yes)
+    (λ no. found_passes test n r (dite (ℕ_discrete r n) (λ (e : r ≡ n). absurd (false≢true (sym no ∙ (ap test (sym e) ∙ is)))) (λ ne. omega arith)) is)
+
+-- the row o is frozen and listed, and has the twin t
+is_listed : Holding → Bool
+is_listed (in_hand j) = false
+is_listed (listed q) = true
+is_listed (cut_by j) = false
+is_listed (retired t) = false
+
+listed_is : (h : Holding) → is_listed h ≡ true → (q : ℕ) × (h ≡ listed q)
+unfolding is_listed
+listed_is (in_hand j) e = absurd (false≢true e)
+listed_is (listed q) e = (q, refl)
+listed_is (cut_by j) e = absurd (false≢true e)
+listed_is (retired t) e = absurd (false≢true e)
+
+is_listed_so : (h : Holding) (q : ℕ) → h ≡ listed q → is_listed h ≡ true
+unfolding is_listed
+is_listed_so h q e = ap is_listed e
+
+mov_is : (m : Mark) → is_mov m ≡ true → m ≡ Mov
+mov_is Val e = absurd (false≢true e)
+mov_is Invalid e = absurd (false≢true e)
+mov_is Mov e = refl
+mov_is Del e = absurd (false≢true e)
+
+abbrev has_copy : Core → ℕ → ℕ → Bool
+has_copy c t o = leb 1 o && (eqb (c.words.twin o) t && (is_mov (c.words.link o).mark && is_listed (c.holding o)))
+
+-- the second row of the event that the row r carries: its copy, or the row of which it is the copy
+abbrev mate : Core → ℕ → ℕ
+mate c r = cond (is_val (c.words.link r).mark) (found_row (has_copy c r) (suc c.start.layout.all)) (c.words.twin r)
+
 -- the row that carries a pending event
 abbrev carrier : (c : Core) → Inv c → (e : Event) → In e (pending c.history) → ℕ
 carrier c inv e i = (inv.carriers.carried e (in_pending c.history e i)).0
@@ -193,8 +255,8 @@ carrier c inv e i = (inv.carriers.carried e (in_pending c.history e i)).0
 -- In any state no more home rows are late for the present epoch than there are slots
 pub slots_hold : (c : Core) (k : ℕ) → k < c.start.layout.workers → Inv c → IsScarce c.start.layout c.guard c.holding k c.words.epoch (slots c.start.layout (pending c.history))
 slots_hold c k b inv = record {
-  rows = carrying c.words.twin (pending c.history) (carrier c inv) ++ owed_rows c.named c.copying c.start.layout.workers;
-  few = let one = length-append (carrying c.words.twin (pending c.history) (carrier c inv)) (owed_rows c.named c.copying c.start.layout.workers) in let two = carrying_length c.words.twin (pending c.history) (carrier c inv) in let three = owed_length c.named c.copying c.start.layout.workers in omega arith;
+  rows = carrying (mate c) (pending c.history) (carrier c inv) ++ owed_rows c.named c.copying c.start.layout.workers;
+  few = let one = length-append (carrying (mate c) (pending c.history) (carrier c inv)) (owed_rows c.named c.copying c.start.layout.workers) in let two = carrying_length (mate c) (pending c.history) (carrier c inv) in let three = owed_length c.named c.copying c.start.layout.workers in omega arith;
   all = λ r home late. let row = home_is_row c.start.layout k r b home in has_slot r row (c.holding r) refl late;
 }
   where
@@ -206,18 +268,62 @@ slots_hold c k b inv = record {
     in_back [] ys r i = i
     in_back (x ∷ xs) ys r i = inr (in_back xs ys r i)
 
-    has_carrier : (r q : ℕ) → IsRow c.start.layout r → c.holding r ≡ listed q → (c.words.link r).mark ≡ Val → In r (carrying c.words.twin (pending c.history) (carrier c inv))
-    has_carrier r q row is val = let live : IsLive c.start.layout c.words.link c.words.twin c.holding r = (row, (q, is), val_carries (c.words.link r).mark (c.words.twin r) (c.words.link (c.words.twin r)).mark val) in
-        in_carrying c.words.twin (pending c.history) (carrier c inv) r (c.words.event r) (pending_in c.history (c.words.event r) (inv.carriers.pending r live))
+    has_carrier : (r q : ℕ) → IsRow c.start.layout r → c.holding r ≡ listed q → IsCarrying (c.words.link r).mark (c.words.twin r) (c.words.link (c.words.twin r)).mark → In r (carrying (mate c) (pending c.history) (carrier c inv))
+    has_carrier r q row is carries = let live : IsLive c.start.layout c.words.link c.words.twin c.holding r = (row, (q, is), carries) in
+        in_carrying (mate c) (pending c.history) (carrier c inv) r (c.words.event r) (pending_in c.history (c.words.event r) (inv.carriers.pending r live))
         (λ x i same. let t = inv.carriers.carried x (in_pending c.history x i) in inv.carriers.one t.0 r t.1 live (t.2 ∙ sym same))
 
-    has_slot : (r : ℕ) → IsRow c.start.layout r → (h : Holding) → c.holding r ≡ h → IsLate c.guard c.words.epoch h → In r (carrying c.words.twin (pending c.history) (carrier c inv) ++ owed_rows c.named c.copying c.start.layout.workers)
+    has_mate : (r o q : ℕ) → IsRow c.start.layout o → c.holding o ≡ listed q → IsCarrying (c.words.link o).mark (c.words.twin o) (c.words.link (c.words.twin o)).mark → mate c o ≡ r → In r (carrying (mate c) (pending c.history) (carrier c inv))
+    has_mate r o q row is carries second = let live : IsLive c.start.layout c.words.link c.words.twin c.holding o = (row, (q, is), carries) in
+        in_second (mate c) (pending c.history) (carrier c inv) r (c.words.event o) (pending_in c.history (c.words.event o) (inv.carriers.pending o live))
+        (λ x i same. let t = inv.carriers.carried x (in_pending c.history x i) in ap (mate c) (inv.carriers.one t.0 o t.1 live (t.2 ∙ sym same)) ∙ second)
+
+    -- a frozen row whose copy isn't valid yet
+    moving_carries : (o t : ℕ) → (c.words.link o).mark ≡ Mov → c.words.twin o ≡ t → (c.words.link t).mark ≡ Invalid → IsCarrying (c.words.link o).mark (c.words.twin o) (c.words.link (c.words.twin o)).mark
+    moving_carries o t frozen twin copy = subst (λ m. IsCarrying m (c.words.twin o) (c.words.link (c.words.twin o)).mark) (sym frozen) (inr (ap (λ z. (c.words.link z).mark) twin ∙ copy))
+
+    -- its copy is its second row, and it is that of a valid one
+    copy_mate : (o t : ℕ) → (c.words.link o).mark ≡ Mov → c.words.twin o ≡ t → mate c o ≡ t
+    copy_mate o t frozen twin = ap (λ m. cond (is_val m) (found_row (has_copy c o) (suc c.start.layout.all)) (c.words.twin o)) frozen ∙ twin
+
+    passes : (o t : ℕ) → IsBound (rows_of_core c) o t → has_copy c t o ≡ true
+    passes o t b = and_of _ _ (le-leb 1 o b.row.0) (and_of _ _ (eq-eqb (c.words.twin o) t b.twin_is) (and_of _ _ (ap is_mov b.frozen) (is_listed_so (c.holding o) b.listed_is.0 b.listed_is.1)))
+
+    bound_by : (o t : ℕ) → o ≤ c.start.layout.all → 0 < t → has_copy c t o ≡ true → IsBound (rows_of_core c) o t
+    bound_by o t high some is = let one = both (leb 1 o) _ is in let two = both (eqb (c.words.twin o) t) _ one.1 in let three = both (is_mov (c.words.link o).mark) _ two.1 in record {
+      row = (leb-true 1 o one.0, high);
+      listed_is = listed_is (c.holding o) three.1;
+      frozen = mov_is (c.words.link o).mark three.0;
+      twin_is = eqb-true (c.words.twin o) t two.0;
+      some = some;
+    }
+
+    old_mate : (o t : ℕ) → IsBound (rows_of_core c) o t → (c.words.link t).mark ≡ Val → mate c t ≡ o
+    old_mate o t b val = let high = b.row.1 in ap (λ m. cond (is_val m) (found_row (has_copy c t) (suc c.start.layout.all)) (c.words.twin t)) val
+        ∙ inv.copies.one (found_row (has_copy c t) (suc c.start.layout.all)) o t (bound_by _ t (found_low (has_copy c t) c.start.layout.all) b.some (found_passes (has_copy c t) (suc c.start.layout.all) o (omega arith) (passes o t b))) b
+
+    owed_slot : (r : ℕ) → In r (owed_rows c.named c.copying c.start.layout.workers) → In r (carrying (mate c) (pending c.history) (carrier c inv) ++ owed_rows c.named c.copying c.start.layout.workers)
+    owed_slot r i = in_back (carrying (mate c) (pending c.history) (carrier c inv)) _ r i
+
+    listed_slot : (r q : ℕ) → IsRow c.start.layout r → c.holding r ≡ listed q → (m : Mark) → (c.words.link r).mark ≡ m → In r (carrying (mate c) (pending c.history) (carrier c inv) ++ owed_rows c.named c.copying c.start.layout.workers)
+    listed_slot r q row is Val val = in_front _ _ r (has_carrier r q row is (val_carries (c.words.link r).mark (c.words.twin r) (c.words.link (c.words.twin r)).mark val))
+    listed_slot r q row is Del del = let n = inv.naming.named r q row is del in owed_slot r (in_owed c.named c.copying c.start.layout.workers n.0 r n.1
+        (⊎_elim (λ x. inl (first_row (c.named n.0).first n.2.0 x ∙ n.2.2.row)) (λ x. inr (second_row (c.named n.0).second (c.copying n.0) n.2.0 x ∙ n.2.2.row)) n.2.1))
+    listed_slot r q row is Mov frozen = dite (ℕ_discrete (c.words.twin r) 0)
+        (λ none. in_front _ _ r (has_carrier r q row is (bare_carries (c.words.link r).mark (c.words.twin r) (c.words.link (c.words.twin r)).mark frozen none)))
+        (λ ne. let b : IsBound (rows_of_core c) r (c.words.twin r) = record { row = row; listed_is = (q, is); frozen = frozen; twin_is = refl; some = omega arith } in let t = c.words.twin r in let copy = inv.copies.bound r t b in ⊎_elim
+        (λ (i : (c.words.link t).mark ≡ Invalid). in_front _ _ r (has_carrier r q row is (moving_carries r t frozen refl i)))
+        (λ (v : (c.words.link t).mark ≡ Val). in_front _ _ r (has_mate r t copy.listed_is.0 copy.row copy.listed_is.1 (val_carries (c.words.link t).mark (c.words.twin t) (c.words.link (c.words.twin t)).mark v) (old_mate r t b v)))
+        copy.mark)
+    listed_slot r q row is Invalid invalid = ⊎_elim
+        (λ (h : (o : ℕ) × IsBound (rows_of_core c) o r). let b = h.1 in in_front _ _ r (has_mate r h.0 b.listed_is.0 b.row b.listed_is.1 (moving_carries h.0 r b.frozen b.twin_is invalid) (copy_mate h.0 r b.frozen b.twin_is)))
+        (λ (h : IsCopying (rows_of_core c) r). owed_slot r (in_owed c.named c.copying c.start.layout.workers h.who r h.inside
+        (inr (copy_row (c.named h.who).second (c.copying h.who) h.owed (inv.rooms.room h.who h.owed h.inside h.debt) h.debt ∙ h.copy))))
+        (inv.copies.owned r row (listed_out c.holding r (q, is)) invalid)
+
+    has_slot : (r : ℕ) → IsRow c.start.layout r → (h : Holding) → c.holding r ≡ h → IsLate c.guard c.words.epoch h → In r (carrying (mate c) (pending c.history) (carrier c inv) ++ owed_rows c.named c.copying c.start.layout.workers)
     has_slot r row (in_hand i) is late = absurd late
-    has_slot r row (listed q) is late = ⊎_elim
-        (λ val. in_front _ _ r (has_carrier r q row is val))
-        (λ del. let n = inv.naming.named r q row is del in in_back (carrying c.words.twin (pending c.history) (carrier c inv)) _ r (in_owed c.named c.copying c.start.layout.workers n.0 r n.1
-        (⊎_elim (λ x. inl (first_row (c.named n.0).first n.2.0 x ∙ n.2.2.row)) (λ x. inr (second_row (c.named n.0).second (c.copying n.0) n.2.0 x ∙ n.2.2.row)) n.2.1)))
-        (listed_mark c inv r q row is)
+    has_slot r row (listed q) is late = listed_slot r q row is (c.words.link r).mark refl
     has_slot r row (cut_by i) is late = let o = inv.holders.of_cut i r row is in absurd (not_later (c.guard i) (inv.cutting.on i o.1.0 o.0 o.1.1) (inv.guards.each i o.0) late)
       where
         not_later : (g : Guard) → IsOn g → GuardIs c.words.epoch (c.words.announced i) g → OnSince (c.words.epoch + 1) g → ⊥

@@ -28,6 +28,7 @@ use Rattle.crq_rule.proofs.Prefixes.{of_front, of_back, of_both, in_drop}
 use Rattle.crq_rule.proofs.Pendings.{puts_apart}
 use Rattle.crq_rule.proofs.BoundLaws.{numbers_grown, bounds_grown, bounds_less, bounds_used, permitted}
 use Rattle.crq_rule.proofs.BucketLaws.{tick_low, bucket_rises, same_bucket}
+use Rattle.crq_rule.proofs.CopyLaws.{unlinked_grown}
 use Rattle.crq_rule.proofs.Frames.{frame_moved}
 use Rattle.crq_rule.proofs.AheadLaws.{ahead_more}
 use Rattle.crq_rule.proofs.CallLaws.{carriers_same}
@@ -159,6 +160,8 @@ module _ (c : Core) (j : ℕ) (d : SettleDebt) (b : j < c.start.layout.workers) 
       (refusals_grown _ _ _ _ (λ k. no_begin j k d.event) inv.refusals)
       (swept_grown _ _ _ _ _ _ _ (λ k. no_begin j k d.event) inv.swept)
       bounds
+      inv.helps
+      (unlinked_grown _ _ _ (x ∷ []) (λ k. no_begin j k d.event) inv.unlinked)
 
 -- current isn't behind the event
 pub settled_keeps : (c : Core) (j : ℕ) (d : SettleDebt) → j < c.start.layout.workers → c.settling j ≡ Some d → lies_ahead d c.words.current ≡ true → Inv c → Inv (event_settled c j d)

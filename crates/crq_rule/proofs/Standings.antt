@@ -123,14 +123,15 @@ in_kept seeks r l ss s = cond_both (seeks || is_cell l.mark) (only_row r ss) ss 
 pub kept_in : (seeks : Bool) (r : ℕ) (l : Link) (ss : List Stand) → In r (rows_of ss) → In r (rows_of (kept_stands seeks r l ss))
 kept_in seeks r l ss i = cond_both (seeks || is_cell l.mark) (only_row r ss) ss (λ xs. In r (rows_of xs)) (λ _. only_in r ss i) (λ _. i)
 
-in_noted : (r : ℕ) (l : Link) (ss : List Stand) (s : Stand) → In s (noted r l ss) → In s ss ⊎ ((t : Stand) × In t ss × (t.row ≡ r) × (s ≡ noted_stand l t))
+-- a stand of which the row's link was noted was there, or is one on that row with its note
+pub in_noted : (r : ℕ) (l : Link) (ss : List Stand) (s : Stand) → In s (noted r l ss) → In s ss ⊎ ((t : Stand) × In t ss × (t.row ≡ r) × (s ≡ noted_stand l t))
 in_noted r l [] s i = absurd i
 in_noted r l (t ∷ ts) s i = ⊎_elim
     (cond_both (eqb t.row r) (noted_stand l t) t (λ z. s ≡ z → In s (t ∷ ts) ⊎ ((t' : Stand) × In t' (t ∷ ts) × (t'.row ≡ r) × (s ≡ noted_stand l t')))
     (λ yes e. inr (t, inl refl, eqb-true t.row r yes, e)) (λ _ e. inl (inl e)))
     (λ h. ⊎_elim (λ k. inl (inr k)) (λ k. inr (k.0, inr k.1, k.2, k.3)) (in_noted r l ts s h)) i
 
-noted_rows : (r : ℕ) (l : Link) (ss : List Stand) → rows_of (noted r l ss) ≡ rows_of ss
+pub noted_rows : (r : ℕ) (l : Link) (ss : List Stand) → rows_of (noted r l ss) ≡ rows_of ss
 noted_rows r l [] = refl
 noted_rows r l (t ∷ ts) = cond_both (eqb t.row r) (noted_stand l t) t (λ z. z.row ∷ rows_of (noted r l ts) ≡ t.row ∷ rows_of ts) (λ _. ap (λ xs. t.row ∷ xs) (noted_rows r l ts)) (λ _. ap (λ xs. t.row ∷ xs) (noted_rows r l ts))
 

@@ -1,11 +1,11 @@
 -- The invariant that is kept implies what is stated of lists, carriers, the history and walkers.
-use Rattle.std.proofs.Common.{◌≡◌, ◌⊎◌, ⊎_elim, inl, inr, ℕ, ◌^◌, ◌<◌, true, List, [], ◌∷◌, length, sym, refl, ap, ◌∙◌, subst, arith, ◌≢◌, Some}
+use Rattle.std.proofs.Common.{◌≡◌, ◌⊎◌, ⊎_elim, inl, inr, ℕ, ◌^◌, ◌<◌, true, List, [], ◌∷◌, length, sym, refl, ap, ◌∙◌, subst, arith}
 use Rattle.std.specs.Ordering.{nat_cmp, ordering_then, is_lt, MatchOrdering}
 use Rattle.std.specs.declared.cmp.Ordering.{Ordering}
 use Rattle.std.specs.declared.cmp.Ordering.TheVariants.{Less, Equal, Greater}
 use Rattle.std.proofs.lemmas.Cmp.{ranked}
 use Rattle.crq_base.specs.declared.event.Event.{Event}
-use Rattle.crq_base.specs.declared.words.Mark.TheVariants.{Val, Del}
+use Rattle.crq_base.specs.declared.words.Mark.TheVariants.{Val, Inv as Invalid}
 use Rattle.crq_base.specs.Histories.{outs, IsPending}
 use Rattle.crq_base.proofs.HistoryLaws.{began_one}
 use Rattle.crq_base.proofs.Verdicts.{contains_or}
@@ -13,19 +13,18 @@ use Rattle.crq_base.specs.Lists.{In}
 use Rattle.crq_base.specs.declared.entry.Entry.TheVariants.{Begin}
 use Rattle.crq_rule.specs.declared.view.Walk.{Walk}
 use Rattle.crq_rule.specs.Places.{IsRow, IsHead}
-use Rattle.crq_rule.specs.Core.{Core, Holding, cut_by, retired, IsOutside}
-use Rattle.crq_rule.specs.Parts.{ground_of, IsEvent, Leads, Reaches, IsGuarded}
+use Rattle.crq_rule.specs.Core.{Core, IsOutside}
+use Rattle.crq_rule.specs.Parts.{ground_of, IsEvent, Leads, Reaches}
 use Rattle.crq_rule.specs.Ranks.{rank, Rises}
-use Rattle.crq_rule.specs.ListParts.{ranks, IsFinal, MarkFits}
+use Rattle.crq_rule.specs.ListParts.{ranks, MarkFits, IsShut}
 use Rattle.crq_rule.specs.HistoryParts.{StandsFrom}
 use Rattle.crq_rule.specs.Invariant.{Inv}
-use Rattle.crq_rule.specs.Stated.{IsCovered, Precedes, Ascends, IsListOf, LeadsOn, IsInHand, ListsHold, CarriersHold, HistoryHolds, WalkersHold, StandsIn}
+use Rattle.crq_rule.specs.Stated.{IsCovered, Precedes, Ascends, IsListOf, LeadsOn, IsInHand, ListsHold, CarriersHold, HistoryHolds, WalkersHold, IsKeptIn, IsShutHead}
 use Rattle.crq_rule.specs.ListKinds.{is_cell}
-use Rattle.crq_rule.proofs.PartLaws.{sort}
-use Rattle.crq_rule.proofs.HeadLaws.{cell_listed, val_carries}
-use Rattle.crq_rule.proofs.SteadyLaws.{present_is, guarded_out, outside_mark, listed_mark, outside_twin, open_is, shut_is}
+use Rattle.crq_rule.proofs.HeadLaws.{cell_listed}
+use Rattle.crq_rule.proofs.SteadyLaws.{open_is, next_is, next_ready, shut_is}
 use Rattle.crq_rule.proofs.CoverLaws.{names_covered}
-use Rattle.crq_rule.proofs.SearchLaws.{with_twins, follow_rises, stand_covered, own_walk, settled_left}
+use Rattle.crq_rule.proofs.SearchLaws.{with_twins, stand_covered, own_walk, settled_left}
 
 -- Order
 
@@ -81,24 +80,28 @@ module _ (c : Core) (inv : Inv c) where
   out_of_hand : (r : ℕ) → (IsInHand c r → ⊥) → IsOutside c.holding r
   out_of_hand r out j held = out (j, held)
 
-  of_list : (r : ℕ) → IsRow c.start.layout r → (c.words.link r).mark ≡ Val → (IsInHand c r → ⊥) → (q : ℕ) × IsHead q × In r (c.chain q)
-  of_list r b val out = let at = cell_listed (c.holding r) (c.words.link r).mark (ap is_cell val) (out_of_hand r out) (inv.marks.mark r b) in let o = inv.holders.of_chain at.0 r b at.1 in (at.0, o.0, o.1)
+  of_list : (r : ℕ) → IsRow c.start.layout r → ((c.words.link r).mark ≡ Val) ⊎ ((c.words.link r).mark ≡ Invalid) → (IsInHand c r → ⊥) → (q : ℕ) × IsHead q × In r (c.chain q)
+  of_list r b cell out = let at = cell_listed (c.holding r) (c.words.link r).mark (⊎_elim (λ val. ap is_cell val) (λ invalid. ap is_cell invalid) cell) (out_of_hand r out) (inv.marks.mark r b) in let o = inv.holders.of_chain at.0 r b at.1 in (at.0, o.0, o.1)
 
-  -- a row that was cut or retired is dead
-  gone_dead : (r : ℕ) (h : Holding) → IsRow c.start.layout r → c.holding r ≡ h → sort h ≢ 0 → IsFinal (c.words.link r).mark → (c.words.link r).mark ≡ Del
-  gone_dead r h b is ne final = ⊎_elim (λ val. absurd (subst IsFinal val final)) (λ d. d) (outside_mark c inv r b (λ j held. ne (ap sort (sym is ∙ held))))
+  -- a shut head has no list
+  shut_list : (q : ℕ) → IsHead q → IsShut c.words.control.generation q (c.words.head q) → IsShutHead c.words.control (c.words.head q) × (c.chain q ≡ [])
+  shut_list q b shut = ((shut.mark, shut.empty, shut.older), no_rows q (c.chain q) b (λ r i. (inv.holders.in_chain q r b i).0) shut.empty (inv.chains.leads q b))
 
   pub lists_hold : ListsHold c
   lists_hold = record {
     shaped = inv.sizes.now.size;
+    shaped_next = inv.sizes.now.next;
     opened = λ q b o. (open_is c inv q b o, list_of q b);
-    shut = λ q b o. let s = shut_is c inv q b o in ((s.mark, s.empty, s.older), no_rows q (c.chain q) b (λ r i. (inv.holders.in_chain q r b i).0) s.empty (inv.chains.leads q b));
+    next = λ q b n. ⊎_elim (λ ready. inl ((ready.1, ready.0), list_of q b)) (λ shut. inr (shut_list q b shut)) (next_is c inv q b n);
+    order = λ p q a b o frozen n. let ready = next_ready c inv p q a b o frozen n in (ready.1, ready.0);
+    shut = λ q b o n. shut_list q b (shut_is c inv q b o n);
     covered = λ k g r v. (inv.lanes.is_row r (k, g, v), leads_on k g r v);
-    marked = λ r q b is. listed_mark c inv r q b is;
+    -- a copy that isn't valid yet is listed too
+    marked = λ r q b is. inv.marks.first q r b is;
     present = of_list;
-    cut = λ r j b is. gone_dead r (cut_by j) b is (λ z. omega arith) (subst (λ h. MarkFits h (c.words.link r).mark) is (inv.marks.mark r b));
-    retired = λ r t b is. gone_dead r (retired t) b is (λ z. omega arith) (subst (λ h. MarkFits h (c.words.link r).mark) is (inv.marks.mark r b));
-    twins = λ r b out. outside_twin c inv r b (out_of_hand r out);
+    cut = λ r j b is. subst (λ h. MarkFits h (c.words.link r).mark) is (inv.marks.mark r b);
+    retired = λ r t b is. subst (λ h. MarkFits h (c.words.link r).mark) is (inv.marks.mark r b);
+    twins = λ r b out. inv.marks.bare r b (out_of_hand r out);
     named = λ r q b is dead. let n = inv.naming.named r q b is dead in (n.0, n.1, (n.2.0, n.2.1, n.2.2.row, n.2.2.event));
   }
 
@@ -128,18 +131,14 @@ module _ (c : Core) (inv : Inv c) where
 
   -- 8. Walkers
 
-  -- such a row is covered, and carries the event
-  from_carries : (k : ℕ) (w : Walk) (g : ℕ) (e : Event) → k < c.start.layout.workers → c.walk k ≡ Some w → StandsFrom c.words.link c.words.event g w.at e → (r : ℕ) × (0 < w.at) × StandsIn c e r × Reaches c.words.link c.words.twin w.at r
-  from_carries k w g e b is from = let t = (inv.walkers.walked k w b is).2 in
-      let v = stand_covered c inv k w.at b (⊎_elim (λ none. let some = from.some_row in absurd (omega arith)) (λ i. i.0) t.at_stand) in
-      let to = (follow_rises c inv k v.0 w.at from.row from.follows.through v.1 from.follows.path).1 in let at : IsGuarded (ground_of c) from.row = (k, v.0, to) in
-      let row = inv.lanes.is_row from.row at in let out = guarded_out c inv from.row at in let val = present_is c inv from.row row out from.kept in
-      let listed_at = cell_listed (c.holding from.row) (c.words.link from.row).mark (ap is_cell val) out (inv.marks.mark from.row row) in (
-        from.row,
-        from.some_row,
-        ((row, listed_at, val_carries (c.words.link from.row).mark (c.words.twin from.row) (c.words.link (c.words.twin from.row)).mark val), from.holds),
-        record { through = from.follows.through; path = with_twins c.words.link c.words.twin w.at from.row from.follows.through from.follows.path },
-      )
+  -- such a row is reached by links and twins too
+  from_kept : (k : ℕ) (w : Walk) (g : ℕ) (e : Event) → StandsFrom c.words.link c.words.event g w.at e → (r : ℕ) × (0 < w.at) × IsKeptIn c g e r × Reaches c.words.link c.words.twin w.at r
+  from_kept k w g e from = (
+    from.row,
+    from.some_row,
+    (from.kept, from.of, from.holds),
+    record { through = from.follows.through; path = with_twins c.words.link c.words.twin w.at from.row from.follows.through from.follows.path },
+  )
 
   pub walkers_hold : WalkersHold c
   walkers_hold = record {
@@ -149,7 +148,7 @@ module _ (c : Core) (inv : Inv c) where
     owed = λ k i s d take. (inv.walkers.seen k s take.inside take.sees).owed i d;
     at = λ k w b is. let t = inv.walkers.walked k w b is in (t.0, t.1, t.2.head.0, t.2.head.1, ⊎_elim inl (λ i. inr (stand_covered c inv k w.at b i.0)) t.2.at_stand);
     of = λ k b s w walks. (own_walk c inv k s w walks.inside walks.sees walks.walks).of b;
-    left = λ k s w e walks head sought due. from_carries k w s.table.generation e walks.inside walks.walks ((own_walk c inv k s w walks.inside walks.sees walks.walks).left e due.put due.pending.kept head sought);
+    left = λ k s w e walks head sought due. from_kept k w s.table.generation e ((own_walk c inv k s w walks.inside walks.sees walks.walks).left e due.put due.pending.kept head sought);
     ended = λ k s w e walks none head sought put. ⊎_elim (λ o. o)
         (λ kept. let from = (own_walk c inv k s w walks.inside walks.sees walks.walks).left e put kept head sought in let some = from.some_row in absurd (omega arith)) (contains_or (outs c.history) e);
     done = λ k s w e walks none low due. (own_walk c inv k s w walks.inside walks.sees walks.walks).done none e due.put due.pending.kept low;

@@ -1,149 +1,260 @@
--- What holds as long as no table moves. No other file opens the part that says so.
-use Rattle.std.proofs.Common.{◌≡◌, ◌⊎◌, ⊎_elim, inl, inr, true, false, Bool, ℕ, ◌<◌, Some, None, refl, sym, ap, ◌∙◌, arith, subst}
-use Rattle.std.proofs.lemmas.Bool.{false≢true}
+-- What holds as long as no table follows on another. No other file opens the part that says so.
+use Rattle.std.proofs.Common.{◌≡◌, ◌⊎◌, ⊎_elim, inl, inr, true, false, Bool, ℕ, ◌≢◌, ◌+◌, ◌<◌, ◌==◌, ◌||◌, ◌&&◌, cond, Some, None, refl, sym, ap, ◌∙◌, arith, subst, eq-eqb, ne_eqb}
+use Rattle.std.proofs.lemmas.Bool.{false≢true, eqb-true}
+use Rattle.std.proofs.lemmas.Nat.{pow_pos}
+use Rattle.std.proofs.Math.Nat.{mod-lt}
 use Rattle.crq_base.specs.declared.event.Event.{Event}
 use Rattle.crq_base.specs.declared.words.Link.{Link}
-use Rattle.crq_base.specs.declared.words.Mark.TheVariants.{Val, Mov, Del}
+use Rattle.crq_base.specs.declared.words.Mark.{Mark}
+use Rattle.crq_base.specs.declared.words.Mark.TheVariants.{Val, Inv as Invalid, Mov, Del}
 use Rattle.crq_base.specs.declared.words.Control.{Control}
 use Rattle.crq_base.specs.Histories.{IsPending}
 use Rattle.crq_base.specs.Lists.{In}
+use Rattle.crq_base.specs.Words.{flag_number}
 use Rattle.crq_rule.specs.declared.debts.CutDebt.{CutDebt}
 use Rattle.crq_rule.specs.declared.layout.Start.{Start}
 use Rattle.crq_rule.specs.declared.view.Sight.{Sight}
 use Rattle.crq_rule.specs.Places.{IsRow, IsHead}
 use Rattle.crq_rule.specs.Core.{Core, Holding, in_hand, listed, IsOutside, DeadNames, HasName}
-use Rattle.crq_rule.specs.Parts.{Fits, ground_of, IsGuarded}
-use Rattle.crq_rule.specs.Ranks.{Shape, list_in, head_of, IsHeadIn, IsOpen}
-use Rattle.crq_rule.specs.ListParts.{IsShut, IsOldMark, IsOldHead, IsNewHead}
+use Rattle.crq_rule.specs.Parts.{newest, Fits, ground_of, IsGuarded}
+use Rattle.crq_rule.specs.Ranks.{Shape, shape_of, next_of, bucket, head_for, head_in, list_in, list_by, head_of, IsHeadIn, IsOpen, tells_of, IsTold}
+use Rattle.crq_rule.specs.ListParts.{IsShut, IsPrepared, IsOldMark, IsOldHead, IsNewHead}
 use Rattle.crq_rule.specs.Steady.{Steady}
-use Rattle.crq_rule.specs.Invariant.{Inv}
+use Rattle.crq_rule.specs.Stated.{IsNext}
+use Rattle.crq_rule.specs.Copies.{IsBound, IsCopying}
+use Rattle.crq_rule.specs.Invariant.{rows_of_core, Inv}
+use Rattle.crq_rule.proofs.CoverLaws.{copy_footing, footing_covered}
 use Rattle.crq_rule.proofs.HeadLaws.{carries_kept}
 use Rattle.crq_rule.proofs.SizeLaws.{fitting_list}
 
-val_mov : Val ≡ Mov → ⊥
-val_mov e = cc
-
-del_mov : Del ≡ Mov → ⊥
-del_mov e = cc
+val_invalid : Val ≡ Invalid → ⊥
+val_invalid e = cc
 
 listed_hand : (q j : ℕ) → listed q ≡ in_hand j → ⊥
 listed_hand q j e = cc
 
+-- a mark that isn't that of a copy which isn't valid
+mark_sorts : (m : Mark) → (m ≡ Invalid → ⊥) → ((m ≡ Val) ⊎ (m ≡ Del)) ⊎ (m ≡ Mov)
+mark_sorts Val valid = inl (inl refl)
+mark_sorts Invalid valid = absurd (valid refl)
+mark_sorts Mov valid = inr refl
+mark_sorts Del valid = inl (inr refl)
+
+-- control moves if it counts one table more
+moving_one : (b : Bool) → 0 < flag_number b → b ≡ true
+moving_one true some = refl
+moving_one false some = absurd (omega arith)
+
+not_false : (b : Bool) → (b ≡ false → ⊥) → b ≡ true
+not_false true n = refl
+not_false false n = absurd (n refl)
+
+old_mark : (b : Bool) (m : Mark) → IsOldMark b m → (m ≡ Val) ⊎ ((b ≡ true) × (m ≡ Mov))
+old_mark false m is = inl is
+old_mark true m is = ⊎_elim inl (λ moved. inr (refl, moved)) is
+
+-- what tells says, and what is said tells
+or_right : (a : Bool) → a || true ≡ true
+or_right true = refl
+or_right false = refl
+
+pub told_is : (x : Control) (g : ℕ) → IsTold x g → tells_of x g ≡ true
+told_is x g told = ⊎_elim (λ (now : g ≡ x.generation). ap (λ b. b || (x.moving && (g == x.generation + 1))) (eq-eqb g x.generation now))
+    (λ (h : (x.moving ≡ true) × (g ≡ x.generation + 1)). (λ i. (g == x.generation) || (h.0 i && eq-eqb g (x.generation + 1) h.1 i)) ∙ or_right (g == x.generation)) told
+
+told_by : (a m b : Bool) → a || (m && b) ≡ true → (a ≡ true) ⊎ ((m ≡ true) × (b ≡ true))
+told_by true m b is = inl refl
+told_by false true b is = inr (refl, is)
+told_by false false b is = absurd (false≢true is)
+
+pub is_told : (x : Control) (g : ℕ) → tells_of x g ≡ true → IsTold x g
+is_told x g is = ⊎_elim (λ now. inl (eqb-true g x.generation now)) (λ (h : (x.moving ≡ true) × ((g == x.generation + 1) ≡ true)). inr (h.0, eqb-true g (x.generation + 1) h.1)) (told_by (g == x.generation) x.moving (g == x.generation + 1) is)
+
+-- what is told of and older than the newest table is of the open one, which moves
+aged_now : (x : Control) (g : ℕ) → IsTold x g → g < newest x → (x.moving ≡ true) × (g ≡ x.generation)
+aged_now x g told low = ⊎_elim (λ (now : g ≡ x.generation). (moving_one x.moving (omega arith), now))
+    (λ (h : (x.moving ≡ true) × (g ≡ x.generation + 1)). let high : newest x ≡ x.generation + 1 = ap (λ b. x.generation + flag_number b) h.0 in let is = h.1 in absurd (omega arith)) told
+
+-- the list of an event is one of the table
+in_table : (shape : ℕ → Shape) (g : ℕ) (e : Event) → IsHeadIn g (shape g) (list_in shape g e)
+unfolding head_for
+in_table shape g e = let low = mod-lt (bucket (shape g) e.time) (pow_pos (shape g).log) in (omega arith, omega arith)
+
 module _ (start : Start) (control : Control) (link : ℕ → Link) (holding : ℕ → Holding) (names : ℕ → DeadNames) where
-  -- each row that is outside hands was so, and is as it was or dead now, or it is a present one of the open table
-  pub steady_rows : (link' : ℕ → Link) (holding' : ℕ → Holding)
-      → ((r : ℕ) → IsRow start.layout r → IsOutside holding' r → (IsOutside holding r × ((link' r).generation ≡ (link r).generation) × (((link' r).mark ≡ (link r).mark) ⊎ ((link' r).mark ≡ Del)))
-      ⊎ (((link' r).generation ≡ control.generation) × ((link' r).mark ≡ Val)))
+  -- each row that is outside hands was so, or is of a table that control tells of
+  pub steady_rows : (link' : ℕ → Link) (holding' : ℕ → Holding) → ((r : ℕ) → IsRow start.layout r → IsOutside holding' r → (IsOutside holding r × ((link' r).generation ≡ (link r).generation)) ⊎ IsTold control (link' r).generation)
       → Steady start control link holding names → Steady start control link' holding' names
   steady_rows link' holding' was old = record {
     still = old.still;
     first = old.first;
-    rows = λ r b out. ⊎_elim (λ h. h.1 ∙ old.rows r b h.0) (λ now. now.0) (was r b out);
-    marks = λ r b out. ⊎_elim (λ h. ⊎_elim (λ same. ⊎_elim (λ v. inl (same ∙ v)) (λ d. inr (same ∙ d)) (old.marks r b h.0)) inr h.2) (λ now. inl now.1) (was r b out);
+    rows = λ r b out. ⊎_elim (λ (h : IsOutside holding r × ((link' r).generation ≡ (link r).generation)). subst (IsTold control) (sym h.1) (old.rows r b h.0)) (λ now. now) (was r b out);
     named = old.named;
     single = old.single;
   }
 
-  -- each name was there, or is of a row of the open table
-  pub steady_names : (names' : ℕ → DeadNames) → ((k : ℕ) (d : CutDebt) → k < start.layout.workers → HasName (names' k) d → HasName (names k) d ⊎ ((r : ℕ) × IsRow start.layout r × IsOutside holding r × (d.generation ≡ (link r).generation)))
-      → ((k : ℕ) → k < start.layout.workers → (names k).second ≡ None → (names' k).second ≡ None) → Steady start control link holding names → Steady start control link holding names'
+  -- each name was there, or is of such a table
+  pub steady_names : (names' : ℕ → DeadNames) → ((k : ℕ) (d : CutDebt) → k < start.layout.workers → HasName (names' k) d → HasName (names k) d ⊎ IsTold control d.generation)
+      → (start.moves ≡ false → (k : ℕ) → k < start.layout.workers → (names k).second ≡ None → (names' k).second ≡ None) → Steady start control link holding names → Steady start control link holding names'
   steady_names names' was alone old = record {
     still = old.still;
     first = old.first;
     rows = old.rows;
-    marks = old.marks;
-    named = λ k d b has. ⊎_elim (old.named k d b) (λ of. of.3 ∙ old.rows of.0 of.1 of.2) (was k d b has);
-    single = λ k b. alone k b (old.single k b);
+    named = λ k d b has. ⊎_elim (old.named k d b) (λ told. told) (was k d b has);
+    single = λ k still b. alone still k b (old.single k still b);
   }
 
+  -- control begins to move from its table
+  pub steady_moves : (next : Control) → start.moves ≡ true → control.moving ≡ false → next.generation ≡ control.generation → Steady start control link holding names → Steady start next link holding names
+  steady_moves next moves steady same old = record {
+    still = λ no_move. absurd (false≢true (sym no_move ∙ moves));
+    first = same ∙ old.first;
+    rows = λ r b out. told (link r).generation (old.rows r b out);
+    named = λ k d b has. told d.generation (old.named k d b has);
+    single = old.single;
+  }
+    where
+      told : (g : ℕ) → IsTold control g → IsTold next g
+      told g is = ⊎_elim (λ now. inl (now ∙ sym same)) (λ (h : (control.moving ≡ true) × (g ≡ control.generation + 1)). absurd (false≢true (sym steady ∙ h.0))) is
+
 module _ (c : Core) (inv : Inv c) where
-  pub steady_still : c.words.control.moving ≡ false
+  -- a table that may not move doesn't
+  pub steady_still : c.start.moves ≡ false → c.words.control.moving ≡ false
   steady_still = inv.steady.still
 
-  -- a control word that was found is the present one
-  fitting_now : (x : Control) → Fits c.start c.words.control c.shape x → x ≡ c.words.control
-  fitting_now x fits = go x.moving refl
+  pub moves_so : c.words.control.moving ≡ true → c.start.moves ≡ true
+  moves_so moves = not_false c.start.moves (λ no_move. false≢true (sym (inv.steady.still no_move) ∙ moves))
+
+  -- a control word that was found is of the open table
+  fitting_now : (x : Control) → Fits c.start c.words.control c.shape x → x.generation ≡ c.words.control.generation
+  fitting_now x fits = let low = fits.first in let high = fits.low in let first = inv.steady.first in omega arith
+
+  fitting_shape : (x : Control) → Fits c.start c.words.control c.shape x → shape_of x ≡ shape_of c.words.control
+  fitting_shape x fits = sym fits.size ∙ (ap c.shape (fitting_now x fits) ∙ inv.sizes.now.size)
+
+  pub found_generation : (j : ℕ) (x : Control) → j < c.start.layout.workers → (c.found j).control ≡ Some x → x.generation ≡ c.words.control.generation
+  found_generation j x b is = fitting_now x (inv.finds.controls j x b is)
+
+  pub found_list : (j : ℕ) (x : Control) → j < c.start.layout.workers → (c.found j).control ≡ Some x → (e : Event) → head_of x e ≡ head_of c.words.control e
+  found_list j x b is e = let fits = inv.finds.controls j x b is in λ i. head_in (fitting_now x fits i) (fitting_shape x fits i) e
+
+  pub found_open : (j q : ℕ) (x : Control) → j < c.start.layout.workers → (c.found j).control ≡ Some x → IsOpen x q → IsOpen c.words.control q
+  found_open j q x b is opened = let fits = inv.finds.controls j x b is in subst (λ (z : ℕ × Shape). IsHeadIn z.0 z.1 q) (λ i. (fitting_now x fits i, fitting_shape x fits i)) opened
+
+  -- one that moves is the present one
+  pub found_moving : (j : ℕ) (x : Control) → j < c.start.layout.workers → (c.found j).control ≡ Some x → x.moving ≡ true → x ≡ c.words.control
+  found_moving j x b is moves = let fits = inv.finds.controls j x b is in fits.same moves (fitting_now x fits)
+
+  pub found_still : (j : ℕ) (x : Control) → j < c.start.layout.workers → (c.found j).control ≡ Some x → c.start.moves ≡ false → x.moving ≡ false
+  found_still j x b is no_move = go x.moving refl
     where
-      now : Fits c.start c.words.control c.shape c.words.control
-      now = inv.sizes.now
+      go : (m : Bool) → x.moving ≡ m → m ≡ false
+      go false at = refl
+      go true at = absurd (false≢true (sym (steady_still no_move) ∙ (ap (λ (y : Control). y.moving) (sym (found_moving j x b is at)) ∙ at)))
 
-      generation : x.generation ≡ c.words.control.generation
-      generation = let low = fits.first in let high = fits.low in let first = inv.steady.first in omega arith
-
-      go : (m : Bool) → x.moving ≡ m → x ≡ c.words.control
-      go true moves = fits.same moves generation
-      go false still = let size = sym fits.size ∙ (ap c.shape generation ∙ now.size) in λ i. record {
-        generation = generation i;
-        moving = (still ∙ sym inv.steady.still) i;
-        log = ap (λ (s : Shape). s.log) size i;
-        shift = ap (λ (s : Shape). s.shift) size i;
-        new_log = (fits.spelled.steady_log still ∙ sym (now.spelled.steady_log inv.steady.still)) i;
-        new_shift = (fits.spelled.steady_shift still ∙ sym (now.spelled.steady_shift inv.steady.still)) i;
-      }
-
-  pub found_now : (j : ℕ) (x : Control) → j < c.start.layout.workers → (c.found j).control ≡ Some x → x ≡ c.words.control
-  found_now j x b is = fitting_now x (inv.finds.controls j x b is)
-
-  -- and so is a table that a take read
-  pub seen_now : (j : ℕ) (s : Sight) → j < c.start.layout.workers → c.sight j ≡ Some s → s.table ≡ c.words.control
-  seen_now j s b is = fitting_now s.table (inv.finds.sights j s b is).0
+  -- and a table that a take read is the open one
+  pub seen_generation : (j : ℕ) (s : Sight) → j < c.start.layout.workers → c.sight j ≡ Some s → s.table.generation ≡ c.words.control.generation
+  seen_generation j s b is = fitting_now s.table (inv.finds.sights j s b is).0
 
   -- the list of an event in the open table
   pub open_list : (e : Event) → list_in c.shape c.words.control.generation e ≡ head_of c.words.control e
   open_list e = fitting_list c.start c.words.control c.shape c.words.control inv.sizes.now e
 
-  -- a row that is in no hand is of the open table, and so is a covered one, and what a name names
-  pub outside_now : (r : ℕ) → IsRow c.start.layout r → IsOutside c.holding r → (c.words.link r).generation ≡ c.words.control.generation
-  outside_now r row out = inv.steady.rows r row out
+  -- What a control word that was found tells of
 
-  pub guarded_now : (r : ℕ) → IsGuarded (ground_of c) r → (c.words.link r).generation ≡ c.words.control.generation
-  guarded_now r v = outside_now r (inv.lanes.is_row r v) (λ j. inv.cover.free v.0 v.1 r j v.2)
+  -- the shape of a table that it tells of
+  fits_told : (x : Control) → Fits c.start c.words.control c.shape x → (g : ℕ) → IsTold x g → (e : Event) → list_in c.shape g e ≡ list_by x g e
+  fits_told x fits g told e = ap (λ s. head_in g s e) (⊎_elim
+      (λ (now : g ≡ x.generation). ap c.shape now ∙ (fits.size ∙ sym (ap (λ b. cond b (shape_of x) (next_of x)) (eq-eqb g x.generation now))))
+      (λ (h : (x.moving ≡ true) × (g ≡ x.generation + 1)). ap c.shape h.1 ∙ (fits.next h.0 ∙ sym (ap (λ b. cond b (shape_of x) (next_of x)) (ne_eqb g x.generation (later g x.generation h.1)))))
+      told)
+    where
+      later : (g n : ℕ) → g ≡ n + 1 → g ≢ n
+      later g n is same = absurd (omega arith)
 
-  pub named_now : (k : ℕ) (d : CutDebt) → k < c.start.layout.workers → HasName (c.named k) d → (d.generation ≡ c.words.control.generation) × (d.head ≡ head_of c.words.control d.event)
-  named_now k d b has = let g = inv.steady.named k d b has in (g, (inv.dues.named k d b has).1 ∙ (ap (λ g. list_in c.shape g d.event) g ∙ open_list d.event))
+  pub found_told : (j : ℕ) (x : Control) → j < c.start.layout.workers → (c.found j).control ≡ Some x → (g : ℕ) → IsTold x g → (e : Event) → list_in c.shape g e ≡ list_by x g e
+  found_told j x b is = fits_told x (inv.finds.controls j x b is)
 
-  -- a row that is in no hand is present or dead, and has no twin
-  pub outside_mark : (r : ℕ) → IsRow c.start.layout r → IsOutside c.holding r → ((c.words.link r).mark ≡ Val) ⊎ ((c.words.link r).mark ≡ Del)
-  outside_mark r row out = inv.steady.marks r row out
+  -- what a control word that was found tells of, the present one tells of too
+  pub still_told : (j : ℕ) (x : Control) → j < c.start.layout.workers → (c.found j).control ≡ Some x → (g : ℕ) → IsTold x g → IsTold c.words.control g
+  still_told j x b is g told = ⊎_elim (λ (now : g ≡ x.generation). inl (now ∙ found_generation j x b is))
+      (λ (h : (x.moving ≡ true) × (g ≡ x.generation + 1)). subst (λ y. IsTold y g) (found_moving j x b is h.0) (inr h)) told
 
-  pub present_is : (r : ℕ) → IsRow c.start.layout r → IsOutside c.holding r → ((c.words.link r).mark ≡ Val) ⊎ ((c.words.link r).mark ≡ Mov) → (c.words.link r).mark ≡ Val
-  present_is r row out kept = ⊎_elim (λ v. v) (λ m. absurd (⊎_elim (λ v. val_mov (sym v ∙ m)) (λ d. del_mov (sym d ∙ m)) (outside_mark r row out))) kept
-
-  pub listed_mark : (r q : ℕ) → IsRow c.start.layout r → c.holding r ≡ listed q → ((c.words.link r).mark ≡ Val) ⊎ ((c.words.link r).mark ≡ Del)
-  listed_mark r q row is = outside_mark r row (λ j held. listed_hand q j (sym is ∙ held))
-
-  pub outside_twin : (r : ℕ) → IsRow c.start.layout r → IsOutside c.holding r → c.words.twin r ≡ 0
-  outside_twin r row out = inv.marks.bare r row out (λ m. ⊎_elim (λ v. val_mov (sym v ∙ m)) (λ d. del_mov (sym d ∙ m)) (outside_mark r row out))
+  -- a row that is in no hand is of the open table, or of the one that it moves into, and so is a covered one, and what a name names
+  pub outside_told : (r : ℕ) → IsRow c.start.layout r → IsOutside c.holding r → IsTold c.words.control (c.words.link r).generation
+  outside_told r row out = inv.steady.rows r row out
 
   pub guarded_out : (r : ℕ) → IsGuarded (ground_of c) r → IsOutside c.holding r
   guarded_out r v j held = inv.cover.free v.0 v.1 r j v.2 held
 
-  pub guarded_twin : (r : ℕ) → IsGuarded (ground_of c) r → c.words.twin r ≡ 0
-  guarded_twin r v = outside_twin r (inv.lanes.is_row r v) (guarded_out r v)
+  pub guarded_told : (r : ℕ) → IsGuarded (ground_of c) r → IsTold c.words.control (c.words.link r).generation
+  guarded_told r v = outside_told r (inv.lanes.is_row r v) (guarded_out r v)
 
-  -- the heads of the open table are those that are present, and the others are shut
+  pub named_told : (k : ℕ) (d : CutDebt) → k < c.start.layout.workers → HasName (c.named k) d → IsTold c.words.control d.generation
+  named_told k d b has = inv.steady.named k d b has
+
+  -- a row is frozen only where the table moves, and is of that
+  pub frozen_now : (r : ℕ) → IsRow c.start.layout r → IsOutside c.holding r → (c.words.link r).mark ≡ Mov → (c.words.control.moving ≡ true) × ((c.words.link r).generation ≡ c.words.control.generation)
+  frozen_now r row out frozen = aged_now c.words.control (c.words.link r).generation (outside_told r row out) (inv.marks.aged r row out frozen)
+
+  pub frozen_moves : (r : ℕ) → IsRow c.start.layout r → IsOutside c.holding r → (c.words.link r).mark ≡ Mov → c.words.control.moving ≡ true
+  frozen_moves r row out frozen = (frozen_now r row out frozen).0
+
+  -- where the table may not move, a row that is in no hand is present or dead
+  pub still_mark : c.start.moves ≡ false → (r : ℕ) → IsRow c.start.layout r → IsOutside c.holding r → ((c.words.link r).mark ≡ Val) ⊎ ((c.words.link r).mark ≡ Del)
+  still_mark no_move r row out = ⊎_elim (λ m. m) (λ frozen. absurd (unfrozen r row out frozen)) (mark_sorts (c.words.link r).mark (λ invalid. ⊎_elim
+      (λ (h : (o : ℕ) × IsBound (rows_of_core c) o r). unfrozen h.0 h.1.row (λ j held. listed_hand h.1.listed_is.0 j (sym h.1.listed_is.1 ∙ held)) h.1.frozen)
+      (λ (h : IsCopying (rows_of_core c) r). let fits = inv.copies.debt h.who h.owed h.inside h.debt in
+      let v = footing_covered (ground_of c) c.cut c.holding inv.cover h.who h.owed.old h.inside (copy_footing c.rows c.old c.copying h.who h.owed h.debt).0 in
+      let g : IsGuarded (ground_of c) h.owed.old = (h.who, v.0, v.1) in unfrozen h.owed.old (inv.lanes.is_row h.owed.old g) (guarded_out h.owed.old g) (ap (λ (l : Link). l.mark) fits.last ∙ fits.frozen))
+      (inv.copies.owned r row out invalid)))
+    where
+      unfrozen : (o : ℕ) → IsRow c.start.layout o → IsOutside c.holding o → (c.words.link o).mark ≡ Mov → ⊥
+      unfrozen o row out frozen = false≢true (sym (steady_still no_move) ∙ frozen_moves o row out frozen)
+
+  -- the heads of the open table are present, or frozen where it moves; those of the next one are prepared, or shut still; and the others are shut
   open_now : (q : ℕ) → IsOpen c.words.control q → IsOldHead c.words.control c.shape q
   open_now q o = subst (λ s. IsHeadIn c.words.control.generation s q) (sym inv.sizes.now.size) o
 
-  not_new : (q : ℕ) → IsNewHead c.words.control c.shape q → ⊥
-  not_new q n = false≢true (sym inv.steady.still ∙ n.0)
+  pub open_is : (q : ℕ) → IsHead q → IsOpen c.words.control q → (((c.words.head q).mark ≡ Val) ⊎ ((c.words.control.moving ≡ true) × ((c.words.head q).mark ≡ Mov))) × ((c.words.head q).generation ≡ c.words.control.generation)
+  open_is q b o = let h = inv.heads.old q b (open_now q o) in (old_mark c.words.control.moving (c.words.head q).mark h.1, h.0)
 
-  pub open_is : (q : ℕ) → IsHead q → IsOpen c.words.control q → ((c.words.head q).mark ≡ Val) × ((c.words.head q).generation ≡ c.words.control.generation)
-  open_is q b o = let h = inv.heads.old q b (open_now q o) in (subst (λ m. IsOldMark m (c.words.head q).mark) inv.steady.still h.1, h.0)
+  pub next_now : (q : ℕ) → IsNext c.words.control q → IsNewHead c.words.control c.shape q
+  next_now q n = (n.0, subst (λ s. IsHeadIn (c.words.control.generation + 1) s q) (sym (inv.sizes.now.next n.0)) n.1)
 
-  pub shut_is : (q : ℕ) → IsHead q → (IsOpen c.words.control q → ⊥) → IsShut c.words.control.generation q (c.words.head q)
-  shut_is q b out = inv.heads.other q b (λ o. out (subst (λ s. IsHeadIn c.words.control.generation s q) inv.sizes.now.size o)) (not_new q)
+  pub next_is : (q : ℕ) → IsHead q → IsNext c.words.control q → IsPrepared (c.words.control.generation + 1) (c.words.head q) ⊎ IsShut c.words.control.generation q (c.words.head q)
+  next_is q b n = inv.heads.new q b (next_now q n)
+
+  pub next_ready : (p q : ℕ) → IsHead p → IsHead q → IsOpen c.words.control p → (c.words.head p).mark ≡ Mov → IsNext c.words.control q → IsPrepared (c.words.control.generation + 1) (c.words.head q)
+  next_ready p q a b o frozen n = inv.heads.order p q a b (open_now p o) frozen (next_now q n)
+
+  pub shut_is : (q : ℕ) → IsHead q → (IsOpen c.words.control q → ⊥) → (IsNext c.words.control q → ⊥) → IsShut c.words.control.generation q (c.words.head q)
+  shut_is q b out none = inv.heads.other q b (λ o. out (subst (λ s. IsHeadIn c.words.control.generation s q) inv.sizes.now.size o))
+      (λ n. none (n.0, subst (λ s. IsHeadIn (c.words.control.generation + 1) s q) (inv.sizes.now.next n.0) n.1))
+
+  -- a listed row is of a head of the open table, or of the one that it moves into
+  pub listed_head : (q r : ℕ) → IsHead q → In r (c.chain q) → (IsOldHead c.words.control c.shape q × ((c.words.link r).generation ≡ c.words.control.generation)) ⊎ (IsNewHead c.words.control c.shape q × ((c.words.link r).generation ≡ c.words.control.generation + 1))
+  listed_head q r head i = let held = inv.holders.in_chain q r head i in let g = (c.words.link r).generation in
+      let here : list_in c.shape g (c.words.event r) ≡ q = ap (λ n. list_in c.shape n (c.words.event r)) (inv.sorted.generation q r head i) ∙ inv.sorted.belongs q r head i in
+      let at : IsHeadIn g (c.shape g) q = subst (IsHeadIn g (c.shape g)) here (in_table c.shape g (c.words.event r)) in ⊎_elim
+      (λ (now : g ≡ c.words.control.generation). inl (subst (λ n. IsHeadIn n (c.shape n) q) now at, now))
+      (λ (h : (c.words.control.moving ≡ true) × (g ≡ c.words.control.generation + 1)). inr ((h.0, subst (λ n. IsHeadIn n (c.shape n) q) h.1 at), h.1))
+      (outside_told r held.0 (λ j hand. listed_hand q j (sym held.1 ∙ hand)))
 
   -- An event that is pending stands in a row to which links lead from its head, where that is present and of the table of a control word that was found
-  pub list_carries : (x : Control) (q : ℕ) (e : Event) → Fits c.start c.words.control c.shape x → IsHead q → (c.words.head q).generation ≡ x.generation → IsPending c.history e → head_of x e ≡ q
+  pub list_carries : (x : Control) (q : ℕ) (e : Event) → Fits c.start c.words.control c.shape x → IsHead q → (c.words.head q).mark ≡ Val → (c.words.head q).generation ≡ x.generation → IsPending c.history e → head_of x e ≡ q
       → (r : ℕ) × In r (c.chain q) × (c.words.event r ≡ e) × (((c.words.link r).mark ≡ Val) ⊎ ((c.words.link r).mark ≡ Mov))
-  list_carries x q e fits head same pending at = let y = inv.carriers.carried e pending in
-      let in_list = inv.holders.of_chain y.1.1.0 y.0 y.1.0 y.1.1.1 in
-      let now : (c.words.head y.1.1.0).generation ≡ x.generation = sym (inv.sorted.generation y.1.1.0 y.0 in_list.0 in_list.1)
-      ∙ (outside_now y.0 y.1.0 (λ j held. listed_hand y.1.1.0 j (sym y.1.1.1 ∙ held)) ∙ ap (λ (z : Control). z.generation) (sym (fitting_now x fits))) in
-      let here : y.1.1.0 ≡ q = sym (inv.sorted.belongs y.1.1.0 y.0 in_list.0 in_list.1) ∙ ((λ k. list_in c.shape (now k) (y.2 k)) ∙ (fitting_list c.start c.words.control c.shape x fits e ∙ at)) in
-      (y.0, subst (λ z. In y.0 (c.chain z)) here in_list.1, y.2, carries_kept (c.words.link y.0).mark (c.words.twin y.0) (c.words.link (c.words.twin y.0)).mark y.1.2)
+  list_carries x q e fits head val same pending at = let y = inv.carriers.carried e pending in let p = y.1.1.0 in
+      let in_list = inv.holders.of_chain p y.0 y.1.0 y.1.1.1 in
+      let list : list_in c.shape c.words.control.generation e ≡ q = ap (λ n. list_in c.shape n e) (sym (fitting_now x fits)) ∙ (fitting_list c.start c.words.control c.shape x fits e ∙ at) in
+      let opened : IsOldHead c.words.control c.shape q = subst (IsHeadIn c.words.control.generation (c.shape c.words.control.generation)) list (in_table c.shape c.words.control.generation e) in ⊎_elim
+      (λ (old : IsOldHead c.words.control c.shape p × ((c.words.link y.0).generation ≡ c.words.control.generation)).
+      let now : (c.words.head p).generation ≡ c.words.control.generation = sym (inv.sorted.generation p y.0 in_list.0 in_list.1) ∙ old.1 in
+      let here : p ≡ q = sym (inv.sorted.belongs p y.0 in_list.0 in_list.1) ∙ ((λ k. list_in c.shape (now k) (y.2 k)) ∙ list) in
+      (y.0, subst (λ z. In y.0 (c.chain z)) here in_list.1, y.2, carries_kept (c.words.link y.0).mark (c.words.twin y.0) (c.words.link (c.words.twin y.0)).mark y.1.2))
+      (λ (new : IsNewHead c.words.control c.shape p × ((c.words.link y.0).generation ≡ c.words.control.generation + 1)).
+      absurd (subst (In y.0) (inv.bare.bare new.0.0 q p head in_list.0 opened val new.0) in_list.1))
+      (listed_head p y.0 in_list.0 in_list.1)
 
-  -- a caller owes one dead row at most
-  pub one_named : (k : ℕ) → k < c.start.layout.workers → (c.named k).second ≡ None
-  one_named k b = inv.steady.single k b
+  -- where the table may not move, a caller owes one dead row at most
+  pub one_named : c.start.moves ≡ false → (k : ℕ) → k < c.start.layout.workers → (c.named k).second ≡ None
+  one_named no_move k b = inv.steady.single k no_move b

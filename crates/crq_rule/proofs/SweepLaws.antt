@@ -21,7 +21,7 @@ use Rattle.crq_rule.specs.Places.{IsRow, IsHomeRow, IsHead}
 use Rattle.crq_rule.specs.Core.{Core}
 use Rattle.crq_rule.specs.Parts.{Leads}
 use Rattle.crq_rule.specs.ListParts.{ranks}
-use Rattle.crq_rule.specs.Ranks.{rank, list_in, head_of, Cell, at_head, at_row, link_at, Rises, after_cell, without_row}
+use Rattle.crq_rule.specs.Ranks.{rank, list_in, IsTold, tells_of, list_by, Cell, at_head, at_row, link_at, Rises, after_cell, without_row}
 use Rattle.crq_rule.specs.ScarceParts.{WasOut, Swept}
 use Rattle.crq_rule.specs.Invariant.{Inv}
 use Rattle.crq_rule.specs.ListKinds.{Aim, no_take, in_bucket, in_search, is_cell, is_val, is_passing, swept_head, taken_on, sweep_on, clean_on}
@@ -31,7 +31,7 @@ use Rattle.crq_rule.proofs.ChainLaws.{in_cell}
 use Rattle.crq_rule.proofs.Pendings.{split_entry, both}
 use Rattle.crq_rule.proofs.CoverLaws.{guarded_by}
 use Rattle.crq_rule.proofs.HeadLaws.{cell_listed, val_carries}
-use Rattle.crq_rule.proofs.SteadyLaws.{found_now, guarded_now, open_list}
+use Rattle.crq_rule.proofs.SteadyLaws.{found_told, is_told}
 use Rattle.crq_rule.proofs.Lawfuls.{stand_covered}
 
 pub none_sweep : (s : Sweep) → None ≡ Some s → ⊥
@@ -41,11 +41,11 @@ same_sweep : (s t : Sweep) → Some s ≡ Some t → s ≡ t
 same_sweep s t e = cc
 
 -- what was out at a Begin is out
-was_out : (h : List Entry) (k : ℕ) (e : Event) → WasOut h k e → Contains (outs h) e
+pub was_out : (h : List Entry) (k : ℕ) (e : Event) → WasOut h k e → Contains (outs h) e
 was_out h k e w = subst (λ z. Contains (outs z) e) (sym w.2) (subst (λ z. Contains z e) (sym (outs-append w.0 (Begin k ∷ w.1))) (Contains-append_left (outs w.0) (outs (Begin k ∷ w.1)) e w.3))
 
 -- and at none of entries that aren't a Begin of the caller
-was_before : (h more : List Entry) (k : ℕ) (e : Event) → (In (Begin k) more → ⊥) → WasOut (h ++ more) k e → WasOut h k e
+pub was_before : (h more : List Entry) (k : ℕ) (e : Event) → (In (Begin k) more → ⊥) → WasOut (h ++ more) k e → WasOut h k e
 was_before h more k e none w = ⊎_elim (λ t. (w.0, t.0, t.1, w.3)) (λ i. absurd (none i)) (split_entry h more w.0 w.1 (Begin k) w.2)
 
 module _ (l : Layout) (history : List Entry) (event : ℕ → Event) (chain : ℕ → List ℕ) (sweep : ℕ → Option Sweep) (clean : ℕ → List ℕ) where
@@ -138,7 +138,8 @@ record Passing (x : Option Control) (p : ℕ) (ss : List Stand) (s : Sweep) : Ty
   stand : Stand
   stands : In stand ss
   row : stand.row ≡ p
-  head : head_of control stand.event ≡ s.head
+  told : IsTold control stand.generation
+  head : list_by control stand.generation stand.event ≡ s.head
   low : rank stand.event p ≤ s.rank
 
 passes : (x : Option Control) (p : ℕ) (ss : List Stand) (s : Sweep) → is_passing x p ss s ≡ true → Passing x p ss s
@@ -146,10 +147,18 @@ passes None p ss s e = absurd (false≢true e)
 passes (Some x) p [] s e = absurd (false≢true e)
 passes (Some x) p (t ∷ ss) s e = by (eqb t.row p) refl e (passes (Some x) p ss s)
   where
-    by : (b : Bool) → eqb t.row p ≡ b → cond b ((eqb (head_of x t.event) s.head) && leb (rank t.event p) s.rank) (is_passing (Some x) p ss s) ≡ true → (is_passing (Some x) p ss s ≡ true → Passing (Some x) p ss s) → Passing (Some x) p (t ∷ ss) s
-    by true at e rest = let h = both (eqb (head_of x t.event) s.head) (leb (rank t.event p) s.rank) e in
-        record { control = x; found = refl; stand = t; stands = inl refl; row = eqb-true t.row p at; head = eqb-true (head_of x t.event) s.head h.0; low = leb-true (rank t.event p) s.rank h.1 }
-    by false at e rest = let h = rest e in record { control = h.control; found = h.found; stand = h.stand; stands = inr h.stands; row = h.row; head = h.head; low = h.low }
+    by : (b : Bool) → eqb t.row p ≡ b → cond b (tells_of x t.generation && (eqb (list_by x t.generation t.event) s.head && leb (rank t.event p) s.rank)) (is_passing (Some x) p ss s) ≡ true → (is_passing (Some x) p ss s ≡ true → Passing (Some x) p ss s) → Passing (Some x) p (t ∷ ss) s
+    by true at e rest = let g = both (tells_of x t.generation) (eqb (list_by x t.generation t.event) s.head && leb (rank t.event p) s.rank) e in let h = both (eqb (list_by x t.generation t.event) s.head) (leb (rank t.event p) s.rank) g.1 in record {
+      control = x;
+      found = refl;
+      stand = t;
+      stands = inl refl;
+      row = eqb-true t.row p at;
+      told = is_told x t.generation g.0;
+      head = eqb-true (list_by x t.generation t.event) s.head h.0;
+      low = leb-true (rank t.event p) s.rank h.1;
+    }
+    by false at e rest = let h = rest e in record { control = h.control; found = h.found; stand = h.stand; stands = inr h.stands; row = h.row; told = h.told; head = h.head; low = h.low }
 
 module _ (c : Core) (j : ℕ) (b : j < c.start.layout.workers) (inv : Inv c) where
   -- behind a cell that is present, whose link is l, no row whose event was out comes before the one that is named
@@ -163,13 +172,13 @@ module _ (c : Core) (j : ℕ) (b : j < c.start.layout.workers) (inv : Inv c) whe
   behind_head q r head home i w = first_least c.words.link (ranks c.words.event) (c.words.head q).row 0 r (c.chain q) (inv.chains.leads q head) (inv.sorted.rises q head) (λ s t. rows_some q s head t) i
 
   behind_row : (p : ℕ) (s : Sweep) → c.sweep j ≡ Some s → Passing (c.found j).control p (c.rows j) s → (c.words.link p).mark ≡ Val → Behind s.head (c.words.link p)
-  behind_row p s is t val r head home i w = let v = stand_covered c j t.stand b t.stands inv in let x = c.words.control in
+  behind_row p s is t val r head home i w = let v = stand_covered c j t.stand b t.stands inv in
       let holds : c.words.event p ≡ t.stand.event = ap c.words.event (sym t.row) ∙ (inv.standing.each j t.stand b t.stands).holds in
       let row : IsRow c.start.layout p = subst (IsRow c.start.layout) t.row (inv.lanes.is_row t.stand.row (guarded_by j v)) in
       let at = cell_listed (c.holding p) (c.words.link p).mark (ap is_cell val) (λ k held. inv.cover.free j v.0 t.stand.row k v.1 (ap c.holding t.row ∙ held)) (inv.marks.mark p row) in
-      let in_list = inv.holders.of_chain at.0 p row at.1 in let control : t.control ≡ x = found_now c inv j t.control b t.found in
-      let now = sym (inv.sorted.generation at.0 p in_list.0 in_list.1) ∙ subst (λ z. (c.words.link z).generation ≡ x.generation) t.row (guarded_now c inv t.stand.row (guarded_by j v)) in
-      let list : at.0 ≡ s.head = sym (inv.sorted.belongs at.0 p in_list.0 in_list.1) ∙ ((λ k. list_in c.shape (now k) (holds k)) ∙ (open_list c inv t.stand.event ∙ (ap (λ z. head_of z t.stand.event) (sym control) ∙ t.head))) in
+      let in_list = inv.holders.of_chain at.0 p row at.1 in
+      let now = sym (inv.sorted.generation at.0 p in_list.0 in_list.1) ∙ subst (λ z. (c.words.link z).generation ≡ t.stand.generation) t.row (inv.standing.each j t.stand b t.stands).of in
+      let list : at.0 ≡ s.head = sym (inv.sorted.belongs at.0 p in_list.0 in_list.1) ∙ ((λ k. list_in c.shape (now k) (holds k)) ∙ (found_told c inv j t.control b t.found t.stand.generation t.told t.stand.event ∙ t.head)) in
       let here : In p (c.chain s.head) = subst (λ q. In p (c.chain q)) list in_list.1 in
       let apart : r ≢ p = λ same. (inv.carriers.pending p (row, (at.0, at.1), val_carries (c.words.link p).mark (c.words.twin p) (c.words.link (c.words.twin p)).mark val)).kept (was_out c.history j (c.words.event p) (subst (λ z. WasOut c.history j (c.words.event z)) same w)) in
       let high = inv.swept.left j r s b is head home i w in let low : ranks c.words.event p ≤ s.rank = subst (λ e. rank e p ≤ s.rank) (sym holds) t.low in

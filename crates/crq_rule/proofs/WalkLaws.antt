@@ -23,24 +23,28 @@ use Rattle.crq_rule.specs.declared.view.Sight.{Sight}
 use Rattle.crq_rule.specs.declared.view.Walk.{Walk}
 use Rattle.crq_rule.specs.Lists.{put}
 use Rattle.crq_rule.specs.Places.{IsHead}
-use Rattle.crq_rule.specs.Core.{Core, IsOutside, DeadNames, HasName, in_hand, retired}
-use Rattle.crq_rule.specs.Parts.{ground_of, Covers, IsGuarded, HasTag, IsOn, Names, Reaches, rows_of, rows_of_old, rows_of_copy}
+use Rattle.crq_rule.specs.Core.{Core, DeadNames, HasName, in_hand, retired}
+use Rattle.crq_rule.specs.Parts.{ground_of, Covers, IsGuarded, HasTag, IsOn, Names, IsPath, Reaches, rows_of, rows_of_old, rows_of_copy}
 use Rattle.crq_rule.specs.ListParts.{ranks, StandFits, IsFinal, IsNamed}
 use Rattle.crq_rule.specs.HistoryParts.{Walks, Sees, Walkers, EndsInBegin}
-use Rattle.crq_rule.specs.Invariant.{Inv, present_of, takes_of}
-use Rattle.crq_rule.specs.Ranks.{rank, list_in, head_of, Cell, at_head, at_row, link_at, first_head_of}
-use Rattle.crq_rule.specs.ListKinds.{Aim, no_take, in_bucket, in_search, is_take, is_final, is_passed, stands_after, walk_after, head_walk, new_walk as begun_walk, walked, begins_walk, is_cell, is_beyond, is_past, is_other_front, relieved, front_of, new_stand, noted_stand, is_mov, is_inv, walked_from, MayWalk, MaySeek, read_after, read_from, relieved_names}
+use Rattle.crq_rule.specs.Invariant.{Inv, present_of, takes_of, rows_of_core}
+use Rattle.crq_rule.specs.Ranks.{rank, list_in, IsTold, tells_of, list_by, Cell, at_head, at_row, link_at, first_head_of}
+use Rattle.crq_rule.specs.ListKinds.{Aim, no_take, in_bucket, in_search, is_take, is_final, is_passed, stands_after, walk_after, head_walk, new_walk as begun_walk, walked, begins_walk, is_cell, is_beyond, is_past, is_other_front, relieved, front_of, new_stand, noted_stand, is_inv, walked_from, MayWalk, MaySeek, read_after, read_from, relieved_names}
+use Rattle.crq_rule.specs.Helping.{is_mov}
 use Rattle.crq_rule.proofs.SweepLaws.{swept_walked}
 use Rattle.crq_rule.proofs.HistoryLaws.{put_in}
 use Rattle.crq_rule.proofs.Prefixes.{take_all}
 use Rattle.crq_rule.proofs.Puts.{put_here, put_else, put_all}
 use Rattle.crq_rule.proofs.PartLaws.{sort}
 use Rattle.crq_rule.proofs.CoverLaws.{row_footing}
-use Rattle.crq_rule.proofs.SizeLaws.{fitting_list, dues_named}
+use Rattle.crq_rule.proofs.SizeLaws.{dues_named}
 use Rattle.crq_rule.proofs.HeadLaws.{cell_dead, cell_listed}
 use Rattle.crq_rule.proofs.NameLaws.{moved_second, has_moved, was_left}
-use Rattle.crq_rule.proofs.SteadyLaws.{outside_twin, guarded_out, steady_names}
-use Rattle.crq_rule.proofs.Standings.{least, first_in, next_above, adjacent, longer, path_in, in_join, join_in, rows_in, stood, row_stood}
+use Rattle.crq_rule.proofs.HelpLaws.{helps_walked}
+use Rattle.crq_rule.proofs.SteadyLaws.{guarded_out, steady_names, found_told, is_told}
+use Rattle.crq_rule.specs.Copies.{IsBound}
+use Rattle.crq_rule.proofs.CopyRows.{moved_ordered}
+use Rattle.crq_rule.proofs.Standings.{least, first_in, next_above, adjacent, longer, in_join, join_in, rows_in, stood, row_stood}
 use Rattle.crq_rule.proofs.WalkerLaws.{walkers_at}
 use Rattle.crq_rule.proofs.Walkings.{begins_is, walks_row, sees_now, head_walks}
 
@@ -71,12 +75,6 @@ module _ (c : Core) (inv : Inv c) where
   listed_some : (q : ℕ) → IsHead q → (r : ℕ) → In r (c.chain q) → 0 < r
   listed_some q b r i = (inv.holders.in_chain q r b i).0.0
 
-  listed_out : (q r : ℕ) → IsHead q → In r (c.chain q) → IsOutside c.holding r
-  listed_out q r b i j held = let z : ◌≡◌ {A = ℕ} 1 0 = ap sort (sym (inv.holders.in_chain q r b i).1 ∙ held) in omega arith
-
-  listed_twin : (q r : ℕ) → IsHead q → In r (c.chain q) → c.words.twin r ≡ 0
-  listed_twin q r b i = outside_twin c inv r (inv.holders.in_chain q r b i).0 (listed_out q r b i)
-
   chain_next : (q r : ℕ) → IsHead q → In r (c.chain q) → 0 < (c.words.link r).row → In (c.words.link r).row (c.chain q) × (ranks c.words.event r < ranks c.words.event (c.words.link r).row)
   chain_next q r b i some = next_above c.words.link (ranks c.words.event) (c.words.head q).row 0 r (c.chain q) (inv.chains.leads q b) (inv.sorted.rises q b) i some
 
@@ -85,11 +83,20 @@ module _ (c : Core) (inv : Inv c) where
   chain_stays q r b i some = let g = inv.sorted.generation q r b i in subst (λ g. list_in c.shape g (c.words.event (c.words.link r).row) ≡ list_in c.shape g (c.words.event r)) (sym g)
       (inv.sorted.belongs q (c.words.link r).row b (chain_next q r b i some).0 ∙ sym (inv.sorted.belongs q r b i))
 
-  -- what a listed row names is listed after it
-  names_listed : (q : ℕ) → IsHead q → (r s : ℕ) → In r (c.chain q) → Names c.words.link c.words.twin r s → In s (c.chain q)
-  names_listed q b r s i names = ⊎_elim
-      (λ (e : (c.words.link r).row ≡ s). subst (λ z. In z (c.chain q)) e (chain_next q r b i (subst (λ z. 0 < z) (sym e) names.0)).0)
-      (λ (e : c.words.twin r ≡ s). let z = listed_twin q r b i in let p = names.0 in absurd (omega arith)) names.1
+  -- what a listed row names is listed
+  names_listed : (r s : ℕ) → IsListed c r → Names c.words.link c.words.twin r s → IsListed c s
+  names_listed r s at names = ⊎_elim
+      (λ (e : (c.words.link r).row ≡ s). (at.0, at.1, subst (λ z. In z (c.chain at.0)) e (chain_next at.0 r at.1 at.2 (subst (λ z. 0 < z) (sym e) names.0)).0))
+      (λ (e : c.words.twin r ≡ s). ⊎_elim (λ (z : c.words.twin r ≡ 0). let p = names.0 in absurd (omega arith)) (λ (h : (p : ℕ) × IsHead p × In (c.words.twin r) (c.chain p)). subst (IsListed c) e h) (inv.chains.twins at.0 r at.1 at.2)) names.1
+
+  -- and so is what a path leads to from it
+  path_listed : (a r : ℕ) (ps : List ℕ) → IsListed c a → IsPath c.words.link c.words.twin a ps r → IsListed c r
+  path_listed a r [] at path = subst (IsListed c) path at
+  path_listed a r (p ∷ ps) at path = path_listed p r ps (names_listed a p at path.0) path.1
+
+  -- a listed row that is frozen and has a twin is bound to it
+  listed_bound : (q r : ℕ) → IsHead q → In r (c.chain q) → (c.words.link r).mark ≡ Mov → 0 < c.words.twin r → IsBound (rows_of_core c) r (c.words.twin r)
+  listed_bound q r b i frozen some = let h = inv.holders.in_chain q r b i in record { row = h.0; listed_is = (q, h.1); frozen = frozen; twin_is = refl; some = some }
 
   listed_sort : (q r : ℕ) → IsHead q → In r (c.chain q) → sort (c.holding r) ≡ 1
   listed_sort q r b i = ap sort (inv.holders.in_chain q r b i).1
@@ -112,12 +119,8 @@ module _ (c : Core) (inv : Inv c) where
   -- what the cell's link leads to is led to from a row that the caller stands on, or listed
   from_cell : (j : ℕ) (cell : Cell) (r : ℕ) → MayWalk (c.rows j) cell → 0 < (cell_link c cell).row
       → Reaches c.words.link c.words.twin (cell_link c cell).row r → ((a : ℕ) × In a (rows_of (c.rows j)) × Reaches c.words.link c.words.twin a r) ⊎ IsListed c r
-  from_cell j (at_head q) r may some reaches = inr (
-    q,
-    may,
-    path_in c.words.link c.words.twin (c.chain q) (names_listed q may) (c.words.head q).row r reaches.through
-        (first_in c.words.link (ranks c.words.event) (c.words.head q).row (c.chain q) (inv.chains.leads q may) some) reaches.path,
-  )
+  from_cell j (at_head q) r may some reaches = inr (path_listed (c.words.head q).row r reaches.through
+      (q, may, first_in c.words.link (ranks c.words.event) (c.words.head q).row (c.chain q) (inv.chains.leads q may) some) reaches.path)
   from_cell j (at_row p) r may some reaches = inl (
     p,
     subst (λ z. In z (rows_of (c.rows j))) may.1.2 (rows_in (c.rows j) may.1.0 may.1.1),
@@ -163,30 +166,30 @@ final_is Del e = tt
 record Beyond (x : Option Control) (p : ℕ) (ss : List Stand) (d : CutDebt) : Type 0 where
   control : Control
   found : x ≡ Some control
-  generation : control.generation ≡ d.generation
+  told : IsTold control d.generation
   stand : Stand
   stands : In stand ss
   row : stand.row ≡ p
-  head : head_of control stand.event ≡ d.head
+  head : list_by control d.generation stand.event ≡ d.head
   low : rank stand.event p ≤ rank d.event d.row
 
 beyond_is : (x : Option Control) (p : ℕ) (ss : List Stand) (d : CutDebt) → is_beyond x (at_row p) ss d ≡ true → Beyond x p ss d
 beyond_is None p ss d t = absurd (false≢true t)
 beyond_is (Some y) p [] d t = absurd (false≢true t)
-beyond_is (Some y) p (s ∷ ss) d t = let same = eqb y.generation d.generation in let head = eqb (head_of y s.event) d.head in let low = leb (rank s.event p) (rank d.event d.row) in
+beyond_is (Some y) p (s ∷ ss) d t = let same = tells_of y d.generation in let head = eqb (list_by y d.generation s.event) d.head in let low = leb (rank s.event p) (rank d.event d.row) in
     cond_both (eqb s.row p) (same && (head && low)) (is_beyond (Some y) (at_row p) ss d) (λ b. b ≡ true → Beyond (Some y) p (s ∷ ss) d)
     (λ yes h. let first = and_parts same (head && low) h in let rest = and_parts head low first.1 in record {
       control = y;
       found = refl;
-      generation = eqb-true y.generation d.generation first.0;
+      told = is_told y d.generation first.0;
       stand = s;
       stands = inl refl;
       row = eqb-true s.row p yes;
-      head = eqb-true (head_of y s.event) d.head rest.0;
+      head = eqb-true (list_by y d.generation s.event) d.head rest.0;
       low = leb-true (rank s.event p) (rank d.event d.row) rest.1;
     })
     (λ _ h. let r = beyond_is (Some y) p ss d h in
-    record { control = r.control; found = r.found; generation = r.generation; stand = r.stand; stands = inr r.stands; row = r.row; head = r.head; low = r.low }) t
+    record { control = r.control; found = r.found; told = r.told; stand = r.stand; stands = inr r.stands; row = r.row; head = r.head; low = r.low }) t
 
 -- what the walk found where it goes past a name
 record Past (x : Option Control) (cell : Cell) (ss : List Stand) (l : Link) (e : Event) (d : CutDebt) : Type 0 where
@@ -245,10 +248,9 @@ module _ (c : Core) (j g : ℕ) (b : j < c.start.layout.workers) (on : c.guard j
         let s = beyond_is (c.found j).control p (c.rows j) d past.beyond in
         let in_list = covered_cell c inv p (covered_at p (subst (λ z. In z (rows_of (c.rows j))) s.row (rows_in (c.rows j) s.stand s.stands))) past.cell_is in
         let holds : c.words.event p ≡ s.stand.event = ap c.words.event (sym s.row) ∙ (inv.standing.each j s.stand b s.stands).holds in
-        let generation : (c.words.head in_list.0).generation ≡ s.control.generation = sym (inv.sorted.generation in_list.0 p in_list.1 in_list.2) ∙ (past.generation ∙ sym s.generation) in
-        let fits = inv.finds.controls j s.control b s.found in
+        let generation : (c.words.head in_list.0).generation ≡ d.generation = sym (inv.sorted.generation in_list.0 p in_list.1 in_list.2) ∙ past.generation in
         let same : in_list.0 ≡ q = sym (inv.sorted.belongs in_list.0 p in_list.1 in_list.2)
-        ∙ ((λ k. list_in c.shape (generation k) (holds k)) ∙ (fitting_list c.start c.words.control c.shape s.control fits s.stand.event ∙ (s.head ∙ sym list_is))) in
+        ∙ ((λ k. list_in c.shape (generation k) (holds k)) ∙ (found_told c inv j s.control b s.found d.generation s.told s.stand.event ∙ (s.head ∙ sym list_is))) in
         let low : ranks c.words.event p ≤ ranks c.words.event r = subst (λ z. ranks c.words.event p ≤ z) rank_is (subst (λ z. rank z p ≤ rank d.event d.row) (sym holds) s.low) in
         let m = adjacent c.words.link (ranks c.words.event) (c.words.head q).row 0 p r (c.chain q) (inv.chains.leads q h) (inv.sorted.rises q h) (subst (λ z. In p (c.chain z)) same in_list.2) i
         (λ e. cell_dead (c.words.link p).mark past.cell_is (ap (λ z. (c.words.link z).mark) e ∙ del)) low in
@@ -284,13 +286,14 @@ new_front c (at_row r) q is = absurd (none_number q is)
 new_front c (at_head h) q is = cond_both (is_mov (c.words.head h).mark) (Some h) None (λ o. o ≡ Some q → ((c.words.head q).mark ≡ Mov) × ((c.words.head q).row ≡ (c.words.head h).row))
     (λ yes e. let same : h ≡ q = same_Some h q e in (ap (λ z. (c.words.head z).mark) (sym same) ∙ mov_is (c.words.head h).mark yes, ap (λ z. (c.words.head z).row) (sym same))) (λ _ e. absurd (none_number q e)) is
 
-new_fits : (c : Core) (cell : Cell) → Stands c (new_stand cell (cell_link c cell) (cell_event c cell))
-new_fits c cell = record { holds = refl; last = λ l is. absurd (none_link l is); copy = λ t is. absurd (none_number t is); valid = λ v. absurd (false≢true v); front = λ q is. inr (new_front c cell q is) }
+new_fits : (c : Core) (cell : Cell) → (c.words.link (cell_link c cell).row).generation ≡ (cell_link c cell).generation → Stands c (new_stand cell (cell_link c cell) (cell_event c cell))
+new_fits c cell of = record { holds = refl; of = of; last = λ l is. absurd (none_link l is); copy = λ t is. absurd (none_number t is); valid = λ v. absurd (false≢true v); front = λ q is. inr (new_front c cell q is) }
 
 -- the row of the stand s, of which the link l was found
 noted_fits : (c : Core) (s : Stand) (l : Link) → c.words.link s.row ≡ l → Stands c s → Stands c (noted_stand l s)
 noted_fits c s l found was = record {
   holds = was.holds;
+  of = was.of;
   last = λ m. cond_both (is_final l.mark) (Some l) s.last (λ o. o ≡ Some m → (c.words.link s.row ≡ m) × IsFinal m.mark)
       (λ yes e. let same = same_Some l m e in (found ∙ same, subst (λ (z : Link). IsFinal z.mark) same (final_is l.mark yes))) (λ _. was.last m);
   copy = was.copy;
@@ -393,13 +396,13 @@ walk_keeps c j cell aim b is_on may seek inv = record {
   sizes = inv.sizes;
   dues = dues_named _ _ _ _ _ _ _ (λ k d _ has. inl (names_before k d has)) inv.dues;
   steady = steady_names _ _ _ _ _ _ (λ k d _ has. inl (names_before k d has))
-      (λ k _. put_all c.named j (new_names c j cell) (λ k t. (c.named k).second ≡ None → t.second ≡ None) (λ none. moved_second _ _ (ap (relieved (c.found j).control cell (c.rows j) (cell_link c cell) (cell_event c cell)) none)) (λ _ _ h. h) k) inv.steady;
+      (λ _ k _. put_all c.named j (new_names c j cell) (λ k t. (c.named k).second ≡ None → t.second ≡ None) (λ none. moved_second _ _ (ap (relieved (c.found j).control cell (c.rows j) (cell_link c cell) (cell_event c cell)) none)) (λ _ _ h. h) k) inv.steady;
   heads = inv.heads;
   sorted = inv.sorted;
   marks = inv.marks;
   standing = record {
     each = λ k s. put_all c.rows j (new_rows c j cell aim) (λ k ss. k < c.start.layout.workers → In s ss → Stands c s)
-        (λ d i. ⊎_elim (inv.standing.each j s d) (⊎_elim (λ h. subst (Stands c) (sym h.1) (new_fits c cell))
+        (λ d i. ⊎_elim (inv.standing.each j s d) (⊎_elim (λ h. subst (Stands c) (sym h.1) (new_fits c cell (next_generation cell may h.0)))
         (λ h. subst (Stands c) (sym h.3) (noted_fits c h.0 (cell_link c cell) (sym (ap (link_at c.words.head c.words.link) h.2)) (inv.standing.each j h.0 d h.1))))
         (stood cell aim (new_walk c j cell aim) (cell_link c cell) (cell_event c cell) (c.rows j) s i)) (λ k _. inv.standing.each k s) k;
   };
@@ -410,7 +413,7 @@ walk_keeps c j cell aim b is_on may seek inv = record {
     stays = λ r v some. ⊎_elim (λ o. inv.lanes.stays r o some) (λ h. chain_stays c inv h.0 r h.1 h.2 some) (guarded r v);
     generation = λ r v some. ⊎_elim (λ o. inv.lanes.generation r o some)
         (λ h. inv.sorted.generation h.0 (c.words.link r).row h.1 (chain_next c inv h.0 r h.1 h.2 some).0 ∙ sym (inv.sorted.generation h.0 r h.1 h.2)) (guarded r v);
-    twins = λ r v frozen some. ⊎_elim (λ o. inv.lanes.twins r o frozen some) (λ h. let bare = listed_twin c inv h.0 r h.1 h.2 in absurd (omega arith)) (guarded r v);
+    twins = λ r v frozen some. ⊎_elim (λ o. inv.lanes.twins r o frozen some) (λ h. let copy = inv.copies.bound r (c.words.twin r) (listed_bound c inv h.0 r h.1 h.2 frozen some) in (copy.generation, copy.event_is)) (guarded r v);
   };
   writing = inv.writing;
   naming = record {
@@ -435,15 +438,39 @@ walk_keeps c j cell aim b is_on may seek inv = record {
   scarce = inv.scarce;
   refusals = inv.refusals;
   swept = swept_walked c j b inv cell aim;
+  helps = helps_walked _ _ _ _ _ _ inv.sizes.now inv.finds _ _ _ j cell inv.heads inv.helps;
   numbers = inv.numbers;
   bounds = inv.bounds;
   settling = inv.settling;
   walkers = walkers_walked c j b inv cell aim may seek;
   ahead = inv.ahead;
+  copies = record {
+    bound = inv.copies.bound;
+    one = inv.copies.one;
+    owned = inv.copies.owned;
+    apart = inv.copies.apart;
+    alone = inv.copies.alone;
+    left = λ r v frozen out. ⊎_elim (λ o. inv.copies.left r o frozen out) (λ h. absurd (out (h.0, (inv.holders.in_chain h.0 r h.1 h.2).1))) (guarded r v);
+    debt = inv.copies.debt;
+  };
+  rooms = record {
+    ordered = λ k. put_all c.named j (new_names c j cell) (λ k t. k < c.start.layout.workers → t.first ≡ None → t.second ≡ None)
+        (λ _. moved_ordered (relieved (c.found j).control cell (c.rows j) (cell_link c cell) (cell_event c cell) (c.named j).first) (relieved (c.found j).control cell (c.rows j) (cell_link c cell) (cell_event c cell) (c.named j).second))
+        (λ k _. inv.rooms.ordered k) k;
+    room = λ k d. put_all c.named j (new_names c j cell) (λ k t. k < c.start.layout.workers → c.copying k ≡ Some d → t.second ≡ None)
+        (λ b' is. moved_second _ _ (ap (relieved (c.found j).control cell (c.rows j) (cell_link c cell) (cell_event c cell)) (inv.rooms.room j d b' is))) (λ k _. inv.rooms.room k d) k;
+  };
+  bare = inv.bare;
+  unlinked = inv.unlinked;
 }
   where
     on : (g : ℕ) × (c.guard j ≡ On g)
     on = on_is (c.guard j) is_on
+
+    -- the row that the cell names is of its table
+    next_generation : (cell : Cell) → MayWalk (c.rows j) cell → 0 < (cell_link c cell).row → (c.words.link (cell_link c cell).row).generation ≡ (cell_link c cell).generation
+    next_generation (at_head q) may some = inv.sorted.generation q (c.words.head q).row may (first_in c.words.link (ranks c.words.event) (c.words.head q).row (c.chain q) (inv.chains.leads q may) some)
+    next_generation (at_row p) may some = inv.lanes.generation p (covered_at c j on.0 b on.1 inv p (subst (λ z. In z (rows_of (c.rows j))) may.1.2 (rows_in (c.rows j) may.1.0 may.1.1))) some
 
     old : (k x r : ℕ) → Covers (ground_of (walked_from c j cell aim)) k x r → Covers (ground_of c) k x r ⊎ IsListed c r
     old k x r v = before c j cell aim may inv k x r v

@@ -75,11 +75,11 @@ module _ (c : Core) (inv : Inv c) (j : ℕ) (b : j < c.start.layout.workers) whe
   covered_at r i = let v = stand_covered c inv j r b i in (j, v.0, v.1)
 
   module _ (s : Sight) (sees : c.sight j ≡ Some s) where
-    module _ (q : ℕ) (h : IsHead q) (same : (c.words.head q).generation ≡ s.table.generation) where
+    module _ (q : ℕ) (h : IsHead q) (val : (c.words.head q).mark ≡ Val) (same : (c.words.head q).generation ≡ s.table.generation) where
       -- each pending event of the head's list stands in a row that links lead to from the head
       head_left : (read : ℕ) (e : Event) → Contains (puts (take read c.history)) e → (Contains (outs c.history) e → ⊥) → head_of s.table e ≡ q → StandsFrom c.words.link c.words.event s.table.generation (c.words.head q).row e
       head_left read e put kept at =
-          let y = list_carries c inv s.table q e (inv.finds.sights j s b sees).0 h same (record { put = of_take put_of read c.history e put; kept = kept }) at in
+          let y = list_carries c inv s.table q e (inv.finds.sights j s b sees).0 h val same (record { put = of_take put_of read c.history e put; kept = kept }) at in
           let to = followed c.words.link (c.words.head q).row y.0 (c.chain q) (list_some q h) (inv.chains.leads q h) y.1 in
           record { row = y.0; some_row = to.0; kept = y.3; of = inv.sorted.generation q y.0 h y.1 ∙ same; holds = y.2; follows = to.1 }
 
@@ -165,13 +165,13 @@ module _ (c : Core) (inv : Inv c) (j : ℕ) (b : j < c.start.layout.workers) whe
         (λ (first : q ≡ first_head_of s.table.generation).
         subst (λ (z : ℕ × Option (ℕ × Event)). Walked s z.0 (record { head = q; at = (c.words.head q).row; bucket = None; least = z.1 }) (ss z.1))
         (λ i. (cond (sym (eq-eqb q (first_head_of s.table.generation) first) i) (length c.history) (c.read j), sym (first_least s q (c.walk j) (c.rows j) first) i))
-        (walks_search q h begins.generation (length c.history) None (ss None) (omega arith, let some = pow_pos s.table.log in omega arith) (stands None)
+        (walks_search q h begins.val begins.generation (length c.history) None (ss None) (omega arith, let some = pow_pos s.table.log in omega arith) (stands None)
         (λ e _ _ low. let least = head_low s.table.generation (shape_of s.table) (bucket (shape_of s.table) e.time) in absurd (omega arith)) (λ r e none. absurd (none_pair (r, e) none))))
         (λ (ne : q ≢ first_head_of s.table.generation). ⊎_elim (λ first. absurd (ne first))
         (λ (y : (w : Walk) × (c.walk j ≡ Some w) × (w.bucket ≡ None) × (q ≡ w.head + 1) × IsOpen s.table q). let w = y.0 in let best = best_of w (c.rows j) in
         subst (λ (z : ℕ × Option (ℕ × Event)). Walked s z.0 (record { head = q; at = (c.words.head q).row; bucket = None; least = z.1 }) (ss z.1))
         (λ i. (cond (sym (ne_eqb q (first_head_of s.table.generation) ne) i) (length c.history) (c.read j), sym (next_least s q (c.walk j) w (c.rows j) ne y.1) i))
-        (walks_search q h begins.generation (c.read j) best (ss best) y.4 (stands best)
+        (walks_search q h begins.val begins.generation (c.read j) best (ss best) y.4 (stands best)
         (λ e put kept low. let to = y.3 in search_done c inv j b s w sees y.1 e (pending_fits e put kept) y.2 put kept (omega arith))
         (λ r e q. let k = best_kept c inv j b s w sees y.1 (r, e) q in ((k.0.0, subst (λ o. In k.0.0 (ss o)) (sym q) (keeps r e k.0.0 k.0.2 k.0.1), k.0.2, k.0.3), k.1)))) next)
       where
@@ -185,7 +185,7 @@ module _ (c : Core) (inv : Inv c) (j : ℕ) (b : j < c.start.layout.workers) whe
     head_walks q in_bucket h begins may w is = let l = c.words.head q in let e = c.words.event l.row in let y = same_Some s may.0 may.1 in
         let first : Walk = record { head = q; at = l.row; bucket = Some (bucket_seen s); least = None } in
         subst (λ w. Walked s (c.read j) w (stands_after (at_head q) in_bucket (Some w) l e (c.rows j))) (same_Some first w is)
-        (walks_bucket q h begins.generation (c.read j) (stands_after (at_head q) in_bucket (Some first) l e (c.rows j)) (may.2 ∙ ap (λ (s : Sight). head_for s.table.generation (shape_of s.table) (bucket_seen s)) (sym y))
+        (walks_bucket q h begins.val begins.generation (c.read j) (stands_after (at_head q) in_bucket (Some first) l e (c.rows j)) (may.2 ∙ ap (λ (s : Sight). head_for s.table.generation (shape_of s.table) (bucket_seen s)) (sym y))
         (row_next (at_head q) in_bucket (Some first) l e (c.rows j)))
     head_walks q in_search h begins may w is = let l = c.words.head q in let e = c.words.event l.row in let y = same_Some s may.0 may.1 in
         let begun : Option (ℕ × Event) → Walk = λ least. record { head = q; at = l.row; bucket = None; least = least } in

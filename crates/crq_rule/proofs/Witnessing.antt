@@ -1,5 +1,5 @@
 -- The parts are no empty talk: a state with a listed row that holds a pending event and that a guard covers, a cut row that has a tag, and a retired row meets the invariant.
-use Rattle.std.proofs.Common.{◌++◌, ◌⊎◌, ◌≡◌, ◌≢◌, ⊎_elim, inl, inr, ℕ, ◌-◌, ◌*◌, ◌/◌, ◌<◌, ◌≤◌, List, [], ◌∷◌, length, Option, Some, None, sym, refl, ap, ◌∙◌, subst, arith, false}
+use Rattle.std.proofs.Common.{◌++◌, ◌⊎◌, ◌≡◌, ◌≢◌, ⊎_elim, inl, inr, ℕ, ◌-◌, ◌*◌, ◌/◌, ◌<◌, ◌≤◌, List, [], ◌∷◌, length, Option, Some, None, sym, refl, ap, ◌∙◌, subst, arith, false, true}
 use mathlib.Core.Logic.{dite}
 use native.Mathlib.Decide.{ℕ_discrete}
 use Rattle.crq_base.specs.declared.event.Event.{Event}
@@ -10,7 +10,7 @@ use Rattle.crq_base.specs.Histories.{own as own_of, Began}
 use Rattle.crq_base.proofs.HistoryLaws.{own_other, last_one, not_nil}
 use Rattle.crq_base.proofs.Deeds.{alone}
 use Rattle.crq_base.specs.declared.words.Link.{Link}
-use Rattle.crq_base.specs.declared.words.Mark.TheVariants.{Val, Mov, Del}
+use Rattle.crq_base.specs.declared.words.Mark.TheVariants.{Val, Inv as Invalid, Mov, Del}
 use Rattle.crq_base.specs.Words.{IsLink}
 use Rattle.crq_base.specs.Starts.{IsFirst}
 use Rattle.crq_base.specs.Lists.{In, IsOnce}
@@ -27,7 +27,8 @@ use Rattle.crq_rule.specs.Parts.{Holders, Stamps, Leads, IsPath, ground_of, rows
 use Rattle.crq_rule.specs.Ranks.{rank, head_for, bucket, list_in, Rises}
 use Rattle.crq_rule.specs.ListParts.{Heads, Sorted, Marks, StandFits, Standing, Lanes, Naming, IsShut, IsOldHead, IsNewHead, MarkFits, IsFinal, ranks}
 use Rattle.crq_rule.specs.HistoryParts.{Carriers, Told, EndsInBegin}
-use Rattle.crq_rule.specs.Invariant.{Inv}
+use Rattle.crq_rule.specs.Copies.{Copies}
+use Rattle.crq_rule.specs.Invariant.{rows_of_core, Inv}
 use Rattle.crq_rule.specs.Rule.{rows_from}
 use Rattle.crq_rule.specs.Opening.{opening_core, opening_words, opening_head, home_of}
 use Rattle.crq_rule.specs.Stated.{Witness, IsCovered}
@@ -39,15 +40,15 @@ use Rattle.crq_rule.proofs.HolderLaws.{none_some, some_some}
 use Rattle.crq_rule.proofs.Pendings.{none_counted}
 use Rattle.crq_rule.proofs.ScarceLaws.{none_base}
 use Rattle.crq_rule.proofs.SweepLaws.{none_sweep}
-use Rattle.crq_rule.proofs.ListOpening.{no_sight, no_settle, no_walk}
+use Rattle.crq_rule.proofs.ListOpening.{no_sight, no_settle, no_walk, no_copy}
 use Rattle.crq_rule.proofs.Counting.{rows_in, in_rows, rows_once}
-use Rattle.crq_rule.proofs.Openings.{opening_link, opening_inv}
+use Rattle.crq_rule.proofs.Openings.{opening_link, opening_inv, none_help}
 
 abbrev pub layout : Layout
 layout = record { workers = 2; rows = 4; home = 8; all = 16; few = (omega arith, omega arith); some_rows = (omega arith, omega arith); home_is = refl; all_is = refl; all_fit = omega arith }
 
 abbrev pub start : Start
-start = record { layout = layout; first = record { epoch = 0; generation = 1; guard = 0 } }
+start = record { layout = layout; first = record { epoch = 0; generation = 1; guard = 0 }; moves = true }
 
 first : IsFirst start.first
 first = record { epoch = omega arith; from = omega arith; upto = omega arith; guard = omega arith }
@@ -85,7 +86,7 @@ abbrev own : ℕ → List Entry
 own = put (λ _. []) 0 entries
 
 abbrev stand : Stand
-stand = record { row = 1; event = event; last = None; twin = None; valid = false; front = None }
+stand = record { row = 1; event = event; generation = 1; last = None; twin = None; valid = false; front = None }
 
 abbrev stands_at : ℕ → List Stand
 stands_at = put (λ _. []) 0 (stand ∷ [])
@@ -203,6 +204,12 @@ dead_else r ne = ap (λ (l : Link). l.mark) (put_else (λ _. dead) 1 present r n
 present_dead : (r : ℕ) → ((links r).mark ≡ Val) ⊎ ((links r).mark ≡ Del)
 present_dead = put_all (λ _. dead) 1 present (λ r l. (l.mark ≡ Val) ⊎ (l.mark ≡ Del)) (inl refl) (λ _ _. inr refl)
 
+val_invalid : Val ≡ Invalid → ⊥
+val_invalid e = cc
+
+dead_invalid : Del ≡ Invalid → ⊥
+dead_invalid e = cc
+
 val_mov : Val ≡ Mov → ⊥
 val_mov e = cc
 
@@ -255,7 +262,7 @@ stands = record {
     no_number t e = cc
 
     stand_fits : StandFits core.words.head links core.words.twin core.words.event stand
-    stand_fits = record { holds = refl; last = λ l e. absurd (no_last l e); copy = λ t e. absurd (no_number t e); valid = λ v. absurd (false≢true v); front = λ t e. absurd (no_number t e) }
+    stand_fits = record { holds = refl; of = ap (λ (l : Link). l.generation) present_one; last = λ l e. absurd (no_last l e); copy = λ t e. absurd (no_number t e); valid = λ v. absurd (false≢true v); front = λ t e. absurd (no_number t e) }
 
 lanes : Lanes layout core.shape (ground_of core) core.words.event
 lanes = record {
@@ -308,6 +315,20 @@ told = record {
     settled_begin : (j : ℕ) → Settled 0 event ≡ Begin j → ⊥
     settled_begin j z = cc
 
+none_invalid : (r : ℕ) → (links r).mark ≡ Invalid → ⊥
+none_invalid r m = ⊎_elim (λ v. val_invalid (sym v ∙ m)) (λ d. dead_invalid (sym d ∙ m)) (present_dead r)
+
+copies : Copies (rows_of_core core) (ground_of core)
+copies = record {
+  bound = λ o t b. absurd (none_frozen o b.frozen);
+  one = λ o p t b _. absurd (none_frozen o b.frozen);
+  owned = λ t _ _ m. absurd (none_invalid t m);
+  apart = λ o t b _. absurd (none_frozen o b.frozen);
+  alone = λ j k d e _ _ is _ _. absurd (no_copy d is);
+  left = λ r _ m _. absurd (none_frozen r m);
+  debt = λ k d _ is. absurd (no_copy d is);
+}
+
 on_on : (g : ℕ) → On 0 ≡ On g → 0 ≡ g
 on_on g e = cc
 
@@ -353,7 +374,7 @@ core_inv = record {
     rows = λ r _ _. let g = generation r in omega arith;
   };
   dues = old.dues;
-  steady = record { still = refl; first = refl; rows = λ r _ _. generation r; marks = λ r _ _. present_dead r; named = old.steady.named; single = old.steady.single };
+  steady = record { still = λ _. refl; first = refl; rows = λ r _ _. inl (generation r); named = old.steady.named; single = old.steady.single };
   heads = next_head;
   sorted = sorted;
   marks = marks;
@@ -372,6 +393,11 @@ core_inv = record {
   scarce = record { each = λ k b _ is. absurd (none_base b is) };
   refusals = record { each = λ k _. none_counted entries k };
   swept = record { left = λ k r s _ is. absurd (none_sweep s is); clean_is = λ k q r _ i. absurd i };
+  helps = record { finds = λ k h _ is. absurd (none_help h is); passed = λ k h _ is. absurd (none_help h is) };
+  copies = copies;
+  rooms = old.rooms;
+  bare = record { bare = λ moving. absurd (false≢true moving) };
+  unlinked = record { each = λ _ s _ e. absurd (no_stand s e) };
 }
 
 pub witness : Witness core

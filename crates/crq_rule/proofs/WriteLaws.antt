@@ -4,7 +4,7 @@ use mathlib.Core.Logic.{dite}
 use native.Mathlib.Decide.{ℕ_discrete}
 use Rattle.crq_base.specs.declared.event.Event.{Event}
 use Rattle.crq_base.specs.declared.words.Link.{Link}
-use Rattle.crq_base.specs.declared.words.Mark.TheVariants.{Val, Mov, Del}
+use Rattle.crq_base.specs.declared.words.Mark.TheVariants.{Val, Inv as Invalid, Mov, Del}
 use Rattle.crq_base.specs.Words.{IsLink}
 use Rattle.crq_base.specs.Histories.{IsPending}
 use Rattle.crq_base.specs.Lists.{In}
@@ -18,7 +18,8 @@ use Rattle.crq_rule.specs.Parts.{newest, Ground, ground_of, footings, IsEvent, I
 use Rattle.crq_rule.specs.Ranks.{rank, list_in, Rises}
 use Rattle.crq_rule.specs.ListParts.{ranks, MarkFits, StandFits, IsFinal, IsNamed, row_word}
 use Rattle.crq_rule.specs.HistoryParts.{IsCarrying, IsLive, StandsFrom}
-use Rattle.crq_rule.specs.Invariant.{present_of, takes_of, Inv}
+use Rattle.crq_rule.specs.Copies.{IsListed, Rows, IsBound, IsCopying, Copies}
+use Rattle.crq_rule.specs.Invariant.{present_of, takes_of, rows_of_core, Inv}
 use Rattle.crq_rule.specs.ListKinds.{Content, new_link, no_twin, new_time, new_source, new_sequence, new_load, IsContent, content_number, content_word, link_after, twin_after, event_after, unwritten, wrote, written_at}
 use Rattle.crq_rule.proofs.SweepLaws.{swept_events}
 use Rattle.crq_rule.proofs.Puts.{put_here, put_else, put_all}
@@ -28,6 +29,7 @@ use Rattle.crq_rule.proofs.SearchLaws.{follow_rises}
 use Rattle.crq_rule.proofs.WalkerLaws.{walkers_links}
 use Rattle.crq_rule.proofs.SizeLaws.{sizes_rows}
 use Rattle.crq_rule.proofs.SteadyLaws.{steady_rows}
+use Rattle.crq_rule.proofs.CopyLaws.{twin_guarded, debt_guarded}
 use Rattle.crq_rule.proofs.CoverLaws.{stand_row, old_footing, row_footing, names_covered, footing_covered}
 
 -- Links and twins that change at the row r alone
@@ -187,6 +189,7 @@ module _ (c : Core) (j r : ℕ) (x : Content) (b : j < c.start.layout.workers) (
   stand_new : (s : Stand) → s.row ≢ r → StandFits c.words.head c.words.link c.words.twin c.words.event s → StandFits c.words.head link twin event s
   stand_new s ne was = record {
     holds = events_else s.row ne ∙ was.holds;
+    of = ap (λ (l : Link). l.generation) (links_else s.row ne) ∙ was.of;
     last = λ l e. let h = was.last l e in (links_else s.row ne ∙ h.0, h.1);
     copy = λ t e. let h = was.copy t e in (twins_else s.row ne ∙ h.0, h.1);
     valid = λ v e. was.valid v (ap (λ (l : Link). l.mark) (sym (links_else s.row ne)) ∙ e);
@@ -223,6 +226,59 @@ module _ (c : Core) (j r : ℕ) (x : Content) (b : j < c.start.layout.workers) (
   live_event : (s : ℕ) → IsLive c.start.layout c.words.link c.words.twin c.holding s → event s ≡ c.words.event s
   live_event s live = events_else s (listed_else s live.1.0 live.1.1)
 
+  -- what is bound was so, and is no written row
+  abbrev new_rows : Rows
+  new_rows = record (rows_of_core c) { link = link; twin = twin; event = event }
+
+  mark_is : (s : ℕ) → s ≢ r → (link s).mark ≡ (c.words.link s).mark
+  mark_is s ne = ap (λ (l : Link). l.mark) (links_else s ne)
+
+  else_listed : (s : ℕ) → IsListed c.holding s → s ≢ r
+  else_listed s h = listed_else s h.0 h.1
+
+  bound_was : (o u : ℕ) → IsBound new_rows o u → IsBound (rows_of_core c) o u
+  bound_was o u h = let ne = else_listed o h.listed_is in record { row = h.row; listed_is = h.listed_is; frozen = sym (mark_is o ne) ∙ h.frozen; twin_is = sym (twins_else o ne) ∙ h.twin_is; some = h.some }
+
+  bound_stays : (o u : ℕ) → IsBound (rows_of_core c) o u → IsBound new_rows o u
+  bound_stays o u h = let ne = else_listed o h.listed_is in record { row = h.row; listed_is = h.listed_is; frozen = mark_is o ne ∙ h.frozen; twin_is = twins_else o ne ∙ h.twin_is; some = h.some }
+
+  copying_same : (u : ℕ) → IsCopying (rows_of_core c) u → IsCopying new_rows u
+  copying_same u h = record { who = h.who; inside = h.inside; owed = h.owed; debt = h.debt; copy = h.copy }
+
+  copying_was : (u : ℕ) → IsCopying new_rows u → IsCopying (rows_of_core c) u
+  copying_was u h = record { who = h.who; inside = h.inside; owed = h.owed; debt = h.debt; copy = h.copy }
+
+  copies_written : Copies new_rows (record (ground_of c) { link = link; twin = twin })
+  copies_written = let old = inv.copies in record {
+    bound = λ o u h. let f = old.bound o u (bound_was o u h) in let ne = else_listed u f.listed_is in let no = else_listed o h.listed_is in record {
+      row = f.row;
+      listed_is = f.listed_is;
+      mark = subst (λ (l : Link). (l.mark ≡ Invalid) ⊎ (l.mark ≡ Val)) (sym (links_else u ne)) f.mark;
+      generation = ap (λ (l : Link). l.generation) (links_else u ne) ∙ (f.generation ∙ ap (λ (l : Link). l.generation + 1) (sym (links_else o no)));
+      event_is = events_else u ne ∙ (f.event_is ∙ sym (events_else o no));
+    };
+    one = λ o p u h d. old.one o p u (bound_was o u h) (bound_was p u d);
+    owned = λ u row out invalid. ⊎_elim (λ (h : (o : ℕ) × IsBound (rows_of_core c) o u). inl (h.0, bound_stays h.0 u h.1)) (λ h. inr (copying_same u h)) (old.owned u row out (sym (mark_is u (outside_else u out)) ∙ invalid));
+    apart = λ o u h d. old.apart o u (bound_was o u h) (copying_was u d);
+    alone = old.alone;
+    left = λ s v frozen out. let g = guarded_old s v in let ne = covered_else g.0 g.1 s g.2 in let h = old.left s g (sym (mark_is s ne) ∙ frozen) out in let z = h.0 in
+        let some : 0 < c.words.twin s = omega arith in let t = twin_guarded (ground_of c) s g some in let further = covered_else t.0 t.1 (c.words.twin s) t.2 in (
+          (λ q. z (sym (twins_else s ne) ∙ q)),
+          (λ q. h.1 (sym (mark_is (c.words.twin s) further) ∙ (ap (λ k. (link k).mark) (sym (twins_else s ne)) ∙ q))),
+        );
+    debt = λ k d b is. let f = old.debt k d b is in let v = debt_guarded c inv k d b is in let no = covered_else v.0.0 v.0.1 d.old v.0.2 in let ne = covered_else v.1.0 v.1.1 d.copy v.1.2 in record {
+      last = links_else d.old no ∙ f.last;
+      frozen = f.frozen;
+      next = f.next;
+      generation = ap (λ (l : Link). l.generation) (links_else d.copy ne) ∙ f.generation;
+      old_event = events_else d.old no ∙ f.old_event;
+      copy_event = events_else d.copy ne ∙ f.copy_event;
+      mark = subst (λ (l : Link). (l.mark ≡ Invalid) ⊎ (l.mark ≡ Del)) (sym (links_else d.copy ne)) f.mark;
+      other = λ q. f.other (sym (twins_else d.old no) ∙ q);
+      open_is = λ q. let o = f.open_is (sym (twins_else d.old no) ∙ q) in (o.0, o.1, mark_is d.copy ne ∙ o.2);
+    };
+  }
+
   abbrev new_words : List Wrote
   new_words = wrote r (content_number x) (content_word x) (c.written j)
 
@@ -254,7 +310,7 @@ module _ (c : Core) (j r : ℕ) (x : Content) (b : j < c.start.layout.workers) (
     };
     sizes = sizes_rows _ _ _ _ _ _ _ _ _ (λ _ _. refl) (λ s _ out. inl (out, ap (λ (l : Link). l.generation) (links_else s (λ e. out j (ap c.holding e ∙ held))))) inv.sizes;
     dues = inv.dues;
-    steady = steady_rows _ _ _ _ _ _ _ (λ s _ out. let same = links_else s (λ e. out j (ap c.holding e ∙ held)) in inl (out, ap (λ (l : Link). l.generation) same, inl (ap (λ (l : Link). l.mark) same))) inv.steady;
+    steady = steady_rows _ _ _ _ _ _ _ (λ s _ out. inl (out, ap (λ (l : Link). l.generation) (links_else s (λ e. out j (ap c.holding e ∙ held))))) inv.steady;
     heads = inv.heads;
     sorted = record {
       rises = λ q d. rises_same (ranks c.words.event) (ranks event) 0 (c.chain q) (λ s i. ap (λ e. rank e s) (events_else s (chained_else q s d i))) (inv.sorted.rises q d);
@@ -307,6 +363,11 @@ module _ (c : Core) (j r : ℕ) (x : Content) (b : j < c.start.layout.workers) (
     told = inv.told;
     scarce = inv.scarce;
     refusals = inv.refusals;
+    helps = inv.helps;
+    copies = copies_written;
+    rooms = inv.rooms;
+    bare = inv.bare;
+    unlinked = inv.unlinked;
     swept = swept_events _ _ _ _ _ _ event (λ q s d i. events_else s (chained_else q s d i)) inv.swept;
     numbers = inv.numbers;
     bounds = inv.bounds;

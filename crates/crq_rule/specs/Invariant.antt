@@ -5,6 +5,8 @@ use Rattle.crq_rule.specs.ListParts.{Sizes, Dues, Heads, Sorted, Marks, Standing
 use Rattle.crq_rule.specs.Steady.{Steady}
 use Rattle.crq_rule.specs.HistoryParts.{Carriers, Told, Numbers, Settling, Present, Takes, Walkers}
 use Rattle.crq_rule.specs.Bounds.{Bounds}
+use Rattle.crq_rule.specs.Helping.{Helps}
+use Rattle.crq_rule.specs.Copies.{Rows, Copies, Rooms, Bare, Unlinked}
 use Rattle.crq_rule.specs.Ahead.{Ahead}
 use Rattle.crq_rule.specs.ScarceParts.{Scarce, Refusals, Swept}
 
@@ -14,6 +16,10 @@ present_of c = record { workers = c.start.layout.workers; generation = c.words.c
 
 abbrev pub takes_of : Core → Takes
 takes_of c = record { begun = c.begun; read = c.read; sight = c.sight; walk = c.walk; rows = c.rows }
+
+-- what the facts of copies are stated over
+abbrev pub rows_of_core : Core → Rows
+rows_of_core c = record { layout = c.start.layout; link = c.words.link; twin = c.words.twin; event = c.words.event; holding = c.holding; copying = c.copying }
 
 pub record Inv (c : Core) : Type 0 where
   pub spelled : Spelled c.start.layout c.words.control c.words.current c.words.pin c.words.head c.words.link c.words.twin c.words.event
@@ -46,3 +52,8 @@ pub record Inv (c : Core) : Type 0 where
   pub scarce : Scarce c.start.layout c.words.epoch c.history c.base c.guard c.holding
   pub refusals : Refusals c.start.layout.workers c.history c.refused
   pub swept : Swept c.start.layout c.history c.words.event c.chain c.sweep c.clean
+  pub helps : Helps c.start.layout.workers c.words.control c.words.head c.found c.help
+  pub copies : Copies (rows_of_core c) (ground_of c)
+  pub rooms : Rooms c.start.layout.workers c.copying c.named
+  pub bare : Bare c.words.control c.shape c.words.head c.chain
+  pub unlinked : Unlinked c.start.layout.workers c.history c.old

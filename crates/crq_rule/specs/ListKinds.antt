@@ -23,8 +23,9 @@ use Rattle.crq_rule.specs.Places.{Place, IsHead, link, twin, time, source, seque
 use Rattle.crq_rule.specs.Core.{Core, DeadNames, moved_up, names_of, renamed, listed, cut_by}
 use Rattle.crq_rule.specs.Parts.{IsEvent, IsOn}
 use Rattle.crq_rule.specs.ListParts.{row_word}
+use Rattle.crq_rule.specs.Helping.{is_mov, help_after, helped_by}
 use Rattle.crq_rule.specs.HistoryParts.{EndsInBegin}
-use Rattle.crq_rule.specs.Ranks.{rank, first_head_of, Shape, shape_of, bucket, first_tick, head_for, IsOpen, list_in, head_of, Cell, at_head, at_row, link_at, heads_set, links_set, after_cell, without_row}
+use Rattle.crq_rule.specs.Ranks.{rank, first_head_of, Shape, shape_of, bucket, first_tick, head_for, IsOpen, tells_of, list_by, list_in, head_of, Cell, at_head, at_row, link_at, heads_set, links_set, after_cell, without_row}
 
 -- the word of an event at a place of its row
 abbrev pub event_word : Event → ℕ → ℕ
@@ -130,12 +131,6 @@ is_val Inv = false
 is_val Mov = false
 is_val Del = false
 
-abbrev pub is_mov : Mark → Bool
-is_mov Val = false
-is_mov Inv = false
-is_mov Mov = true
-is_mov Del = false
-
 abbrev pub is_inv : Mark → Bool
 is_inv Val = false
 is_inv Inv = true
@@ -155,7 +150,7 @@ front_of (at_head q) l = cond (is_mov l.mark) (Some q) None
 front_of (at_row r) l = None
 
 abbrev pub new_stand : Cell → Link → Event → Stand
-new_stand cell l e = record { row = l.row; event = e; last = None; twin = None; valid = false; front = front_of cell l }
+new_stand cell l e = record { row = l.row; event = e; generation = l.generation; last = None; twin = None; valid = false; front = front_of cell l }
 
 abbrev pub next_stand : Cell → Link → Event → List Stand
 next_stand cell l e = cond (l.row == 0) [] (new_stand cell l e ∷ [])
@@ -274,7 +269,7 @@ abbrev pub is_beyond : Option Control → Cell → List Stand → CutDebt → Bo
 is_beyond x (at_head q) ss d = d.head == q
 is_beyond None (at_row r) ss d = false
 is_beyond (Some x) (at_row r) [] d = false
-is_beyond (Some x) (at_row r) (s ∷ ss) d = cond (s.row == r) ((x.generation == d.generation) && ((head_of x s.event == d.head) && nat_le (rank s.event r) (rank d.event d.row))) (is_beyond (Some x) (at_row r) ss d)
+is_beyond (Some x) (at_row r) (s ∷ ss) d = cond (s.row == r) (tells_of x d.generation && ((list_by x d.generation s.event == d.head) && nat_le (rank s.event r) (rank d.event d.row))) (is_beyond (Some x) (at_row r) ss d)
 
 -- and the row that the cell's link l names comes after it: so the dead row isn't listed any more
 abbrev pub is_past : Option Control → Cell → List Stand → Link → Event → CutDebt → Bool
@@ -299,7 +294,7 @@ relieved_names x cell ss l e names = moved_up (relieved x cell ss l e names.firs
 abbrev pub is_passing : Option Control → ℕ → List Stand → Sweep → Bool
 is_passing None r ss s = false
 is_passing (Some x) r [] s = false
-is_passing (Some x) r (t ∷ ss) s = cond (t.row == r) ((head_of x t.event == s.head) && nat_le (rank t.event r) s.rank) (is_passing (Some x) r ss s)
+is_passing (Some x) r (t ∷ ss) s = cond (t.row == r) (tells_of x t.generation && ((list_by x t.generation t.event == s.head) && nat_le (rank t.event r) s.rank)) (is_passing (Some x) r ss s)
 
 -- the head of the list whose sweep the cell takes on
 abbrev pub swept_head : Option Control → Cell → List Stand → Option Sweep → Option ℕ
@@ -325,6 +320,7 @@ walks cell aim l e p = record p {
   sweep = sweep_on (taken_on aim p.found.control cell p.position.rows p.sweep) l e p.sweep;
   clean = clean_on (taken_on aim p.found.control cell p.position.rows p.sweep) l p.clean;
   debts = renamed p.debts (relieved_names p.found.control cell p.position.rows l e (names_of p.debts));
+  help = helped_by p.found.control p.number cell l p.help;
 }
 
 abbrev pub walked_from : Core → ℕ → Cell → Aim → Core
@@ -335,6 +331,7 @@ walked_from c j cell aim = let l = link_at c.words.head c.words.link cell in let
   sweep = put c.sweep j (sweep_on (taken_on aim (c.found j).control cell (c.rows j) (c.sweep j)) l e (c.sweep j));
   clean = put c.clean j (clean_on (taken_on aim (c.found j).control cell (c.rows j) (c.sweep j)) l (c.clean j));
   named = put c.named j (relieved_names (c.found j).control cell (c.rows j) l e (c.named j));
+  help = put c.help j (helped_by (c.found j).control j cell l (c.help j));
 }
 
 -- Link: the row r, which holds the event e, comes after the cell, whose link was l. The event is put, and its caller owes it to be settled
@@ -370,7 +367,7 @@ linked c j cell l r e = let q = list_in c.shape l.generation e in let new : Link
 -- Begin: the control word x was found
 
 abbrev pub begins : Control → Caller → Caller
-begins x p = record p { own = p.own ++ Begin p.number ∷ []; base = None; refused = []; sight = None; walk = None; sweep = None; clean = []; found = record p.found { control = Some x } }
+begins x p = record p { position = record { rows = p.position.rows; old = None }; own = p.own ++ Begin p.number ∷ []; base = None; refused = []; sight = None; walk = None; sweep = None; clean = []; found = record p.found { control = Some x }; help = help_after x p.help }
 
 abbrev pub begun_by : Core → ℕ → Core
 begun_by c j = record c {
@@ -383,16 +380,18 @@ begun_by c j = record c {
   clean = put c.clean j [];
   sight = put c.sight j None;
   walk = put c.walk j None;
+  old = put c.old j None;
   found = put c.found j (record (c.found j) { control = Some c.words.control });
+  help = put c.help j (help_after c.words.control (c.help j));
 }
 
 -- ControlLoad: the control word x was found
 
 abbrev pub loads_control : Control → Caller → Caller
-loads_control x p = record p { found = record p.found { control = Some x } }
+loads_control x p = record p { found = record p.found { control = Some x }; help = help_after x p.help }
 
 abbrev pub control_loaded : Core → ℕ → Core
-control_loaded c j = record c { found = put c.found j (record (c.found j) { control = Some c.words.control }) }
+control_loaded c j = record c { found = put c.found j (record (c.found j) { control = Some c.words.control }); help = put c.help j (help_after c.words.control (c.help j)) }
 
 -- Mark: the row r, which holds the event e, is dead from now on, and its event taken
 
@@ -451,7 +450,7 @@ cut_from c j cell x l = let q = list_in c.shape (c.words.link x).generation (c.w
 -- Miss
 
 abbrev pub misses : ℕ → Control → Caller → Caller
-misses limit x p = record p { own = p.own ++ Miss p.number limit ∷ []; walk = None; found = record p.found { control = Some x } }
+misses limit x p = record p { own = p.own ++ Miss p.number limit ∷ []; walk = None; found = record p.found { control = Some x }; help = help_after x p.help }
 
 abbrev pub missed : Core → ℕ → ℕ → Core
 missed c j limit = record c {
@@ -459,6 +458,7 @@ missed c j limit = record c {
   own = put c.own j (c.own j ++ Miss j limit ∷ []);
   walk = put c.walk j None;
   found = put c.found j (record (c.found j) { control = Some c.words.control });
+  help = put c.help j (help_after c.words.control (c.help j));
 }
 
 -- Conditions
@@ -484,19 +484,19 @@ MaySeek s w (at_head q) in_search = (y : Sight) × (s ≡ Some y) × IsNextHead 
 MaySeek s w (at_row r) in_bucket = (x : Walk) × (w ≡ Some x) × (x.at ≡ r)
 MaySeek s w (at_row r) in_search = (x : Walk) × (w ≡ Some x) × (x.at ≡ r)
 
--- the words of the row are those of the event, and it is to be followed by the row next
-pub record IsWritten (written : List Wrote) (r : ℕ) (e : Event) (l : Link) : Type 0 where
-  pub link_is : In (record { row = r; place = 0; word = link_word (record l { mark = Val }) }) written
+-- the words of the row are those of the event, and it is to be followed by the row that the link l names, with this mark of its own
+pub record IsWritten (mark : Mark) (written : List Wrote) (r : ℕ) (e : Event) (l : Link) : Type 0 where
+  pub link_is : In (record { row = r; place = 0; word = link_word (record l { mark = mark }) }) written
   pub twin_is : In (record { row = r; place = 1; word = 0 }) written
   pub time_is : In (record { row = r; place = 2; word = e.time * 2 ^ 32 + e.dst }) written
   pub source_is : In (record { row = r; place = 3; word = e.src }) written
   pub sequence_is : In (record { row = r; place = 4; word = e.seq }) written
   pub load_is : In (record { row = r; place = 5; word = e.load }) written
 
--- the row r with the event e comes after the cell
-abbrev pub ComesAfter : Control → List Stand → Cell → ℕ → Event → Type 0
-ComesAfter x ss (at_head q) r e = IsHead q × (head_of x e ≡ q)
-ComesAfter x ss (at_row p) r e = (f : Event) × StandsOn ss p f × (rank f p < rank e r) × (head_of x f ≡ head_of x e)
+-- the row r with the event e comes after the cell, where this says of which list an event is
+abbrev pub ComesAfter : (Event → ℕ) → List Stand → Cell → ℕ → Event → Type 0
+ComesAfter list ss (at_head q) r e = IsHead q × (list e ≡ q)
+ComesAfter list ss (at_row p) r e = (f : Event) × StandsOn ss p f × (rank f p < rank e r) × (list f ≡ list e)
 
 -- and before the row n, if there is one
 abbrev pub ComesBefore : List Stand → ℕ → ℕ → Event → Type 0
@@ -510,8 +510,8 @@ pub record MayLink (n : ℕ) (x : Control) (cell : Cell) (l : Link) (r : ℕ) (e
   pub in_hand_is : In r p.hand
   pub event : IsEvent e
   pub expected : IsLink l × (is_cell l.mark ≡ true) × (l.generation ≡ x.generation)
-  pub written : IsWritten p.written r e l
-  pub after : ComesAfter x p.position.rows cell r e
+  pub written : IsWritten Val p.written r e l
+  pub after : ComesAfter (head_of x) p.position.rows cell r e
   pub before : ComesBefore p.position.rows l.row r e
   pub fresh : IsFresh n p.deal.history p.own p.deal.span p.number e
 

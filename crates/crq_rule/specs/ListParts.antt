@@ -104,6 +104,7 @@ pub record Marks (l : Layout) (control : Control) (head link : ℕ → Link) (tw
 
 pub record StandFits (head link : ℕ → Link) (twin : ℕ → ℕ) (event : ℕ → Event) (s : Stand) : Type 0 where
   pub holds : event s.row ≡ s.event
+  pub of : (link s.row).generation ≡ s.generation
   pub last : (l : Link) → s.last ≡ Some l → (link s.row ≡ l) × IsFinal l.mark
   pub copy : (t : ℕ) → s.twin ≡ Some t → (twin s.row ≡ t) × (0 < t)
   pub valid : s.valid ≡ true → (link s.row).mark ≡ Invalid → ⊥

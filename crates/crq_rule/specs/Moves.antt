@@ -6,28 +6,42 @@ use Rattle.crq_base.specs.declared.words.Link.{Link}
 use Rattle.crq_base.specs.declared.event.Event.{Event}
 use Rattle.crq_base.specs.declared.words.Control.{Control}
 use Rattle.crq_base.specs.declared.words.Current.{Current}
-use Rattle.crq_base.specs.declared.words.Mark.TheVariants.{Val, Del}
+use Rattle.crq_base.specs.declared.words.Mark.TheVariants.{Val, Inv as Invalid, Mov, Del}
 use Rattle.crq_base.specs.Words.{IsLink, IsControl, IsCurrent, link_word, control_word, current_word}
 use Rattle.crq_base.specs.Lists.{In}
 use Rattle.crq_rule.specs.declared.view.Sight.{Sight}
 use Rattle.crq_rule.specs.declared.view.Stand.{Stand}
 use Rattle.crq_rule.specs.declared.debts.CutDebt.{CutDebt}
 use Rattle.crq_rule.specs.declared.debts.SettleDebt.{SettleDebt}
+use Rattle.crq_rule.specs.declared.debts.CopyDebt.{CopyDebt}
 use Rattle.crq_rule.specs.declared.view.CutRow.{CutRow}
 use Rattle.crq_rule.specs.declared.view.Base.{Base}
+use Rattle.crq_rule.specs.declared.view.Help.{Help}
 use Rattle.crq_rule.specs.declared.view.Made.{Made}
 use Rattle.crq_rule.specs.declared.view.Caller.{Caller}
 use Rattle.crq_rule.specs.declared.view.View.{View}
 use Rattle.crq_rule.specs.Places.{IsRow, IsHomeRow}
 use Rattle.crq_rule.specs.Parts.{NotAfter, IsEvent, IsOn}
-use Rattle.crq_rule.specs.Core.{Core, caller_of}
+use Rattle.crq_rule.specs.Core.{Core, HasName, names_of, caller_of}
+use Rattle.crq_rule.specs.Helping.{IsHelping}
 use Rattle.crq_rule.specs.Invariant.{Inv}
 use Rattle.crq_rule.specs.Kinds.{FoundNoRow, makes, new_base, loads_based}
-use Rattle.crq_rule.specs.Ranks.{rank, head_of, IsOpen, Cell, at_head, at_row}
-use Rattle.crq_rule.specs.ListKinds.{Aim, StandsOn, walks}
+use Rattle.crq_rule.specs.Ranks.{rank, next_of, IsHeadIn, IsOpen, IsTold, list_by, Cell, at_head, at_row}
+use Rattle.crq_rule.specs.ListKinds.{Aim, StandsOn, walks, loads_control}
+use Rattle.crq_rule.specs.MoveKinds.{announces}
 use Rattle.crq_rule.specs.CurrentKinds.{loads_current, loads_owed}
+use Rattle.crq_rule.specs.CopyKinds.{loads_copy}
 use Rattle.crq_rule.specs.Steps.{Kind, May, After, kind_of}
 use Rattle.crq_rule.specs.Rule.{IsWords}
+
+-- what is known of a copy that the caller owes: it has room for its name
+pub record CopyKnown (d : CopyDebt) (p : Caller) : Type 0 where
+  pub on : IsOn p.guard
+  pub old : IsRow p.start.layout d.old
+  pub copy : IsRow p.start.layout d.copy
+  pub event : IsEvent d.event
+  pub last : IsLink d.last × (d.last.mark ≡ Mov) × (d.last.generation + 1 ≡ d.generation)
+  pub room : p.debts.second_cut ≡ None
 
 -- What every state that meets the invariant says of what one caller knows alone
 pub record Lawful (p : Caller) : Type 0 where
@@ -42,16 +56,23 @@ pub record Lawful (p : Caller) : Type 0 where
   pub apart : (r : ℕ) (s : Stand) → In r p.hand → In s p.position.rows → s.row ≢ r
   pub on : (s : Stand) → In s p.position.rows → IsOn p.guard
   pub agree : (s t : Stand) → In s p.position.rows → In t p.position.rows → s.row ≡ t.row → s.event ≡ t.event
-  pub owed_at : (d : CutDebt) (x : Control) → p.debts.cut ≡ Some d → p.found.control ≡ Some x → d.head ≡ head_of x d.event
-  pub owed_now : (d : CutDebt) (x : Control) → p.debts.cut ≡ Some d → p.found.control ≡ Some x → d.generation ≡ x.generation
-  pub owed_fits : (d : CutDebt) → p.debts.cut ≡ Some d → IsRow p.start.layout d.row × IsEvent d.event
-  pub one_name : p.debts.second_cut ≡ None
+  -- the dead rows that it owes to cut: where the control word tells of their table, it tells their lists
+  pub owed_at : (d : CutDebt) (x : Control) → HasName (names_of p.debts) d → p.found.control ≡ Some x → IsTold x d.generation → d.head ≡ list_by x d.generation d.event
+  pub owed_fits : (d : CutDebt) → HasName (names_of p.debts) d → IsRow p.start.layout d.row × IsEvent d.event
+  pub ordered : p.debts.cut ≡ None → p.debts.second_cut ≡ None
+  -- where the table may not move there is one at most, of the open table
+  pub owed_now : (d : CutDebt) (x : Control) → p.start.moves ≡ false → HasName (names_of p.debts) d → p.found.control ≡ Some x → d.generation ≡ x.generation
+  pub one_name : p.start.moves ≡ false → p.debts.second_cut ≡ None
+  -- and the copy that it owes to bind
+  pub copying : (d : CopyDebt) → p.debts.copy ≡ Some d → CopyKnown d p
   -- a caller that owes an event may raise current's epoch for it
   pub owing : (d : SettleDebt) → p.debts.settle ≡ Some d → IsEvent d.event × (d.shift < 2 ^ 5) × (p.permit ≡ true)
   -- a recovery that found no row began where there were enough events
   pub scarce : (b : Base) → FoundNoRow p b → p.start.layout.rows ≤ 2 * length b.events
   pub sighted : (s : Sight) → p.sight ≡ Some s → IsControl s.table × (s.table.moving ≡ false)
-  pub controlled : (x : Control) → p.found.control ≡ Some x → IsControl x × (x.moving ≡ false)
+  pub controlled : (x : Control) → p.found.control ≡ Some x → IsControl x × (p.start.moves ≡ false → x.moving ≡ false)
+  -- a helper found the control word of its move, which leads to a table that has a generation
+  pub helping : (h : Help) → p.help ≡ Some h → (x : Control) × (p.found.control ≡ Some x) × IsHelping x h × (x.generation + 1 < 2 ^ 30)
   -- a permit leaves an epoch behind the one that was found
   pub permitted : (x : Current) → p.permit ≡ true → p.found.current ≡ Some x → x.epoch + 1 < 2 ^ 32
 
@@ -76,13 +97,18 @@ FirstTurns R m (p ∷ ps) w = (q : Caller) × R p q × (q.number ≡ p.number) �
 
 -- the row that it names is of the cell's list, and comes after it
 abbrev pub WalksOn : Cell → Link → Event → Caller → Type 0
-WalksOn (at_head q) l e p = (x : Control) → p.found.control ≡ Some x → 0 < l.row → head_of x e ≡ q
-WalksOn (at_row r) l e p = (f : Event) → StandsOn p.position.rows r f → 0 < l.row → (rank f r < rank e l.row) × ((x : Control) → p.found.control ≡ Some x → head_of x e ≡ head_of x f)
+WalksOn (at_head q) l e p = (x : Control) → p.found.control ≡ Some x → IsTold x l.generation → 0 < l.row → list_by x l.generation e ≡ q
+WalksOn (at_row r) l e p = (f : Event) → StandsOn p.position.rows r f → 0 < l.row → (rank f r < rank e l.row) × ((x : Control) → p.found.control ≡ Some x → IsTold x l.generation → list_by x l.generation e ≡ list_by x l.generation f)
 
--- a head of the open table is open and of its generation, and a row of the list is of that too, and present or dead: no list is frozen yet
+-- a link is frozen, which comes only where the table may move
+abbrev pub IsFrozen : Link → Caller → Type 0
+IsFrozen l p = (l.mark ≡ Mov) × (p.start.moves ≡ true)
+
+-- A head of the table that was found is of its generation, and present or frozen; one of the table that it moves into is of that, and present, or older. A row is of the table of its stand; where the table may not move, it is present or dead
 abbrev pub IsWalkable : Cell → Link → Caller → Type 0
-IsWalkable (at_head q) l p = (x : Control) → p.found.control ≡ Some x → IsOpen x q → (l.mark ≡ Val) × (l.generation ≡ x.generation)
-IsWalkable (at_row r) l p = ((l.mark ≡ Val) ⊎ (l.mark ≡ Del)) × ((x : Control) → p.found.control ≡ Some x → l.generation ≡ x.generation)
+IsWalkable (at_head q) l p = (x : Control) → p.found.control ≡ Some x → (IsOpen x q → ((l.mark ≡ Val) ⊎ IsFrozen l p) × (l.generation ≡ x.generation))
+    × (x.moving ≡ true → IsHeadIn (x.generation + 1) (next_of x) q → x.generation < l.generation → (l.mark ≡ Val) × (l.generation ≡ x.generation + 1))
+IsWalkable (at_row r) l p = (((l.mark ≡ Val) ⊎ (l.mark ≡ Del)) ⊎ (p.start.moves ≡ true)) × ((s : Stand) → In s p.position.rows → s.row ≡ r → l.generation ≡ s.generation)
 
 -- a walk found the link of the cell, and the event of the row that it names
 pub record Walked (cell : Cell) (aim : Aim) (found : ℕ) (p q : Caller) : Type 0 where
@@ -95,13 +121,13 @@ pub record Walked (cell : Cell) (aim : Aim) (found : ℕ) (p q : Caller) : Type 
   pub next : WalksOn cell link event p
   pub marked : IsWalkable cell link p
 
--- a call began, or missed: the control word was found, which is steady
+-- a call began, or missed: the control word was found, which is steady unless the table may move
 pub record FoundControl (f : Control → Caller → Caller) (found : ℕ) (p q : Caller) : Type 0 where
   pub control : Control
   pub is_control : IsControl control
   pub word : control_word control ≡ found
   pub after : f control p ≡ q
-  pub steady : control.moving ≡ false
+  pub steady : p.start.moves ≡ false → control.moving ≡ false
 
 -- current was found, which isn't before any that the caller found, or saw as its take began
 pub record FoundCurrent (walks : Bool) (found : ℕ) (p q : Caller) : Type 0 where
@@ -119,6 +145,19 @@ pub record FoundOwed (d : SettleDebt) (found : ℕ) (p q : Caller) : Type 0 wher
   pub word : current_word current ≡ found
   pub after : loads_owed d current p ≡ q
   pub later : (x : Current) → p.found.current ≡ Some x → NotAfter x current
+
+-- the twin t of a row was found: where it is a row, that is a copy of the row in the next table
+abbrev pub TellsTwin : ℕ → Caller → Type 0
+TellsTwin t p = 0 < t → IsRow p.start.layout t
+
+-- the link of the copy that a caller owes was found: it is of the copy's table, and the copy isn't valid yet, or dead
+pub record FoundCopy (d : CopyDebt) (found : ℕ) (p q : Caller) : Type 0 where
+  pub link : Link
+  pub is_link : IsLink link
+  pub word : link_word link ≡ found
+  pub after : loads_copy link p ≡ q
+  pub of : link.generation ≡ d.generation
+  pub mark : (link.mark ≡ Invalid) ⊎ (link.mark ≡ Del)
 
 -- the epoch r was found: it isn't below any that the caller read, nor below an announcement that it scanned
 pub record TellsEpoch (r : ℕ) (p : Caller) : Type 0 where
@@ -152,3 +191,10 @@ word_after e = min (e + 1) (2 ^ 64 - 1)
 -- a row that is claimed wasn't in hand, and the home rows in hand are fewer than all
 abbrev pub TellsRoom : ℕ → Caller → Type 0
 TellsRoom r p = length p.hand < p.start.layout.home
+
+-- a table was to be announced where control was found to be x: it was, or else the control word that was found is known now
+pub record FoundAnnounce (x : Control) (log shift found : ℕ) (p q : Caller) : Type 0 where
+  pub control : Control
+  pub is_control : IsControl control
+  pub word : control_word control ≡ found
+  pub after : cond (found == control_word x) (announces log shift p) (loads_control control p) ≡ q

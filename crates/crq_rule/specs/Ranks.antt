@@ -1,5 +1,5 @@
 -- The order within a list, the list of an event, and the places at which a link stands.
-use Rattle.std.specs.Prelude.{ℕ, ◌+◌, ◌*◌, ◌/◌, ◌%◌, ◌^◌, ◌<◌, ◌≤◌, List, [], ◌∷◌, cond, ◌==◌}
+use Rattle.std.specs.Prelude.{◌≡◌, ◌⊎◌, Bool, true, ℕ, ◌+◌, ◌*◌, ◌/◌, ◌%◌, ◌^◌, ◌<◌, ◌≤◌, List, [], ◌∷◌, cond, ◌==◌, ◌||◌, ◌&&◌}
 use Rattle.crq_base.specs.declared.event.Event.{Event}
 use Rattle.crq_base.specs.declared.words.Link.{Link}
 use Rattle.crq_base.specs.declared.words.Control.{Control}
@@ -48,6 +48,21 @@ head_of x e = head_in x.generation (shape_of x) e
 
 abbrev pub list_in : (ℕ → Shape) → ℕ → Event → ℕ
 list_in shape g e = head_in g (shape g) e
+
+-- the control word tells of the table of this generation: that is the open one, or the one that it moves into
+abbrev pub tells_of : Control → ℕ → Bool
+tells_of x g = (g == x.generation) || (x.moving && (g == x.generation + 1))
+
+abbrev pub IsTold : Control → ℕ → Type 0
+IsTold x g = (g ≡ x.generation) ⊎ ((x.moving ≡ true) × (g ≡ x.generation + 1))
+
+-- then the list of an event there is this
+abbrev pub list_by : Control → ℕ → Event → ℕ
+list_by x g e = head_in g (cond (g == x.generation) (shape_of x) (next_of x)) e
+
+-- the list of an event in the table that it moves into
+abbrev pub next_list : Control → Event → ℕ
+next_list x e = head_in (x.generation + 1) (next_of x) e
 
 -- the head q is one of the table
 abbrev pub IsHeadIn : ℕ → Shape → ℕ → Type 0

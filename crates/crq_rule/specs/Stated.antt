@@ -1,5 +1,5 @@
 -- What the invariant says in the end, part by part, in the words of the field. The parts that are kept are stronger, and imply each of these.
-use Rattle.std.specs.Prelude.{◌≡◌, ◌⊎◌, ◌↔◌, ℕ, ◌+◌, ◌-◌, ◌*◌, ◌^◌, ◌<◌, ◌≤◌, List, [], ◌∷◌, ◌++◌, length, take, drop, true, Some, None, Contains}
+use Rattle.std.specs.Prelude.{◌≢◌, ◌≡◌, ◌⊎◌, ◌↔◌, ℕ, ◌+◌, ◌-◌, ◌*◌, ◌^◌, ◌<◌, ◌≤◌, List, [], ◌∷◌, ◌++◌, length, take, drop, true, Some, None, Contains}
 use Rattle.std.specs.declared.cmp.Ordering.TheVariants.{Equal}
 use Rattle.crq_base.specs.declared.event.Event.{Event}
 use Rattle.crq_base.specs.declared.entry.Entry.{Entry}
@@ -8,26 +8,29 @@ use Rattle.crq_base.specs.Entries.{caller_of as whose}
 use Rattle.crq_base.specs.Keys.{key_cmp}
 use Rattle.crq_base.specs.Histories.{puts, settleds, outs, table_count, raising_count, own as own_of, IsEarlier, IsPending, Began, IsLegal}
 use Rattle.crq_base.specs.declared.words.Link.{Link}
-use Rattle.crq_base.specs.declared.words.Mark.TheVariants.{Val, Del, Mov}
+use Rattle.crq_base.specs.declared.words.Mark.TheVariants.{Val, Inv as Invalid, Del, Mov}
 use Rattle.crq_base.specs.declared.words.Control.{Control}
 use Rattle.crq_base.specs.declared.words.Current.{Current}
 use Rattle.crq_base.specs.declared.words.Pin.{Pin}
-use Rattle.crq_base.specs.Words.{IsLink, IsControl, IsCurrent, IsPin, IsStampWord, link_word, control_word, current_word, pin_word}
+use Rattle.crq_base.specs.Words.{flag_number, IsLink, IsControl, IsCurrent, IsPin, IsStampWord, link_word, control_word, current_word, pin_word}
 use Rattle.crq_base.specs.Lists.{In, IsOnce}
 use Rattle.crq_base.specs.Sources.{owner_of}
 use Rattle.crq_base.specs.Refusals.{AreCounted}
 use Rattle.crq_rule.specs.declared.debts.CutDebt.{CutDebt}
 use Rattle.crq_rule.specs.declared.debts.SettleDebt.{SettleDebt}
+use Rattle.crq_rule.specs.declared.debts.CopyDebt.{CopyDebt}
 use Rattle.crq_rule.specs.declared.layout.Layout.{Layout}
 use Rattle.crq_rule.specs.declared.view.Guard.TheVariants.{Off, Entering, On}
 use Rattle.crq_rule.specs.declared.view.CutRow.{CutRow}
 use Rattle.crq_rule.specs.declared.view.Base.{Base}
+use Rattle.crq_rule.specs.declared.view.Help.{Help}
 use Rattle.crq_rule.specs.declared.view.Sight.{Sight}
 use Rattle.crq_rule.specs.declared.view.Walk.{Walk}
 use Rattle.crq_rule.specs.Places.{Place, spare, between, epoch, announced, control, current, pin, head, link, stamp, twin, time, source, sequence, load, IsPlace, IsRow, IsHomeRow, IsHead, word_of}
 use Rattle.crq_rule.specs.Core.{Core, DeadNames, Holding, in_hand, listed, cut_by, retired}
 use Rattle.crq_rule.specs.Parts.{ground_of, newest, NotAfter, IsOn, LetsRise, Leads, Names, Reaches, Covers, HasTag}
-use Rattle.crq_rule.specs.Ranks.{bucket, head_for, shape_of, list_in, head_of, IsOpen}
+use Rattle.crq_rule.specs.Ranks.{bucket, head_for, shape_of, next_of, list_in, head_of, IsHeadIn, IsOpen}
+use Rattle.crq_rule.specs.ListParts.{IsFinal}
 use Rattle.crq_rule.specs.HistoryParts.{IsLive, EndsInBegin, IsSought, IsNotBefore}
 use Rattle.crq_rule.specs.Bounds.{permits}
 use Rattle.crq_rule.specs.ScarceParts.{IsLate, pending}
@@ -115,11 +118,20 @@ pub record CoverHolds (c : Core) : Type 0 where
 
 -- 5. Lists
 
+-- a head of the open table is of its generation, and present, or frozen in a move
 abbrev pub IsOpenHead : Control → Link → Type 0
-IsOpenHead c l = (l.mark ≡ Val) × (l.generation ≡ c.generation)
+IsOpenHead x l = ((l.mark ≡ Val) ⊎ ((x.moving ≡ true) × (l.mark ≡ Mov))) × (l.generation ≡ x.generation)
+
+-- the head is one of the table into which the open one moves
+abbrev pub IsNext : Control → ℕ → Type 0
+IsNext x q = (x.moving ≡ true) × IsHeadIn (x.generation + 1) (next_of x) q
+
+-- and prepared
+abbrev pub IsNextHead : Control → Link → Type 0
+IsNextHead x l = (l.mark ≡ Val) × (l.generation ≡ x.generation + 1)
 
 abbrev pub IsShutHead : Control → Link → Type 0
-IsShutHead c l = (l.mark ≡ Mov) × (l.row ≡ 0) × (l.generation < c.generation)
+IsShutHead x l = (l.mark ≡ Mov) × (l.row ≡ 0) × (l.generation < x.generation)
 
 -- the row r with the event e comes before the row s with the event f: by the order of keys, and by row where the keys are the same
 abbrev pub Precedes : Event → ℕ → Event → ℕ → Type 0
@@ -152,19 +164,27 @@ IsInHand c r = (j : ℕ) × (c.holding r ≡ in_hand j)
 abbrev pub OwesCut : DeadNames → ℕ → Event → Type 0
 OwesCut d r e = (x : CutDebt) × ((d.first ≡ Some x) ⊎ (d.second ≡ Some x)) × (x.row ≡ r) × (x.event ≡ e)
 
--- The generation of the open table has the shape that the control word says. The heads of that table are open and of its generation, and have their lists; all others are shut and empty. Links of covered rows lead on as those of listed ones do. A listed row is VAL or DEL;
--- a row that is VAL and not in hand is listed, and one that was cut or retired is DEL. No row that isn't in hand has a twin. Each listed row that is DEL is owed to be cut by a caller that names it by
+-- the head q is frozen, and r is the first row of its list
+abbrev pub IsFrozenFront : Core → ℕ → ℕ → Type 0
+IsFrozenFront c q r = ((c.words.head q).mark ≡ Mov) × ((c.words.head q).row ≡ r)
+
+-- The generation of the open table has the shape that the control word says, and so has that of the table into which it moves. The heads of the open table are of its generation, present or frozen, and have their lists; those of the other are prepared, and have theirs, or
+-- are shut and empty still, and none of them is so once a head is frozen; all others are shut and empty. Links of covered rows lead on as those of listed ones do. A listed row that is MOV is the first of a frozen head;
+-- a row that is VAL or INV and not in hand is listed, and one that was cut or retired is DEL or MOV. No row that isn't in hand and isn't MOV has a twin. Each listed row that is DEL is owed to be cut by a caller that names it by
 -- row and event; no caller names more than two, since `Debts` has two places for them
 pub record ListsHold (c : Core) : Type 0 where
   pub shaped : c.shape c.words.control.generation ≡ shape_of c.words.control
+  pub shaped_next : c.words.control.moving ≡ true → c.shape (c.words.control.generation + 1) ≡ next_of c.words.control
   pub opened : (q : ℕ) → IsHead q → IsOpen c.words.control q → IsOpenHead c.words.control (c.words.head q) × IsListOf c q (c.chain q)
-  pub shut : (q : ℕ) → IsHead q → (IsOpen c.words.control q → ⊥) → IsShutHead c.words.control (c.words.head q) × (c.chain q ≡ [])
+  pub next : (q : ℕ) → IsHead q → IsNext c.words.control q → (IsNextHead c.words.control (c.words.head q) × IsListOf c q (c.chain q)) ⊎ (IsShutHead c.words.control (c.words.head q) × (c.chain q ≡ []))
+  pub order : (p q : ℕ) → IsHead p → IsHead q → IsOpen c.words.control p → (c.words.head p).mark ≡ Mov → IsNext c.words.control q → IsNextHead c.words.control (c.words.head q)
+  pub shut : (q : ℕ) → IsHead q → (IsOpen c.words.control q → ⊥) → (IsNext c.words.control q → ⊥) → IsShutHead c.words.control (c.words.head q) × (c.chain q ≡ [])
   pub covered : (k g r : ℕ) → IsCovered c k g r → IsRow c.start.layout r × (0 < (c.words.link r).row → LeadsOn c r (c.words.link r).row)
-  pub marked : (r q : ℕ) → IsRow c.start.layout r → c.holding r ≡ listed q → ((c.words.link r).mark ≡ Val) ⊎ ((c.words.link r).mark ≡ Del)
-  pub present : (r : ℕ) → IsRow c.start.layout r → (c.words.link r).mark ≡ Val → (IsInHand c r → ⊥) → (q : ℕ) × IsHead q × In r (c.chain q)
-  pub cut : (r j : ℕ) → IsRow c.start.layout r → c.holding r ≡ cut_by j → (c.words.link r).mark ≡ Del
-  pub retired : (r t : ℕ) → IsRow c.start.layout r → c.holding r ≡ retired t → (c.words.link r).mark ≡ Del
-  pub twins : (r : ℕ) → IsRow c.start.layout r → (IsInHand c r → ⊥) → c.words.twin r ≡ 0
+  pub marked : (r q : ℕ) → IsRow c.start.layout r → c.holding r ≡ listed q → (c.words.link r).mark ≡ Mov → IsFrozenFront c q r
+  pub present : (r : ℕ) → IsRow c.start.layout r → ((c.words.link r).mark ≡ Val) ⊎ ((c.words.link r).mark ≡ Invalid) → (IsInHand c r → ⊥) → (q : ℕ) × IsHead q × In r (c.chain q)
+  pub cut : (r j : ℕ) → IsRow c.start.layout r → c.holding r ≡ cut_by j → IsFinal (c.words.link r).mark
+  pub retired : (r t : ℕ) → IsRow c.start.layout r → c.holding r ≡ retired t → IsFinal (c.words.link r).mark
+  pub twins : (r : ℕ) → IsRow c.start.layout r → (IsInHand c r → ⊥) → ((c.words.link r).mark ≡ Mov → ⊥) → c.words.twin r ≡ 0
   pub named : (r q : ℕ) → IsRow c.start.layout r → c.holding r ≡ listed q → (c.words.link r).mark ≡ Del → (k : ℕ) × (k < c.start.layout.workers) × OwesCut (c.named k) r (c.words.event r)
 
 -- 6. Carriers
@@ -218,6 +238,10 @@ pub record IsDue (c : Core) (k : ℕ) (e : Event) : Type 0 where
   pub put : Contains (puts (take (c.read k) c.history)) e
   pub pending : IsPending c.history e
 
+-- the row r, which is present or frozen, is of the table of generation g and holds the event e
+abbrev pub IsKeptIn : Core → ℕ → Event → ℕ → Type 0
+IsKeptIn c g e r = (((c.words.link r).mark ≡ Val) ⊎ ((c.words.link r).mark ≡ Mov)) × ((c.words.link r).generation ≡ g) × (c.words.event r ≡ e)
+
 -- Of a take that saw current for a table: each event that was settled before its caller's last Begin and is pending isn't before that current. While current is that still, and the table open, each event that was put since the take read the table, and is settled, is of a later bucket. An event that is
 -- owed to an older table was put before that. A walk is of a head of that table, which is the head of its bucket, and at its list's end or at a row that its caller's guard covers. Each pending event of that list, and of a bucket that the walk seeks, that was put before the take read the table
 -- stands in the row at which the walk is, or in one that is reached from it. So where the walk came to the end all those events are out. In a search no such event of the lists before is earlier than the least one found there
@@ -230,7 +254,7 @@ pub record WalkersHold (c : Core) : Type 0 where
       → (s : Sight) × (c.sight k ≡ Some s) × IsHead w.head × IsOpen s.table w.head × ((w.at ≡ 0) ⊎ ((g : ℕ) × IsCovered c k g w.at))
   pub of : (k b : ℕ) (s : Sight) (w : Walk) → IsWalking c k s w → w.bucket ≡ Some b → (b ≡ bucket (shape_of s.table) s.current.tick) × (w.head ≡ head_for s.table.generation (shape_of s.table) b)
   pub left : (k : ℕ) (s : Sight) (w : Walk) (e : Event) → IsWalking c k s w → head_of s.table e ≡ w.head → IsSought w.bucket (bucket (shape_of s.table) e.time) → IsDue c k e
-      → (r : ℕ) × (0 < w.at) × StandsIn c e r × Reaches c.words.link c.words.twin w.at r
+      → (r : ℕ) × (0 < w.at) × IsKeptIn c s.table.generation e r × Reaches c.words.link c.words.twin w.at r
   pub ended : (k : ℕ) (s : Sight) (w : Walk) (e : Event) → IsWalking c k s w → w.at ≡ 0 → head_of s.table e ≡ w.head → IsSought w.bucket (bucket (shape_of s.table) e.time) → Contains (puts (take (c.read k) c.history)) e
       → Contains (outs c.history) e
   pub done : (k : ℕ) (s : Sight) (w : Walk) (e : Event) → IsWalking c k s w → w.bucket ≡ None → head_of s.table e < w.head → IsDue c k e → IsNotBefore w.least e
@@ -257,14 +281,55 @@ pub record ScarcityHolds (c : Core) : Type 0 where
 
 -- 11. Bounds
 
--- A generation is left, and the epoch of the guards has room. A caller that owes an event has a permit. Current's epoch and the permits leave 48 epochs, and each rise of that epoch stands in the history. So does each table: the newest one's generation is the first one and their number
+-- A generation is left, and the epoch of the guards has room. A caller that owes an event has a permit. Current's epoch, the permits, and one epoch more while the table moves leave 48 epochs, and each rise of that epoch stands in the history. So does each table: the newest one's generation is the first one and their number
 pub record BoundsHold (c : Core) : Type 0 where
   pub generation : c.words.control.generation ≤ 2 ^ 30 - 2
   pub opened : newest c.words.control ≡ c.start.first.generation + table_count c.history
   pub guards : c.words.epoch ≤ 2 ^ 62
   pub owed : (k : ℕ) (d : SettleDebt) → k < c.start.layout.workers → c.settling k ≡ Some d → c.permit k ≡ true
-  pub permits : c.words.current.epoch + permits c.permit c.start.layout.workers ≤ 2 ^ 32 - 48
-  pub entries : c.words.current.epoch ≤ c.start.first.epoch + raising_count c.history
+  pub permits : c.words.current.epoch + (permits c.permit c.start.layout.workers + flag_number c.words.control.moving) ≤ 2 ^ 32 - 48
+  pub entries : c.words.current.epoch + flag_number c.words.control.moving ≤ c.start.first.epoch + raising_count c.history
+
+-- 12. Helpers
+
+-- A helper found the control word of its move. As long as that goes on, what it has passed is so: once those are all heads, each head of the new table is prepared, each of the old one frozen, or frozen and empty
+pub record HelpersHold (c : Core) : Type 0 where
+  pub finds : (k : ℕ) (h : Help) → k < c.start.layout.workers → c.help k ≡ Some h → (x : Control) × ((c.found k).control ≡ Some x) × (x.moving ≡ true) × (x.generation ≡ h.generation)
+  pub prepared : (k q : ℕ) (h : Help) → k < c.start.layout.workers → c.help k ≡ Some h → h.generation ≡ c.words.control.generation → h.prepared ≡ 2 ^ c.words.control.new_log → IsNext c.words.control q → IsNextHead c.words.control (c.words.head q)
+  pub frozen : (k q : ℕ) (h : Help) → k < c.start.layout.workers → c.help k ≡ Some h → h.generation ≡ c.words.control.generation → h.frozen ≡ 2 ^ c.words.control.log → IsOpen c.words.control q → (c.words.head q).mark ≡ Mov
+  pub emptied : (k q : ℕ) (h : Help) → k < c.start.layout.workers → c.help k ≡ Some h → h.generation ≡ c.words.control.generation → h.emptied ≡ 2 ^ c.words.control.log → IsOpen c.words.control q
+      → ((c.words.head q).mark ≡ Mov) × ((c.words.head q).row ≡ 0)
+
+-- 13. Copies
+
+abbrev pub IsInList : Core → ℕ → Type 0
+IsInList c r = (q : ℕ) × (c.holding r ≡ listed q)
+
+-- the listed row r is frozen, and t is its twin
+pub record HasTwin (c : Core) (r t : ℕ) : Type 0 where
+  pub row : IsRow c.start.layout r
+  pub in_list : IsInList c r
+  pub frozen : (c.words.link r).mark ≡ Mov
+  pub twin : c.words.twin r ≡ t
+  pub some : 0 < t
+
+-- the caller k owes the copy t
+pub record OwesCopy (c : Core) (k t : ℕ) : Type 0 where
+  pub inside : k < c.start.layout.workers
+  pub debt : CopyDebt
+  pub owes : c.copying k ≡ Some debt
+  pub copy : debt.copy ≡ t
+
+-- A twin of a listed MOV row names a listed row of the next table, INV or VAL, with the same event, and no row is named by two. Each INV row that isn't in hand is such a twin, or the copy of exactly one debt. The old row of a debt is MOV, and holds the copy's event. A covered MOV row that isn't listed
+-- has a twin that isn't INV
+pub record CopiesHold (c : Core) : Type 0 where
+  pub twins : (r t : ℕ) → HasTwin c r t → IsInList c t × (((c.words.link t).mark ≡ Invalid) ⊎ ((c.words.link t).mark ≡ Val)) × ((c.words.link t).generation ≡ (c.words.link r).generation + 1) × (c.words.event t ≡ c.words.event r)
+  pub one : (r s t : ℕ) → HasTwin c r t → HasTwin c s t → r ≡ s
+  pub bound : (t : ℕ) → IsRow c.start.layout t → (IsInHand c t → ⊥) → (c.words.link t).mark ≡ Invalid → ((r : ℕ) × HasTwin c r t) ⊎ ((k : ℕ) × OwesCopy c k t)
+  pub apart : (r k t : ℕ) → HasTwin c r t → OwesCopy c k t → ⊥
+  pub alone : (j k t : ℕ) → OwesCopy c j t → OwesCopy c k t → j ≡ k
+  pub old : (k : ℕ) (d : CopyDebt) → k < c.start.layout.workers → c.copying k ≡ Some d → ((c.words.link d.old).mark ≡ Mov) × (c.words.event d.old ≡ c.words.event d.copy)
+  pub left : (k g r : ℕ) → IsCovered c k g r → (c.words.link r).mark ≡ Mov → (IsInList c r → ⊥) → (c.words.twin r ≢ 0) × ((c.words.link (c.words.twin r)).mark ≢ Invalid)
 
 -- A state that meets the invariant in which the listed row r is covered by a guard, the row s was cut and has a tag, and the row t is retired
 pub record Witness (c : Core) : Type 0 where

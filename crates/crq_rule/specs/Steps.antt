@@ -1,24 +1,28 @@
 -- One step of any kind, on core states: when it may come, and what it leaves.
 use Rattle.std.specs.Prelude.{◌≡◌, true, false, ℕ, ◌<◌, ◌^◌, Bool, List, [], ◌∷◌, Some, None}
 use Rattle.crq_base.specs.declared.kinds.StepKind.{StepKind}
-use Rattle.crq_base.specs.declared.kinds.StepKind.TheVariants.{Split, Join, EpochLoad, Enter, Confirm, Leave, Scan, Tick, Retire, Look, Claim, Write, Read, ControlLoad, CurrentLoad, SettleLoad, Settle, Raise, Begin, Walk, Link as LinkKind, Mark, Cut, Miss}
+use Rattle.crq_base.specs.declared.kinds.StepKind.TheVariants.{Split, Join, EpochLoad, Enter, Confirm, Leave, Scan, Tick, Retire, Look, Claim, Write, Read, ControlLoad, CurrentLoad, SettleLoad, Settle, Raise, Begin, Walk, Link as LinkKind, Mark, Cut, Miss, Announce, Prepare, FreezeHead, FreezeNode, Pop, TwinLoad, Copy, Bind, Validate, Discard}
 use Rattle.crq_base.specs.declared.event.Event.{Event}
 use Rattle.crq_base.specs.declared.words.Link.{Link}
 use Rattle.crq_base.specs.declared.words.Control.{Control}
 use Rattle.crq_base.specs.declared.words.Current.{Current}
 use Rattle.crq_base.specs.declared.entry.Entry.{Entry}
-use Rattle.crq_base.specs.declared.entry.Entry.TheVariants.{Begin as BeginEntry, Put as PutEntry, Settled as SettledEntry, Take as TakeEntry, Miss as MissEntry}
+use Rattle.crq_base.specs.declared.entry.Entry.TheVariants.{Begin as BeginEntry, Put as PutEntry, Settled as SettledEntry, Take as TakeEntry, Miss as MissEntry, Table as TableEntry}
 use Rattle.crq_rule.specs.declared.debts.SettleDebt.{SettleDebt}
 use Rattle.crq_rule.specs.declared.view.Guard.TheVariants.{Off}
-use Rattle.crq_base.specs.declared.words.Mark.TheVariants.{Val}
+use Rattle.crq_base.specs.declared.words.Mark.TheVariants.{Val, Mov}
 use Rattle.crq_base.specs.Lists.{In}
-use Rattle.crq_rule.specs.Places.{IsHomeRow, Place, spare, epoch, announced, control, current, stamp, link as link_place}
+use Rattle.crq_rule.specs.Places.{IsHomeRow, Place, spare, epoch, announced, control, current, head, stamp, twin as twin_place, link as link_place}
 use Rattle.crq_rule.specs.Parts.{IsOn}
-use Rattle.crq_rule.specs.Ranks.{Cell, cell_place, link_at}
+use Rattle.crq_rule.specs.Ranks.{Cell, at_head, cell_place, link_at}
 use Rattle.crq_rule.specs.Core.{Core, caller_of}
 use Rattle.crq_rule.specs.Kinds.{epoch_loaded, recovery_begun, entered, confirmed, left, scanned, ticked, tick_failed, retired_at, looked, claimed, HasScanned, IsEntering, MayRetire, IsRipe}
 use Rattle.crq_rule.specs.CurrentKinds.{current_loaded, raised, lies_ahead, event_settled, settled_back, MayView, MayRaise, MaySettle}
 use Rattle.crq_rule.specs.ListKinds.{Aim, is_cell, Content, IsContent, content_number, row_place, written_at, walked_from, linked, control_loaded, begun_by, marked, cut_from, missed, StandsOn, MayWalk, MaySeek, MayLink, MayMark, MayCut, MayMiss}
+use Rattle.crq_rule.specs.MoveKinds.{prepared_link, frozen_link, table_announced, head_left, row_frozen, MayAnnounce, MayPrepare, MayFreezeHead, MayFreezeRow, MayPop}
+use Rattle.crq_rule.specs.declared.debts.CopyDebt.{CopyDebt}
+use Rattle.crq_rule.specs.declared.view.Stand.{Stand}
+use Rattle.crq_rule.specs.CopyKinds.{twin_loaded, twin_found, copied, copy_loaded, bound_by, validated_by, lost_name, front_name, discarded_by, MayTwin, MayCopy, MayValidate, MayDrop, MayDiscard}
 
 -- the kinds of step with their operands; an exchange that fails is a case of its own. Splitting and joining move parts of views from seat to seat, and leave the core state
 pub data Kind : Type 0 where
@@ -54,6 +58,28 @@ pub data Kind : Type 0 where
   cut : Cell → ℕ → Link → Kind
   cut_fails : Cell → Kind
   miss : ℕ → Kind
+  announce : Control → ℕ → ℕ → Kind
+  announce_fails : Kind
+  prepare : Control → ℕ → Link → Kind
+  prepare_fails : ℕ → Kind
+  freeze_head : Control → ℕ → Link → Kind
+  freeze_head_fails : ℕ → Kind
+  freeze_row : ℕ → Link → Kind
+  freeze_row_fails : ℕ → Kind
+  pop : ℕ → ℕ → Link → Kind
+  pop_fails : ℕ → Kind
+  twin_load : ℕ → Kind
+  twin_reload : CopyDebt → Kind
+  copy : Cell → Link → ℕ → Stand → Link → Kind
+  copy_fails : Cell → Kind
+  copy_load : CopyDebt → Kind
+  bind : CopyDebt → Kind
+  bind_fails : CopyDebt → Kind
+  validate : ℕ → Link → Kind
+  validate_fails : ℕ → Kind
+  discard_copy : CopyDebt → Link → Kind
+  discard_front : ℕ → ℕ → Event → Link → Kind
+  discard_fails : ℕ → Kind
 
 -- when the caller j may make it
 abbrev pub May : Kind → Core → ℕ → Type 0
@@ -89,6 +115,28 @@ May (mark_fails r) c j = Unit {0}
 May (cut cell x l) c j = MayCut cell x l (caller_of c j) × ((is_cell (link_at c.words.head c.words.link cell).mark ≡ true) × ((link_at c.words.head c.words.link cell).row ≡ x))
 May (cut_fails cell) c j = Unit {0}
 May (miss limit) c j = MayMiss limit (caller_of c j)
+May (announce x log shift) c j = MayAnnounce x log shift (caller_of c j) × (c.words.control ≡ x)
+May announce_fails c j = Unit {0}
+May (prepare x q l) c j = MayPrepare x q l (caller_of c j) × (c.words.head q ≡ l)
+May (prepare_fails q) c j = Unit {0}
+May (freeze_head x q l) c j = MayFreezeHead x q l (caller_of c j) × (c.words.head q ≡ l)
+May (freeze_head_fails q) c j = Unit {0}
+May (freeze_row r l) c j = MayFreezeRow r l (caller_of c j) × (c.words.link r ≡ l)
+May (freeze_row_fails r) c j = Unit {0}
+May (pop q r last) c j = MayPop q r last (caller_of c j) × (((c.words.head q).mark ≡ Mov) × ((c.words.head q).row ≡ r))
+May (pop_fails q) c j = Unit {0}
+May (twin_load r) c j = MayTwin r (caller_of c j)
+May (twin_reload d) c j = c.copying j ≡ Some d
+May (copy cell l r s last) c j = ((x : Control) × MayCopy x cell l r s last (caller_of c j)) × (link_at c.words.head c.words.link cell ≡ l)
+May (copy_fails cell) c j = Unit {0}
+May (copy_load d) c j = c.copying j ≡ Some d
+May (bind d) c j = (c.copying j ≡ Some d) × (c.words.twin d.old ≡ 0)
+May (bind_fails d) c j = c.copying j ≡ Some d
+May (validate t l) c j = MayValidate t l (caller_of c j) × (c.words.link t ≡ l)
+May (validate_fails t) c j = Unit {0}
+May (discard_copy d l) c j = MayDrop d l (caller_of c j) × (c.words.link d.copy ≡ l)
+May (discard_front q r e l) c j = MayDiscard q r e l (caller_of c j) × (c.words.link r ≡ l)
+May (discard_fails r) c j = Unit {0}
 
 -- the core state after it
 abbrev pub After : Kind → Core → ℕ → Core
@@ -124,6 +172,28 @@ After (mark_fails r) c j = c
 After (cut cell x l) c j = cut_from c j cell x l
 After (cut_fails cell) c j = c
 After (miss limit) c j = missed c j limit
+After (announce x log shift) c j = table_announced c j x log shift
+After announce_fails c j = control_loaded c j
+After (prepare x q l) c j = head_left c j q (prepared_link x)
+After (prepare_fails q) c j = c
+After (freeze_head x q l) c j = head_left c j q (frozen_link l)
+After (freeze_head_fails q) c j = c
+After (freeze_row r l) c j = row_frozen c j r l
+After (freeze_row_fails r) c j = c
+After (pop q r last) c j = cut_from c j (at_head q) r last
+After (pop_fails q) c j = c
+After (twin_load r) c j = twin_loaded c j r
+After (twin_reload d) c j = twin_found c j d
+After (copy cell l r s last) c j = copied c j cell l r s last
+After (copy_fails cell) c j = c
+After (copy_load d) c j = copy_loaded c j d
+After (bind d) c j = bound_by c j d
+After (bind_fails d) c j = twin_found c j d
+After (validate t l) c j = validated_by c j t l
+After (validate_fails t) c j = c
+After (discard_copy d l) c j = discarded_by c j d.copy l (lost_name d) None
+After (discard_front q r e l) c j = discarded_by c j r l (front_name q r e l) (c.copying j)
+After (discard_fails r) c j = c
 
 -- the word that it loads, stores or exchanges
 abbrev pub place_of : Kind → ℕ → Place
@@ -159,6 +229,28 @@ place_of (mark_fails r) j = link_place r
 place_of (cut cell x l) j = cell_place cell
 place_of (cut_fails cell) j = cell_place cell
 place_of (miss limit) j = control
+place_of (announce x log shift) j = control
+place_of announce_fails j = control
+place_of (prepare x q l) j = head q
+place_of (prepare_fails q) j = head q
+place_of (freeze_head x q l) j = head q
+place_of (freeze_head_fails q) j = head q
+place_of (freeze_row r l) j = link_place r
+place_of (freeze_row_fails r) j = link_place r
+place_of (pop q r last) j = head q
+place_of (pop_fails q) j = head q
+place_of (twin_load r) j = twin_place r
+place_of (twin_reload d) j = twin_place d.old
+place_of (copy cell l r s last) j = cell_place cell
+place_of (copy_fails cell) j = cell_place cell
+place_of (copy_load d) j = link_place d.copy
+place_of (bind d) j = twin_place d.old
+place_of (bind_fails d) j = twin_place d.old
+place_of (validate t l) j = link_place t
+place_of (validate_fails t) j = link_place t
+place_of (discard_copy d l) j = link_place d.copy
+place_of (discard_front q r e l) j = link_place r
+place_of (discard_fails r) j = link_place r
 
 -- its name
 abbrev pub kind_of : Kind → StepKind
@@ -194,6 +286,28 @@ kind_of (mark_fails r) = Mark
 kind_of (cut cell x l) = Cut
 kind_of (cut_fails cell) = Cut
 kind_of (miss limit) = Miss
+kind_of (announce x log shift) = Announce
+kind_of announce_fails = Announce
+kind_of (prepare x q l) = Prepare
+kind_of (prepare_fails q) = Prepare
+kind_of (freeze_head x q l) = FreezeHead
+kind_of (freeze_head_fails q) = FreezeHead
+kind_of (freeze_row r l) = FreezeNode
+kind_of (freeze_row_fails r) = FreezeNode
+kind_of (pop q r last) = Pop
+kind_of (pop_fails q) = Pop
+kind_of (twin_load r) = TwinLoad
+kind_of (twin_reload d) = TwinLoad
+kind_of (copy cell l r s last) = Copy
+kind_of (copy_fails cell) = Copy
+kind_of (copy_load d) = Walk
+kind_of (bind d) = Bind
+kind_of (bind_fails d) = Bind
+kind_of (validate t l) = Validate
+kind_of (validate_fails t) = Validate
+kind_of (discard_copy d l) = Discard
+kind_of (discard_front q r e l) = Discard
+kind_of (discard_fails r) = Discard
 
 -- the entries that it adds to the history
 abbrev pub entries_of : Kind → ℕ → List Entry
@@ -203,6 +317,7 @@ entries_of (settle_now d) j = SettledEntry j d.event ∷ []
 entries_of (settle d y) j = SettledEntry j d.event ∷ []
 entries_of (mark r e) j = TakeEntry j e ∷ []
 entries_of (miss limit) j = MissEntry j limit ∷ []
+entries_of (announce x log shift) j = TableEntry j log shift ∷ []
 entries_of _ j = []
 
 -- the step of kind k of the caller j leads from c to c'

@@ -2,6 +2,7 @@
 //! running them does nothing.
 ghost use Rattle.std.specs.Prelude.{◌≡◌, ◌≢◌, ℕ, ◌+◌, ◌-◌, ◌*◌, ◌/◌, ◌<◌, ◌≤◌, List, [], ◌++◌, length, take};
 ghost use Rattle.atomic_table.specs.Table.{opening, Joins, Me, Splits};
+ghost use Rattle.crq_base.specs.declared.words.Mark.TheVariants.{Inv as Invalid};
 ghost use Rattle.crq_base.specs.Starts.{IsFirst};
 ghost use Rattle.crq_base.specs.Lists.{In};
 ghost use Rattle.crq_base.specs.Refusals.{AreCounted};
@@ -19,7 +20,7 @@ ghost use Rattle.crq_rule.specs.Steps.{Kind, recovery_load, look, May, After, Is
 ghost use Rattle.crq_rule.specs.Rule.{Stands, first_view, joined, spent, head_view, tail_view, IsFirstApart};
 ghost use Rattle.crq_rule.specs.Deals.{HasAll, LoadsSpare, Gathered, IsSilent, spans};
 ghost use Rattle.crq_rule.specs.Opening.{opening_core, opening_words};
-ghost use Rattle.crq_rule.specs.Stated.{WordsHold, HoldersHold, GuardsHold, CoverHolds, ListsHold, CarriersHold, HistoryHolds, CurrentHolds, WalkersHold, ScarcityHolds, BoundsHold, IsCovered, Witness};
+ghost use Rattle.crq_rule.specs.Stated.{WordsHold, HoldersHold, GuardsHold, CoverHolds, ListsHold, CarriersHold, HistoryHolds, CurrentHolds, WalkersHold, ScarcityHolds, BoundsHold, HelpersHold, CopiesHold, IsCovered, HasTwin, Witness};
 
 /// Each kind of step keeps the invariant, from every state that meets it. It changes the word of its kind alone, if any,
 /// and what its own caller knows alone, and it adds its entries to the history, which is else as it was.
@@ -62,7 +63,7 @@ pub fn opening_law()
 
 /// The invariant that is kept implies each of its parts as it is stated: on words, on the holders of rows, on guards, on
 /// covered rows, on lists, on the rows that carry pending events, on the history, on current, on takes that walk, on
-/// recoveries of rows, and on how far counters may rise.
+/// recoveries of rows, on how far counters may rise, on what helpers of a move have passed, and on copies.
 pub fn parts_law()
     ensures words { (c : Core) → Inv c → WordsHold c }
     ensures holders { (c : Core) → Inv c → HoldersHold c }
@@ -75,11 +76,19 @@ pub fn parts_law()
     ensures walkers { (c : Core) → Inv c → WalkersHold c }
     ensures scarcity { (c : Core) → Inv c → ScarcityHolds c }
     ensures bounds { (c : Core) → Inv c → BoundsHold c }
+    ensures helpers { (c : Core) → Inv c → HelpersHold c }
+    ensures copies { (c : Core) → Inv c → CopiesHold c }
 {}
 
 /// Some state in which current was raised meets the invariant.
 pub fn current_law()
     ensures { (c : Core) × Inv c × (0 < c.words.current.tick) }
+{}
+
+/// Some state in the middle of a move meets the invariant: a row of the open table is frozen, and its copy in the next
+/// table is bound and not valid yet.
+pub fn move_law()
+    ensures { (c : Core) × Inv c × ((r : ℕ) × (t : ℕ) × HasTwin c r t × ((c.words.link t).mark ≡ Invalid)) }
 {}
 
 /// A recovery of rows begins with a load of the epoch, and notes where the history is and which events are pending there.

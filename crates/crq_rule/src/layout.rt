@@ -37,4 +37,6 @@ pub struct Start {
     pub layout: Layout,
     /// Where its counters begin.
     pub first: First,
+    /// Whether it may move into a table of another size.
+    pub moves: bool,
 }

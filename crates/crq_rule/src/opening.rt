@@ -144,14 +144,21 @@ fn places_of(alloc: Global, layout: &Layout) -> Result<Vec<Seating>, AllocError>
 }
 
 /// A new table, in which all rows are free at their home and nothing is put. It takes all memory that the table and its
-/// passes ever take, and answers an error only where there is none.
-pub fn open_table(alloc: Global, layout: &Layout, first: First) -> Result<Opened, AllocError>
+/// passes ever take, and answers an error only where there is none. Unless it `moves`, no caller may announce another
+/// table behind it.
+pub fn open_table(
+    alloc: Global,
+    layout: &Layout,
+    first: First,
+    moves: bool,
+) -> Result<Opened, AllocError>
     requires { IsFirst first }
-    ensures { IfOk result (λ opened. IsOpening (record { layout = layout.now; first = first }) opened.table opened.seat opened.places.items) }
+    ensures { IfOk result (λ opened. IsOpening (record { layout = layout.now; first = first; moves = moves }) opened.table opened.seat opened.places.items) }
 {
     let start = Start {
         layout: *layout,
         first,
+        moves,
     };
     let places = places_of(alloc, layout)?;
     let words = words_of(alloc, &start)?;

@@ -39,6 +39,8 @@ pub struct Deal {
 pub struct Stand {
     pub row: u64,
     pub event: Event,
+    /// The generation of its table.
+    pub generation: u64,
     /// Its link, where that was found dead or frozen: then it is the last one, which never changes again.
     pub last: Option<Link>,
     /// The row's copy in the next table, if it was found.

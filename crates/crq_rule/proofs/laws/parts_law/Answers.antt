@@ -1,6 +1,8 @@
 use Rattle.crq_rule.proofs.Stating.{words_hold, holders_hold, guards_hold, cover_holds, current_holds, bounds_hold}
 use Rattle.crq_rule.proofs.StatingLists.{lists_hold, carriers_hold, history_holds, walkers_hold}
 use Rattle.crq_rule.proofs.StatingScarcity.{scarcity_holds}
+use Rattle.crq_rule.proofs.StatingHelpers.{helpers_hold}
+use Rattle.crq_rule.proofs.StatingCopies.{copies_hold}
 use Rattle.crq_rule.proofs.laws.parts_law.Goals as goal
 
 pub returns : goal.returns
@@ -16,4 +18,6 @@ returns c = record {
   walkers = walkers_hold;
   scarcity = scarcity_holds;
   bounds = bounds_hold;
+  helpers = helpers_hold;
+  copies = copies_hold;
 }
