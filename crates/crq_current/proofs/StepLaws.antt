@@ -68,7 +68,7 @@ next_number x y bits low = let start = tick_low (shape_of x) (y.tick / 2 ^ x.shi
 -- a pass that settled its event, or did not, agrees with what is known of its caller
 
 settled_owed : (b : Bool) (d : SettleDebt) (run : Debts) (p : Caller) → IsOwed run p.debts → IsOwed (cond b (record run { settle = None }) run) (cond b (settles_back d p) p).debts
-settled_owed true d run p o = record { settle = inl refl; copy = o.copy; cut = o.cut; second_cut = o.second_cut }
+settled_owed true d run p o = record { settle = inl refl; copy = o.copy; names = o.names }
 settled_owed false d run p o = o
 
 settled_hand : (b : Bool) (d : SettleDebt) (p : Caller) → (cond b (settles_back d p) p).hand ≡ p.hand
@@ -77,7 +77,7 @@ settled_hand false d p = refl
 
 -- the same where the load left nothing but current known
 loaded_owed : (b : Bool) (d : SettleDebt) (y : Current) (run : Debts) (p : Caller) → IsOwed run p.debts → IsOwed (cond b (record run { settle = None }) run) (cond b (settles d p) (loads_current false y p)).debts
-loaded_owed true d y run p o = record { settle = inl refl; copy = o.copy; cut = o.cut; second_cut = o.second_cut }
+loaded_owed true d y run p o = record { settle = inl refl; copy = o.copy; names = o.names }
 loaded_owed false d y run p o = o
 
 loaded_hand : (b : Bool) (d : SettleDebt) (y : Current) (p : Caller) → (cond b (settles d p) (loads_current false y p)).hand ≡ p.hand

@@ -33,7 +33,7 @@ take_uncut n table x op op' old new (Marked r e c) a = a.3
 take_uncut n table x op op' old new (Beyond e) a = a.4
 take_uncut n table x op op' old new Nothing a = a.3
 take_uncut n table x op op' old new Lost a = a.3
-take_uncut n table x op op' old new Frozen a = absurd a
+take_uncut n table x op op' old new Frozen a = a.2
 
 -- and the guard on
 pub take_ended_inside : {n : ℕ} {table : Table} {x : Control} {op op' : TakeOp} {old new : Pass} (end : MarkEnd) → IsTaking n table x op (caller table old) → TakeStepped n table x op op' old new (Done end) → IsInside table x new
@@ -68,12 +68,12 @@ module _ {table : Table} {x : Control} {old new : Pass} {y : Current} (v : Viewe
   }
 
   -- the take of current's bucket begins
-  pub takes_here : (op : TakeOp) (limit : ℕ) → EndsInBegin (caller table old).own → old.debts.cut ≡ None
+  pub takes_here : (op : TakeOp) (limit : ℕ) → EndsInBegin (caller table old).own → old.debts.cut ≡ None → old.debts.second_cut ≡ None
       → op ≡ record { found = x; place = Bucket (y.tick / 2 ^ x.shift); head = head_at x (Bucket (y.tick / 2 ^ x.shift)); limit = limit; best = None; state = LoadHead }
       → IsTaking 0 table x op (caller table new) × (op.place ≡ Bucket (bucket (shape_of x) y.tick))
   unfolding bucket
-  takes_here op limit began free is = (
-    may_take v.is viewed_inside op (Bucket (y.tick / 2 ^ x.shift)) limit (omega arith) (subst EndsInBegin (sym (ap (λ (p : Caller). p.own) v.part)) began) (ap (λ (p : Pass). p.debts.cut) v.same ∙ free)
+  takes_here op limit began free one is = (
+    may_take v.is viewed_inside op (Bucket (y.tick / 2 ^ x.shift)) limit (omega arith) (subst EndsInBegin (sym (ap (λ (p : Caller). p.own) v.part)) began) (ap (λ (p : Pass). p.debts.cut) v.same ∙ free) (ap (λ (p : Pass). p.debts.second_cut) v.same ∙ one)
         (y, ap (λ (p : Caller). p.sight) v.part ∙ ap (λ c. table_seen c y) inside.control, refl) is,
     ap (λ (o : TakeOp). o.place) is,
   )

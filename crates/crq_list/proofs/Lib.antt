@@ -1,5 +1,8 @@
 pub mod StepLaws
+pub mod HelpLaws
+pub mod CopyLaws
 pub mod InsertLaws
+pub mod InsertUses
 pub mod Heads
 pub mod TakeLoads
 pub mod TakeLaws

@@ -11,8 +11,7 @@ use Rattle.crq_base.specs.declared.words.Mark.TheVariants.{Val, Del}
 use Rattle.crq_base.specs.declared.words.Control.{Control}
 use Rattle.crq_base.specs.Words.{IsLink, IsControl, mark_number, link_word, control_word}
 use Rattle.crq_base.proofs.WordLaws.{link_one, control_one}
-use Rattle.crq_rule.proofs.NameLaws.{moved_first, moved_second}
-use Rattle.crq_rule.specs.Core.{renamed, moved_up}
+use Rattle.crq_rule.specs.Core.{moved_up, names_of}
 use Rattle.crq_rule.specs.declared.debts.CutDebt.{CutDebt}
 use Rattle.crq_rule.specs.declared.debts.Debts.{Debts}
 use Rattle.crq_rule.specs.declared.layout.Start.{Start}
@@ -29,6 +28,7 @@ use Rattle.crq_rule.specs.Moves.{Lawful, Walked, FoundControl, wins}
 use Rattle.crq_rule.proofs.Placing.{within}
 use Rattle.crq_rows.specs.Passes.{caller, IsSeated, IsOwed, IsPassOf, StaysAside, Turned, Exchanges, load_made, step_made, counted}
 use Rattle.crq_rows.proofs.Reached.{stand_row}
+use Rattle.crq_rows.proofs.Passing.{lag_dropped}
 use Rattle.crq_list.specs.Swaps.{Saw, Controlled, Swapped, LinkSwapped, MarkSwapped}
 
 -- links to two rows have two words, and so have a present one and a dead one
@@ -51,9 +51,9 @@ pub place_below : (table : Table) (p : Place) (w : ℕ) → IsPlace table.start.
 place_below table p w place is = let wide = table.wide in let low = within table.start.layout p place in omega arith
 
 -- a cell after which a row may come is one that may be walked
-pub comes_walk : (x : Control) (ss : List Stand) (cell : Cell) (r : ℕ) (e : Event) → ComesAfter x ss cell r e → MayWalk ss cell
-comes_walk x ss (at_head q) r e after = after.0
-comes_walk x ss (at_row p) r e after = (after.0, after.1)
+pub comes_walk : (list : Event → ℕ) (ss : List Stand) (cell : Cell) (r : ℕ) (e : Event) → ComesAfter list ss cell r e → MayWalk ss cell
+comes_walk list ss (at_head q) r e after = after.0
+comes_walk list ss (at_row p) r e after = (after.0, after.1)
 
 dropped : (b : Bool) (d : CutDebt) → (cond b None (Some d) ≡ Some d) ⊎ (cond b None (Some d) ≡ None)
 dropped true d = inr refl
@@ -67,17 +67,12 @@ pub unnamed_is : (r : ℕ) (d : Option CutDebt) → (unnamed r d ≡ d) ⊎ (unn
 unnamed_is r None = inl refl
 unnamed_is r (Some d) = dropped (d.row == r) d
 
--- of one name that a caller has, what is dropped leaves none
-pub one_moved : (d : Debts) (first : Option CutDebt) (drop : Option CutDebt → Option CutDebt) → drop None ≡ None → d.second_cut ≡ None → (first ≡ d.cut) ⊎ (first ≡ None)
-    → (renamed d (moved_up first (drop d.second_cut)) ≡ d) ⊎ (renamed d (moved_up first (drop d.second_cut)) ≡ record d { cut = None })
-one_moved d first drop keeps one is = let none : drop d.second_cut ≡ None = ap drop one ∙ keeps in let second = moved_second first (drop d.second_cut) none ∙ sym one in
-    ⊎_elim (λ same. inl (λ i. record d { cut = (moved_first first (drop d.second_cut) none ∙ same) i; second_cut = second i })) (λ dropped. inr (λ i. record d { cut = (moved_first first (drop d.second_cut) none ∙ dropped) i; second_cut = second i })) is
-
 -- what the pass has at run time still agrees after a walk
 pub walked_aside : (cell : Cell) (aim : Aim) (found : ℕ) (p q : Caller) → Lawful p → Walked cell aim found p q → StaysAside p q
 walked_aside cell aim found p q law h = subst (StaysAside p) h.after record {
   hand = refl;
-  debts = one_moved p.debts (relieved p.found.control cell p.position.rows h.link h.event p.debts.cut) (relieved p.found.control cell p.position.rows h.link h.event) refl law.one_name (relieved_is p.found.control cell p.position.rows h.link h.event p.debts.cut);
+  debts = let gone = relieved p.found.control cell p.position.rows h.link h.event in let is = relieved_is p.found.control cell p.position.rows h.link h.event in
+      inr (moved_up (gone p.debts.cut) (gone p.debts.second_cut), refl, lag_dropped (names_of p.debts) (gone p.debts.cut) (gone p.debts.second_cut) law.ordered (is p.debts.cut) (is p.debts.second_cut));
 }
 
 -- and after a cut, won or not
@@ -85,7 +80,10 @@ pub cut_aside : (expected r found : ℕ) (p : Caller) → Lawful p → StaysAsid
 cut_aside expected r found p law = go (found == expected)
   where
     go : (b : Bool) → StaysAside p (cond b (cuts r p) p)
-    go true = record { hand = refl; debts = one_moved p.debts (unnamed r p.debts.cut) (unnamed r) refl law.one_name (unnamed_is r p.debts.cut) }
+    go true = record {
+      hand = refl;
+      debts = inr (moved_up (unnamed r p.debts.cut) (unnamed r p.debts.second_cut), refl, lag_dropped (names_of p.debts) (unnamed r p.debts.cut) (unnamed r p.debts.second_cut) law.ordered (unnamed_is r p.debts.cut) (unnamed_is r p.debts.second_cut));
+    }
     go false = record { hand = refl; debts = inl refl }
 
 -- the link that was found is the one that the word spells
@@ -103,14 +101,14 @@ saw table old new cell aim word found l of at bits spells t = let w = t.after.1 
 }
 
 -- the control word that was found is the one that the word spells
-pub controlled : (kind : StepKind) (table : Table) (old new : Pass) (f : Control → Caller → Caller) (word found : ℕ) (x : Control) → word ≡ index table.start.layout control → IsControl x → control_word x ≡ found
+pub controlled : (kind : StepKind) (table : Table) (old new : Pass) (f : Control → Caller → Caller) (word found : ℕ) (x : Control) → IsPassOf table old → word ≡ index table.start.layout control → IsControl x → control_word x ≡ found
     → Turned table old new (load_made kind word found) (FoundControl f found) → Controlled kind table old new f x
-controlled kind table old new f word found x at bits spells t = let w = t.after.1 in subst (Controlled kind table old new f) (control_one w.control x w.is_control bits (w.word ∙ sym spells)) record {
+controlled kind table old new f word found x of at bits spells t = let w = t.after.1 in subst (Controlled kind table old new f) (control_one w.control x w.is_control bits (w.word ∙ sym spells)) record {
   is = t.is;
   same = t.same;
   is_control = w.is_control;
   part = t.after.2 ∙ (λ i. makes (load_made kind (at i) (sym w.word i)) (sym w.after i));
-  steady = w.steady;
+  steady = λ still. w.steady (ap (λ (z : Start). z.moves) of.sits.started ∙ still);
 }
 
 -- the list of an event, as shifts of 32 bits give it
@@ -155,14 +153,14 @@ module _ (table : Table) (old mid new : Pass) (cell : Cell) (word from to found 
       hands false p mine = sym mine
 
       owes : (b : Bool) (p : Caller) → IsOwed old.debts p.debts → p.debts.settle ≡ None → IsOwed old.debts (cond b (links x r e p) p).debts
-      owes true p o none = record { settle = inl (⊎_elim (λ run. run) (λ same. sym same ∙ none) o.settle); copy = o.copy; cut = o.cut; second_cut = o.second_cut }
+      owes true p o none = record { settle = inl (⊎_elim (λ run. run) (λ same. sym same ∙ none) o.settle); copy = o.copy; names = o.names }
       owes false p o none = o
 
   -- Mark: the row is owed to be cut where it won
-  pub marked : (l : Link) (x : Control) (r : ℕ) (e : Event) → IsPassOf table old → word ≡ index table.start.layout (cell_place cell) → from ≡ link_word l → to ≡ link_word (record l { mark = Del })
+  pub marked : (l : Link) (x : Control) (r : ℕ) (e : Event) → IsPassOf table old → (caller table old).debts.cut ≡ None → word ≡ index table.start.layout (cell_place cell) → from ≡ link_word l → to ≡ link_word (record l { mark = Del })
       → Exchanges table old mid (step_made MarkKind word from to found) (wins (link_word l) (marks x r e) found) → (found == from) ≡ won
       → new ≡ record mid { debts = new.debts } → new.debts ≡ cond won (record mid.debts { cut = Some (cut_debt x r e) }) mid.debts → MarkSwapped table old new cell l x r e won
-  marked l x r e of at is_from is_to step how same debts = let p : Caller = caller table old in
+  marked l x r e of unowed at is_from is_to step how same debts = let p : Caller = caller table old in
       let part : caller table new ≡ makes (step_made MarkKind word from to found) (wins (link_word l) (marks x r e) found p) = ap (caller table) same ∙ step.part in
       let after : caller table new ≡ makes (step_made MarkKind word from to found) (cond won (marks x r e p) p) = part ∙ (λ i. makes (step_made MarkKind word from to found) (cond ((ap (λ z. found == z) (sym is_from) ∙ how) i) (marks x r e p) p)) in
       let debts' : new.debts ≡ cond won (record old.debts { cut = Some (cut_debt x r e) }) old.debts = debts ∙ ap (λ (q : Pass). cond won (record q.debts { cut = Some (cut_debt x r e) }) q.debts) step.same in
@@ -172,7 +170,7 @@ module _ (table : Table) (old mid new : Pass) (cell : Cell) (word from to found 
           lawful = subst Lawful (sym (ap (caller table) same)) step.lawful;
           free = ap (λ z. z.items) free ∙ (of.free ∙ (sym (hands won p) ∙ sym (ap (λ (q : Caller). q.hand) after)));
           room = subst (λ z. table.start.layout.home ≤ deque_capacity z) (sym free) of.room;
-          debts = subst (λ (z : Debts × Debts). IsOwed z.0 z.1) (λ i. (sym debts' i, sym (ap (λ (q : Caller). q.debts) after) i)) (owes won p of.debts);
+          debts = subst (λ (z : Debts × Debts). IsOwed z.0 z.1) (λ i. (sym debts' i, sym (ap (λ (q : Caller). q.debts) after) i)) (owes won p of.debts (of.lawful.ordered unowed));
         } (ap (λ (q : Pass). q.turns) same ∙ step.turns) (ap (λ (q : Pass). q.number) same ∙ ap (λ (q : Pass). q.number) step.same) part how;
         free = ap (λ z. z.items) free;
         debts = debts';
@@ -182,9 +180,9 @@ module _ (table : Table) (old mid new : Pass) (cell : Cell) (word from to found 
       hands true p = refl
       hands false p = refl
 
-      owes : (b : Bool) (p : Caller) → IsOwed old.debts p.debts → IsOwed (cond b (record old.debts { cut = Some (cut_debt x r e) }) old.debts) (cond b (marks x r e p) p).debts
-      owes true p o = record { settle = o.settle; copy = o.copy; cut = inr refl; second_cut = o.second_cut }
-      owes false p o = o
+      owes : (b : Bool) (p : Caller) → IsOwed old.debts p.debts → p.debts.second_cut ≡ None → IsOwed (cond b (record old.debts { cut = Some (cut_debt x r e) }) old.debts) (cond b (marks x r e p) p).debts
+      owes true p o none = record { settle = o.settle; copy = o.copy; names = inr (inl (λ i. record { first = Some (cut_debt x r e); second = none i })) }
+      owes false p o none = o
 
 -- what linking changes, by the control word that the caller found
 abbrev pub links_by : Option Control → ℕ → Event → Caller → Caller

@@ -24,8 +24,8 @@ use Rattle.crq_list.specs.Seeking.{IsSeeking, SeekStepped, SeekStretch, seek_exc
 use Rattle.crq_list.specs.Cutting.{CutStepped, CutStretch, progress_of}
 use Rattle.crq_list.specs.Inserting.{sought_by, IsInserting, InsertStepped, InsertStretch, after_seek, insert_exchanges}
 use Rattle.crq_list.specs.Taking.{IsTaking, TakeStepped, TakeStretch, take_exchanges}
-use Rattle.crq_list.proofs.SeekSteps.{cut_ends}
-use Rattle.crq_list.proofs.InsertLaws.{seeks_on, seeks_there}
+use Rattle.crq_list.proofs.SeekSteps.{cut_ends, cut_frozen}
+use Rattle.crq_list.proofs.InsertLaws.{seeks_on, seeks_there, seeks_frozen}
 
 module _ (S A : Type 0) (Stepped : S → S → Pass → Pass → A → Type 0) (exchanges : S → Bool) (more : A) where
   -- from the state `now` on, whatever stretch follows, is one from the first state on
@@ -59,9 +59,9 @@ fell exchanges left less plain told = ⊎_elim (λ yes. absurd (false≢true (sy
 
 pub cut_told : (n : ℕ) (table : Table) (x : Control) (op : CutOp) (seek seek' : SeekState) (old new : Pass) (answer : Progress SeekEnd) → op.swept ≡ false → SeekStepped n table x op.sought seek seek' old new answer
     → CutStepped n table x (record op { state = seek }) (record op { state = seek' }) old new (progress_of answer)
-cut_told n table x op seek seek' old new More plain s = record { is = s.is; works = s.works; kind = s.kind; turns = s.turns; number = s.number; free = s.free; debts = s.debts; own = s.own; owed = s.owed; answers = ((s.answers.0, λ swept. absurd (false≢true (sym plain ∙ swept))), refl, s.answers.1) }
+cut_told n table x op seek seek' old new More plain s = record { is = s.is; works = s.works; kind = s.kind; copying = s.copying; turns = s.turns; number = s.number; free = s.free; debts = s.debts; own = s.own; owed = s.owed; answers = ((s.answers.0, λ swept. absurd (false≢true (sym plain ∙ swept))), refl, s.answers.1) }
 cut_told n table x op seek seek' old new (Done (There b)) plain s = cut_ends n table x (record op { state = seek }) (record op { state = seek' }) b old new s
-cut_told n table x op seek seek' old new (Done FoundFrozen) plain s = absurd s.answers
+cut_told n table x op seek seek' old new (Done FoundFrozen) plain s = cut_frozen n table x (record op { state = seek }) (record op { state = seek' }) old new s
 
 pub cut_stretch : (n : ℕ) (table : Table) (x : Control) (op : CutOp) (seek seek' : SeekState) (old new : Pass) (answer : Progress SeekEnd) → op.swept ≡ false → SeekStretch n table x op.sought seek seek' old new answer
     → CutStretch n table x (record op { state = seek }) (record op { state = seek' }) old new (progress_of answer)
@@ -75,7 +75,7 @@ pub seek_told : (n : ℕ) (table : Table) (x : Control) (op : InsertOp) (seek se
     → SeekStepped n table x (sought_by op) seek seek' old new answer → InsertStepped n table x (record op { state = Seeking seek }) (record op { state = (after_seek seek' answer).0 }) old new (after_seek seek' answer).1
 seek_told n table x op seek seek' old new More of i s = seeks_on n table x op old new seek seek' of i s
 seek_told n table x op seek seek' old new (Done (There b)) of i s = seeks_there n table x op old new seek seek' b of i s
-seek_told n table x op seek seek' old new (Done FoundFrozen) of i s = absurd s.answers
+seek_told n table x op seek seek' old new (Done FoundFrozen) of i s = seeks_frozen n table x op old new seek seek' of i s
 
 pub insert_stretch : (n : ℕ) (table : Table) (x : Control) (op : InsertOp) (seek seek' : SeekState) (old new : Pass) (answer : Progress SeekEnd) → IsPassOf table old → IsInserting n table x (record op { state = Seeking seek }) (caller table old)
     → SeekStretch n table x (sought_by op) seek seek' old new answer → InsertStretch n table x (record op { state = Seeking seek }) (record op { state = (after_seek seek' answer).0 }) old new (after_seek seek' answer).1

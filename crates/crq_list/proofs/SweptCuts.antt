@@ -6,6 +6,7 @@ use Rattle.crq_base.specs.declared.words.Control.{Control}
 use Rattle.crq_rule.specs.declared.pass.Pass.{Pass}
 use Rattle.crq_rule.specs.declared.pass.Table.{Table}
 use Rattle.crq_rule.specs.declared.view.Caller.{Caller}
+use Rattle.crq_rule.specs.Core.{HasName, names_of}
 use Rattle.crq_rule.specs.Ranks.{rank, at_head, at_row}
 use Rattle.crq_rule.specs.ListKinds.{StandsOn}
 use Rattle.crq_rows.specs.Passes.{caller}
@@ -23,7 +24,7 @@ use Rattle.crq_list.specs.Spots.{Target, IsUpTo, IsAfter}
 use Rattle.crq_list.specs.Seeking.{IsSeeking, SeekStepped, is_on_way}
 use Rattle.crq_list.specs.Cutting.{IsOnRow, CutsSwept, IsCutting, CutStepped, follows, progress_of}
 use Rattle.crq_list.proofs.SweepLaws.{sweep_stays, past_on}
-use Rattle.crq_list.proofs.SeekSteps.{cut_ends, one_target}
+use Rattle.crq_list.proofs.SeekSteps.{cut_ends, cut_frozen, one_target}
 
 module _ (n : ℕ) (table : Table) (x : Control) (sought : Sought) (old new : Pass) where
   -- a row that comes after the target isn't the one that is cut
@@ -70,7 +71,7 @@ module _ (n : ℕ) (table : Table) (x : Control) (sought : Sought) (old new : Pa
     row = c.row;
     target_is = c.target_is;
     past = past_on n table.start.layout sought.list.head c.event c.row (caller table old) (caller table new) s.works.step s.works.made at.counted (λ t f less on. subst (λ ss. StandsOn ss t f) (sym s.keeps.0) on) c.past;
-    at = λ d owed. c.at d (sym s.keeps.1 ∙ owed);
+    at = λ d owed. c.at d (subst (λ z. HasName (names_of z) d) s.keeps.1 owed);
   }
   on_way (Retiring spot row tag) seek' answer s at c goes = absurd (false≢true goes)
 
@@ -91,6 +92,7 @@ module _ (n : ℕ) (table : Table) (x : Control) (op : CutOp) (old new : Pass) w
     is = s.is;
     works = s.works;
     kind = s.kind;
+    copying = s.copying;
     turns = s.turns;
     number = s.number;
     free = s.free;
@@ -100,7 +102,7 @@ module _ (n : ℕ) (table : Table) (x : Control) (op : CutOp) (old new : Pass) w
     answers = ((s.answers.0, λ goes. on_way n table x op.sought old new op.state seek' More s at.0 (at.1 swept) goes), refl, s.answers.1);
   }
   swept_told seek' (Done (There b)) swept at s = cut_ends n table x op (record op { state = seek'; swept = follows op.state seek' }) b old new s
-  swept_told seek' (Done FoundFrozen) swept at s = absurd s.answers
+  swept_told seek' (Done FoundFrozen) swept at s = cut_frozen n table x op (record op { state = seek'; swept = follows op.state seek' }) old new s
 
   -- the row is retired, and nothing is left to do
   pub swept_ends : (op' : CutOp) (seek' : SeekState) (answer : Progress SeekEnd) (spot : Spot) (row tag : ℕ) → op.state ≡ Retiring spot row tag → op.swept ≡ true → IsCutting n table x op (caller table old)
@@ -111,6 +113,7 @@ module _ (n : ℕ) (table : Table) (x : Control) (op : CutOp) (old new : Pass) w
         is = s'.is;
         works = s'.works;
         kind = s'.kind;
+        copying = s'.copying;
         turns = s'.turns;
         number = s'.number;
         free = s'.free;
@@ -119,7 +122,7 @@ module _ (n : ℕ) (table : Table) (x : Control) (op : CutOp) (old new : Pass) w
         owed = s'.owed;
         answers = (
           s.keeps.1,
-          λ d upto head owed. c.at d (sym s.keeps.0.1 ∙ owed) (ap (λ (z : Event × ℕ). z.1) (one_target (d.event, d.row) (c.event, c.row) (sym upto ∙ c.target_is))),
+          λ d same owed. c.at d (subst (λ z. HasName (names_of z) d) s.keeps.0.1 owed) (ap (λ (z : Event × ℕ). z.1) (one_target (d.event, d.row) (c.event, c.row) (sym same.0 ∙ c.target_is))),
           record {
             row = c.past.next;
             sweeps = sweep_stays n (caller table old).made (caller table new).made s.works.step s.works.made at.0.counted table.start.layout (at_head op.sought.list.head) (at_row c.past.next) c.past.sweeps;

@@ -1,12 +1,12 @@
 -- What is known of a take's words, stands and walk after one step more, and what each step that loads a head, a row or a word of its event tells.
-use Rattle.std.proofs.Common.{◌≢◌, ◌≡◌, ⊎_elim, inl, inr, ℕ, ◌+◌, ◌<◌, ◌≤◌, ltb, leb, ◌&&◌, cond, true, List, [], ◌∷◌, ◌++◌, length, drop, Option, Some, None, eq-eqb, ne_eqb, sym, refl, ap, ◌∙◌, subst, arith}
+use Rattle.std.proofs.Common.{◌≢◌, ◌≡◌, ⊎_elim, inl, inr, ℕ, ◌+◌, ◌<◌, ◌≤◌, ltb, leb, ◌&&◌, cond, true, false, List, [], ◌∷◌, ◌++◌, length, drop, Option, Some, None, eq-eqb, ne_eqb, sym, refl, ap, ◌∙◌, subst, arith}
 use Rattle.std.proofs.lemmas.Bool.{cond_both, ltb-true, ltb-false, leb-true, leb-false}
 use mathlib.Core.Logic.{dite}
 use native.Mathlib.Decide.{ℕ_discrete}
 use Rattle.crq_base.specs.declared.event.Event.{Event}
 use Rattle.crq_base.specs.declared.kinds.StepKind.TheVariants.{Walk as WalkKind, Read}
 use Rattle.crq_base.specs.declared.words.Link.{Link}
-use Rattle.crq_base.specs.declared.words.Mark.TheVariants.{Val}
+use Rattle.crq_base.specs.declared.words.Mark.TheVariants.{Val, Mov, Del}
 use Rattle.crq_base.specs.declared.words.Control.{Control}
 use Rattle.crq_base.specs.declared.words.Current.{Current}
 use Rattle.crq_base.specs.Words.{IsLink, IsControl, link_word}
@@ -14,6 +14,7 @@ use Rattle.crq_rule.specs.Core.{names_of, renamed}
 use Rattle.crq_rule.specs.declared.layout.Layout.{Layout}
 use Rattle.crq_rule.specs.declared.pass.Pass.{Pass}
 use Rattle.crq_rule.specs.declared.pass.Table.{Table}
+use Rattle.crq_rule.specs.declared.view.Help.{Help}
 use Rattle.crq_rule.specs.declared.view.Made.{Made}
 use Rattle.crq_rule.specs.declared.view.Position.{Position}
 use Rattle.crq_rule.specs.declared.view.Stand.{Stand}
@@ -24,8 +25,9 @@ use Rattle.crq_rule.specs.Places.{index, current, link as link_place, IsHead}
 use Rattle.crq_rule.specs.Parts.{IsEvent}
 use Rattle.crq_rule.specs.Kinds.{makes}
 use Rattle.crq_rule.specs.Ranks.{rank, bucket, shape_of, first_head_of, head_for, head_of, Cell, at_head, at_row, cell_place}
-use Rattle.crq_rule.specs.ListKinds.{StandsOn, MaySeek, EndedWalk, FoundFirst, is_take, is_passed, is_val, stands_after, begins_walk, new_walk, bucket_seen, least_after, walked, walk_after, walks, best_of, swept_head, taken_on, sweep_on, clean_on, row_place, event_word, relieved_names}
-use Rattle.crq_rule.specs.Moves.{Lawful}
+use Rattle.crq_rule.specs.ListKinds.{is_cell, StandsOn, MaySeek, EndedWalk, FoundFirst, is_take, is_passed, is_val, stands_after, begins_walk, new_walk, bucket_seen, least_after, walked, walk_after, walks, best_of, swept_head, taken_on, sweep_on, clean_on, row_place, event_word, relieved_names}
+use Rattle.crq_rule.specs.Helping.{helped_by}
+use Rattle.crq_rule.specs.Moves.{Lawful, IsFrozen}
 use Rattle.crq_rows.specs.Passes.{caller, load_made, IsPassOf, Stepped}
 use Rattle.crq_rows.specs.Reading.{stays}
 use Rattle.crq_rows.proofs.Knowing.{known_here, known_else}
@@ -34,20 +36,21 @@ use Rattle.crq_list.specs.declared.parts.Place.TheVariants.{Bucket, Search}
 use Rattle.crq_list.specs.declared.parts.Progress.{Progress}
 use Rattle.crq_list.specs.declared.parts.Progress.TheVariants.{More, Done}
 use Rattle.crq_list.specs.declared.take.MarkEnd.{MarkEnd}
-use Rattle.crq_list.specs.declared.take.MarkEnd.TheVariants.{Beyond, Nothing}
+use Rattle.crq_list.specs.declared.take.MarkEnd.TheVariants.{Beyond, Nothing, Frozen}
 use Rattle.crq_list.specs.declared.take.Candidate.{Candidate}
 use Rattle.crq_list.specs.declared.take.TakeOp.{TakeOp}
+use Rattle.crq_list.specs.declared.take.TakeState.{TakeState}
 use Rattle.crq_list.specs.declared.take.TakeState.TheVariants.{Load, Walking, Reading, Marking}
-use Rattle.crq_list.specs.Spots.{take_aim, rank_at, SweptPast}
+use Rattle.crq_list.specs.Spots.{take_aim, rank_at, StandsIn, SweptPast}
 use Rattle.crq_list.specs.Sweeps.{SweepsTo}
 use Rattle.crq_list.specs.Cutting.{head_link}
 use Rattle.crq_list.specs.Swaps.{Saw}
-use Rattle.crq_list.specs.Taking.{bucket_in, row_of, lesser_of, take_at, goes_past, row_read, IsPresent, IsBest, KeepsBest, IsWalkAt, IsAtHead, IsRead, NamesFirst, IsFirstIn, SeesPlace, IsTaking, list_left, TakeStepped}
+use Rattle.crq_list.specs.Taking.{bucket_in, row_of, lesser_of, take_at, goes_past, row_read, IsPresent, IsBest, KeepsBest, IsWalkAt, IsAtHead, IsRead, NamesFirst, IsFirstIn, SeesPlace, IsTaking, taking_exchanges, take_kind, list_left, TakeStepped}
 use Rattle.crq_list.proofs.Heads.{best_at_row, lesser_holds}
 use Rattle.crq_list.proofs.SweepLaws.{sweep_begins, sweep_stays, sweep_passes, past_on}
-use Rattle.crq_list.proofs.SeekLaws.{rank_limit, rank_at_is, walk_next, walk_here, walk_least, link_apart, event_apart, cell_elsewhere, word_elsewhere}
-use Rattle.crq_list.proofs.SeekSteps.{one_event}
-use Rattle.crq_list.proofs.TakeLoads.{moved, no_names, Loads, in_place, stays_on, nothing, beyond, goes_next, goes_on_past}
+use Rattle.crq_list.proofs.SeekLaws.{rank_limit, rank_at_is, walk_next, walk_next_in, walk_here, walk_here_in, walk_least, link_apart, event_apart, cell_elsewhere, word_elsewhere}
+use Rattle.crq_list.proofs.SeekSteps.{one_event, now_list}
+use Rattle.crq_list.proofs.TakeLoads.{moved, no_names, Loads, in_place, frozen, stays_on, nothing, beyond, goes_next, goes_on_past}
 
 -- Words
 
@@ -82,7 +85,7 @@ names_first : (l : Layout) (generation q n : ℕ) (made : List Made) (found : Li
 names_first l generation q n made found counted bits val same = let m = load_made WalkKind (index l (cell_place (at_head q))) (link_word found) in let is : found ≡ head_link generation found.row = λ i. record { generation = same i; row = found.row; mark = val i } in record {
   bits = subst IsLink is bits;
   known = known_here n made m (index l (cell_place (at_head q))) counted refl ∙ ap (λ z. Some (link_word z)) is;
-  swept = sweep_passes n made (made ++ m ∷ []) m refl counted l (at_head q) (at_head q) found (record { load = refl; bits = bits; present = val }) (sweep_begins l (at_head q) (drop n made));
+  swept = sweep_passes n made (made ++ m ∷ []) m refl counted l (at_head q) (at_head q) found (record { load = refl; bits = bits; present = ap is_cell val }) (sweep_begins l (at_head q) (drop n made));
 }
 
 -- Walks
@@ -93,13 +96,13 @@ takes Search = refl
 
 -- a caller that owes no dead row has no name
 unnamed_all : (p : Caller) → Lawful p → p.debts.cut ≡ None → names_of p.debts ≡ no_names
-unnamed_all p law free = λ i. record { first = free i; second = law.one_name i }
+unnamed_all p law free = λ i. record { first = free i; second = law.ordered free i }
 
 -- a walk of a take of a caller that owes no dead row moves it
 saw_loads : (table : Table) (old new : Pass) (cell : Cell) (place : Place) (l : Link) (saw : Saw table old new cell (take_aim place) l) (w : Option Walk) → Lawful (caller table old) → (caller table old).debts.cut ≡ None
     → walk_after cell (take_aim place) (caller table old).sight l (caller table old).walk (caller table old).position.rows ≡ w
     → Loads table old new (load_made WalkKind (index table.start.layout (cell_place cell)) (link_word l))
-    (record { rows = stands_after cell (take_aim place) w l saw.event (caller table old).position.rows; old = (caller table old).position.old }) w
+    (record { rows = stands_after cell (take_aim place) w l saw.event (caller table old).position.rows; old = (caller table old).position.old }) w (helped_by (caller table old).found.control (caller table old).number cell l (caller table old).help)
 saw_loads table old new cell place l saw w law free walks = let p = caller table old in let aim = take_aim place in let ss = p.position.rows in
     let none : taken_on aim p.found.control cell ss p.sweep ≡ None = ap (λ b. cond b None (swept_head p.found.control cell ss p.sweep)) (takes place) in record {
       is = saw.is;
@@ -112,6 +115,7 @@ saw_loads table old new cell place l saw w law free walks = let p = caller table
         sweep = sweep_on (none i) l saw.event p.sweep;
         clean = clean_on (none i) l p.clean;
         debts = renamed p.debts (ap (relieved_names p.found.control cell ss l saw.event) (unnamed_all p law free) i);
+        help = helped_by p.found.control p.number cell l p.help;
       }));
     }
 
@@ -178,7 +182,7 @@ row_walked p place r l w is = ap (λ b. cond b (walked l p.walk) None) (takes pl
 -- after a walk that knows it
 best_on : (n : ℕ) (table : Table) (x : Control) (head : ℕ) (best : Option Candidate) (p : Caller) (cell : Cell) (place : Place) (y : Walk) (l : Link) (e : Event) (a : Position) (m : Made) → n ≤ length p.made → y.least ≡ row_of best
     → a.rows ≡ stands_after cell (take_aim place) (Some y) l e p.position.rows → ((c : Candidate) → best ≡ Some c → IsPresent n table c.row c.link c.event p → head_of x c.event < head → m.word ≢ index table.start.layout (link_place c.row))
-    → {w : Option Walk} → ((c : Candidate) → best ≡ Some c → IsBest n table x head c p) → (c : Candidate) → best ≡ Some c → IsBest n table x head c (makes m (moved a w no_names p))
+    → {w : Option Walk} {o : Option Help} → ((c : Candidate) → best ≡ Some c → IsBest n table x head c p) → (c : Candidate) → best ≡ Some c → IsBest n table x head c (makes m (moved a w o no_names p))
 best_on n table x head best p cell place y l e a m counted least rows apart keeps c is = let k = keeps c is in record {
   present = record {
     some_row = k.present.some_row;
@@ -200,6 +204,33 @@ other_row x p law r e c head on belongs least earlier same = let is = one_event 
 pub far_is : (p : Caller) → Lawful p → (r : ℕ) (e : Event) → StandsOn p.position.rows r e → rank_at p.position.rows r ≡ rank e r
 far_is p law r e on = rank_at_is p.position.rows r e (λ g k. one_event p law r g e k on) on
 
+-- A head or row is frozen
+
+module _ (n : ℕ) (table : Table) (op : TakeOp) (old new : Pass) (cell : Cell) (place : Place) (s : TakeState) (l : Link) (law : Lawful (caller table old)) (saw : Saw table old new cell (take_aim place) l)
+    (no : taking_exchanges s ≡ false) (kind : WalkKind ≡ take_kind s) (t : IsTaking n table op.found (take_at (in_place op place) s) (caller table old)) where
+  frozen_stepped : (op' : TakeOp) → IsFrozen l (caller table old) → TakeStepped n table op.found (take_at (in_place op place) s) op' old new (Done Frozen)
+  frozen_stepped op' is = let p = caller table old in let m = load_made WalkKind (index table.start.layout (cell_place cell)) (link_word l) in let w = walk_after cell (take_aim place) p.sight l p.walk p.position.rows in
+      frozen n table (in_place op place) s old new m _ w _ (saw_loads table old new cell place l saw w law t.free refl) no kind t op'
+      (record { before = p.made; step = m; made = refl; kind = refl; link = l; bits = saw.is_link; found = refl; frozen = inl is.0; moves = is.1 })
+
+-- the head isn't present
+pub head_frozen : (n : ℕ) (table : Table) (op op' : TakeOp) (old new : Pass) (l : Link) (place : Place) → Lawful (caller table old) → Saw table old new (at_head op.head) (take_aim place) l → l.mark ≢ Val
+    → IsTaking n table op.found (take_at (in_place op place) Load) (caller table old) → TakeStepped n table op.found (take_at (in_place op place) Load) op' old new (Done Frozen)
+head_frozen n table op op' old new l place law saw not t = frozen_stepped n table op old new (at_head op.head) place Load l law saw refl refl t op'
+    (⊎_elim (λ val. absurd (not val)) (λ is. is) ((saw.marked op.found t.control).0 t.opened).0)
+
+-- the row is frozen
+pub row_frozen : (n : ℕ) (table : Table) (op op' : TakeOp) (old new : Pass) (l : Link) (r first : ℕ) (place : Place) → Lawful (caller table old) → Saw table old new (at_row r) (take_aim place) l → l.mark ≡ Mov
+    → IsTaking n table op.found (take_at (in_place op place) (Walking r first)) (caller table old) → TakeStepped n table op.found (take_at (in_place op place) (Walking r first)) op' old new (Done Frozen)
+row_frozen n table op op' old new l r first place law saw mov t = frozen_stepped n table op old new (at_row r) place (Walking r first) l law saw refl refl t op'
+    (⊎_elim (λ known. absurd (⊎_elim (val_mov l mov) (del_mov l mov) known)) (λ moves. (mov, moves)) saw.marked.0)
+  where
+    val_mov : (l : Link) → l.mark ≡ Mov → l.mark ≡ Val → ⊥
+    val_mov l a b = cc
+
+    del_mov : (l : Link) → l.mark ≡ Mov → l.mark ≡ Del → ⊥
+    del_mov l a b = cc
+
 -- Load: the head is present
 
 module _ (n : ℕ) (table : Table) (op : TakeOp) (old new : Pass) (l : Link) (place : Place) (control : IsControl op.found) (law : Lawful (caller table old)) (saw : Saw table old new (at_head op.head) (take_aim place) l) (val : l.mark ≡ Val)
@@ -208,18 +239,22 @@ module _ (n : ℕ) (table : Table) (op : TakeOp) (old new : Pass) (l : Link) (pl
   head_made = load_made WalkKind (index table.start.layout (cell_place (at_head op.head))) (link_word l)
 
   same_table : l.generation ≡ op.found.generation
-  same_table = (saw.marked op.found t.control t.opened).1
+  same_table = ((saw.marked op.found t.control).0 t.opened).1
 
-  first_in : (place : Place) (a : Position) (w : Option Walk) → IsFirstIn place n table.start.layout (take_at (in_place op place) (Walking l.row l.row)) (Walking l.row l.row) (makes head_made (moved a w no_names (caller table old)))
-  first_in (Bucket b) a w = names_first table.start.layout op.found.generation op.head n (caller table old).made l t.counted saw.is_link val same_table
-  first_in Search a w = tt
+  first_in : (place : Place) (a : Position) (w : Option Walk) (o : Option Help) → IsFirstIn place n table.start.layout (take_at (in_place op place) (Walking l.row l.row)) (Walking l.row l.row) (makes head_made (moved a w o no_names (caller table old)))
+  first_in (Bucket b) a w o = names_first table.start.layout op.found.generation op.head n (caller table old).made l t.counted saw.is_link val same_table
+  first_in Search a w o = tt
 
   pub head_stepped : TakeStepped n table op.found (take_at (in_place op place) Load) (goes_past (in_place op place) l l.row).0 old new (goes_past (in_place op place) l l.row).1
   head_stepped = let p = caller table old in let y = head_begun n table op p place l t val same_table in let h = saw_loads table old new (at_head op.head) place l saw (Some y.walk) law t.free y.is in
-      goes_on_past n table op Load old new head_made _ (Some y.walk) h refl refl control (omega arith) y.walk refl y.head y.least place t y.bucket l l.row y.at
+      goes_on_past n table op Load old new head_made _ (Some y.walk) _ h refl refl control (omega arith) y.walk refl y.head y.least place t y.bucket l l.row y.at
       (best_on n table op.found op.head op.best p (at_head op.head) place y.walk l saw.event _ head_made t.counted y.least refl (λ c is k low e. row_apart table.start.layout op.head c.row k.some_row t.is_head (sym e)) t.at.0)
-      (λ some. (saw.event, walk_next (at_head op.head) (take_aim place) (Some y.walk) l saw.event p.position.rows some, saw.next op.found t.control some))
-      (first_in place _ _)
+      (λ some. let e = saw.event in (
+        e,
+        subst (λ g. StandsIn (stands_after (at_head op.head) (take_aim place) (Some y.walk) l e p.position.rows) l.row e g) same_table (walk_next_in (at_head op.head) (take_aim place) (Some y.walk) l e p.position.rows some),
+        sym (now_list op.found l.generation e same_table) ∙ saw.next op.found t.control (inl same_table) some,
+      ))
+      (first_in place _ _ _)
       (λ some. omega arith)
 
 -- Walking
@@ -235,18 +270,28 @@ module _ (n : ℕ) (table : Table) (op : TakeOp) (old new : Pass) (l : Link) (r 
   abbrev at_now : IsWalkAt op.found place op.head op.best r was
   at_now = t.at.1
 
+  -- the row's link is of the table too
+  row_table : l.generation ≡ op.found.generation
+  row_table = saw.marked.1 at_now.on.0 at_now.on.1 at_now.on.2 ∙ at_now.on.4
+
+  stood : StandsOn was.position.rows r at_now.event
+  stood = (at_now.on.0, at_now.on.1, at_now.on.2, at_now.on.3)
+
+  abbrev row_help : Option Help
+  row_help = helped_by was.found.control was.number (at_row r) l was.help
+
   row_loads : (y : Walk) → Some (cond (is_passed l.mark) (record at_now.walk { at = l.row }) at_now.walk) ≡ Some y
-      → Loads table old new row_made (record { rows = stands_after (at_row r) (take_aim place) (Some y) l saw.event was.position.rows; old = was.position.old }) (Some y)
+      → Loads table old new row_made (record { rows = stands_after (at_row r) (take_aim place) (Some y) l saw.event was.position.rows; old = was.position.old }) (Some y) row_help
   row_loads y is = saw_loads table old new (at_row r) place l saw (Some y) law t.free (row_walked was place r l at_now.walk at_now.walks ∙ is)
 
   -- the least row is another one
-  best_row : (y : Walk) → y.least ≡ row_of op.best → {w : Option Walk} → KeepsBest n table op.found op (makes row_made (moved (record { rows = stands_after (at_row r) (take_aim place) (Some y) l saw.event was.position.rows; old = was.position.old }) w no_names was))
+  best_row : (y : Walk) → y.least ≡ row_of op.best → {w : Option Walk} {o : Option Help} → KeepsBest n table op.found op (makes row_made (moved (record { rows = stands_after (at_row r) (take_aim place) (Some y) l saw.event was.position.rows; old = was.position.old }) w o no_names was))
   best_row y least = best_on n table op.found op.head op.best was (at_row r) place y l saw.event _ row_made t.counted least refl
-      (λ c is k low. rows_apart table.start.layout c.row r k.some_row (other_row op.found was law r at_now.event c op.head at_now.on at_now.belongs k.on low)) t.at.0
+      (λ c is k low. rows_apart table.start.layout c.row r k.some_row (other_row op.found was law r at_now.event c op.head stood at_now.belongs k.on low)) t.at.0
 
   -- what the caller is after the step is lawful
   now_lawful : (y : Walk) → Some (cond (is_passed l.mark) (record at_now.walk { at = l.row }) at_now.walk) ≡ Some y
-      → Lawful (makes row_made (moved (record { rows = stands_after (at_row r) (take_aim place) (Some y) l saw.event was.position.rows; old = was.position.old }) (Some y) no_names was))
+      → Lawful (makes row_made (moved (record { rows = stands_after (at_row r) (take_aim place) (Some y) l saw.event was.position.rows; old = was.position.old }) (Some y) row_help no_names was))
   now_lawful y is = let h = row_loads y is in subst Lawful h.part h.is.lawful
 
   names_stay : (place : Place) → IsFirstIn place n table.start.layout (take_at (in_place op place) (Walking r first)) (Walking r first) was → (q : Caller) → q.made ≡ was.made ++ row_made ∷ []
@@ -258,30 +303,34 @@ module _ (n : ℕ) (table : Table) (op : TakeOp) (old new : Pass) (l : Link) (r 
   -- the row is dead
   pub dead_stepped : is_passed l.mark ≡ true → TakeStepped n table op.found (take_at (in_place op place) (Walking r first)) (goes_past (in_place op place) l first).0 old new (goes_past (in_place op place) l first).1
   dead_stepped dead = let y : Walk = record at_now.walk { at = l.row } in let is = ap (λ b. Some (cond b y at_now.walk)) dead in let h = row_loads y is in let e = saw.event in let law' = now_lawful y is in
-      goes_on_past n table op (Walking r first) old new row_made _ (Some y) h refl refl control (omega arith) y refl at_now.head_is at_now.least place t at_now.bucket l first refl
+      goes_on_past n table op (Walking r first) old new row_made _ (Some y) _ h refl refl control (omega arith) y refl at_now.head_is at_now.least place t at_now.bucket l first refl
       (best_row y at_now.least)
-      (λ some. (e, walk_next (at_row r) (take_aim place) (Some y) l e was.position.rows some, (saw.next at_now.event at_now.on some).1 op.found t.control ∙ at_now.belongs))
+      (λ some. (
+        e,
+        subst (λ g. StandsIn (stands_after (at_row r) (take_aim place) (Some y) l e was.position.rows) l.row e g) row_table (walk_next_in (at_row r) (take_aim place) (Some y) l e was.position.rows some),
+        sym (now_list op.found l.generation e row_table) ∙ ((saw.next at_now.event stood some).1 op.found t.control (inl row_table) ∙ (now_list op.found l.generation at_now.event row_table ∙ at_now.belongs)),
+      ))
       (names_stay place t.first _ refl)
-      (λ some. let up = (saw.next at_now.event at_now.on some).0 in let low = rank_limit e l.row (saw.row some).1 saw.is_link.row in
-      let far = far_is was law r at_now.event at_now.on in let near = far_is _ law' l.row e (walk_next (at_row r) (take_aim place) (Some y) l e was.position.rows some) in omega arith)
+      (λ some. let up = (saw.next at_now.event stood some).0 in let low = rank_limit e l.row (saw.row some).1 saw.is_link.row in
+      let far = far_is was law r at_now.event stood in let near = far_is _ law' l.row e (walk_next (at_row r) (take_aim place) (Some y) l e was.position.rows some) in omega arith)
 
   -- a sweep that came to a row that was found present goes on past it
   past_row : (y : Walk) → Some (cond (is_passed l.mark) (record at_now.walk { at = l.row }) at_now.walk) ≡ Some y → l.mark ≡ Val → SweepsTo table.start.layout (at_head op.head) (drop n was.made) (at_row r) → (f : Event)
       → StandsOn (stands_after (at_row r) (take_aim place) (Some y) l saw.event was.position.rows) r f
-      → SweptPast n table.start.layout op.head f r (makes row_made (moved (record { rows = stands_after (at_row r) (take_aim place) (Some y) l saw.event was.position.rows; old = was.position.old }) (Some y) no_names was))
+      → SweptPast n table.start.layout op.head f r (makes row_made (moved (record { rows = stands_after (at_row r) (take_aim place) (Some y) l saw.event was.position.rows; old = was.position.old }) (Some y) row_help no_names was))
   past_row y is val swept f on = let e = saw.event in let law' = now_lawful y is in record {
     next = l.row;
-    sweeps = sweep_passes n was.made (was.made ++ row_made ∷ []) row_made refl t.counted table.start.layout (at_head op.head) (at_row r) l (record { load = refl; bits = saw.is_link; present = val }) swept;
+    sweeps = sweep_passes n was.made (was.made ++ row_made ∷ []) row_made refl t.counted table.start.layout (at_head op.head) (at_row r) l (record { load = refl; bits = saw.is_link; present = ap is_cell val }) swept;
     ends = dite (ℕ_discrete l.row 0) inl (λ ne. let some : 0 < l.row = omega arith in inr (
       e,
       walk_next (at_row r) (take_aim place) (Some y) l e was.position.rows some,
-      subst (λ z. rank z r < rank e l.row) (one_event _ law' r at_now.event f (walk_here r (take_aim place) (Some y) l e was.position.rows at_now.event at_now.on) on) (saw.next at_now.event at_now.on some).0,
+      subst (λ z. rank z r < rank e l.row) (one_event _ law' r at_now.event f (walk_here r (take_aim place) (Some y) l e was.position.rows at_now.event stood) on) (saw.next at_now.event stood some).0,
     ));
   }
 
   swept_row : (place' : Place) → IsFirstIn place' n table.start.layout (take_at (in_place op place') (Walking r first)) (Walking r first) was → (unread : Event) (y : Walk) → Some (cond (is_passed l.mark) (record at_now.walk { at = l.row }) at_now.walk) ≡ Some y → l.mark ≡ Val
       → IsFirstIn place' n table.start.layout (take_at (in_place op place') (Reading r l 2 unread first)) (Reading r l 2 unread first)
-      (makes row_made (moved (record { rows = stands_after (at_row r) (take_aim place) (Some y) l saw.event was.position.rows; old = was.position.old }) (Some y) no_names was))
+      (makes row_made (moved (record { rows = stands_after (at_row r) (take_aim place) (Some y) l saw.event was.position.rows; old = was.position.old }) (Some y) row_help no_names was))
   swept_row (Bucket b) known unread y is val = (
     names_on table.start.layout op.found.generation op.head first n was.made row_made t.counted (row_apart table.start.layout op.head r at_now.some_row t.is_head) known,
     λ at f on. past_row y is val (subst (λ z. SweepsTo table.start.layout (at_head op.head) (drop n was.made) (at_row z)) at known.swept) f on,
@@ -291,27 +340,27 @@ module _ (n : ℕ) (table : Table) (op : TakeOp) (old new : Pass) (l : Link) (r 
   -- or present
   pub present_stepped : (unread : Event) → l.mark ≡ Val → TakeStepped n table op.found (take_at (in_place op place) (Walking r first)) (take_at (in_place op place) (Reading r l 2 unread first)) old new More
   present_stepped unread val = let y = at_now.walk in let is = ap (λ k. Some (cond (is_passed k) (record y { at = l.row }) y)) val in let h = row_loads y is in let e = saw.event in let law' = now_lawful y is in
-      let on = walk_here r (take_aim place) (Some y) l e was.position.rows at_now.event at_now.on in
-      stays_on n table (in_place op place) (Walking r first) old new row_made _ (Some y) h refl refl t (Reading r l 2 unread first) (swept_row place t.first unread y is val) (
+      let on = walk_here_in r (take_aim place) (Some y) l e was.position.rows at_now.event op.found.generation at_now.on in
+      stays_on n table (in_place op place) (Walking r first) old new row_made _ (Some y) _ h refl refl t (Reading r l 2 unread first) (swept_row place t.first unread y is val) (
         best_row y at_now.least,
         (
           record { walk = y; walks = refl; head_is = at_now.head_is; bucket = at_now.bucket; least = at_now.least; at = at_now.at; some_row = at_now.some_row; event = at_now.event; on = on; belongs = at_now.belongs },
-          record { some_row = at_now.some_row; bits = saw.is_link; present = val; known = known_here n was.made row_made (index table.start.layout (link_place r)) t.counted refl; on = on },
+          record { some_row = at_now.some_row; bits = saw.is_link; present = val; known = known_here n was.made row_made (index table.start.layout (link_place r)) t.counted refl; on = (on.0, on.1, on.2, on.3) },
           (λ b. absurd (omega arith), λ b. absurd (omega arith), λ b. absurd (omega arith)),
         ),
         omega arith,
         omega arith,
-      ) (let far = far_is was law r at_now.event at_now.on in let near = far_is _ law' r at_now.event on in omega arith)
+      ) (let far = far_is was law r at_now.event stood in let near = far_is _ law' r at_now.event ((on.0, on.1, on.2, on.3)) in omega arith)
 
 -- Reading: one word more
 
-read_loads : (table : Table) (old new : Pass) (w found : ℕ) → w ≢ index table.start.layout current → Lawful (caller table old) → (caller table old).debts.cut ≡ None → Stepped table old new (load_made Read w found) stays → Loads table old new (load_made Read w found) (caller table old).position (caller table old).walk
+read_loads : (table : Table) (old new : Pass) (w found : ℕ) → w ≢ index table.start.layout current → Lawful (caller table old) → (caller table old).debts.cut ≡ None → Stepped table old new (load_made Read w found) stays → Loads table old new (load_made Read w found) (caller table old).position (caller table old).walk (caller table old).help
 read_loads table old new w found elsewhere law free h = let p = caller table old in record {
   is = h.is;
   same = h.same;
   load = refl;
   elsewhere = elsewhere;
-  part = h.part ∙ ap (λ names. makes (load_made Read w found) (moved p.position p.walk names p)) (unnamed_all p law free);
+  part = h.part ∙ ap (λ names. makes (load_made Read w found) (moved p.position p.walk p.help names p)) (unnamed_all p law free);
 }
 
 -- what is to be said of the word that was read
@@ -334,14 +383,17 @@ module _ (n : ℕ) (table : Table) (op : TakeOp) (r : ℕ) (l : Link) (number : 
   abbrev read_at : IsWalkAt op.found place op.head op.best r reader
   read_at = t.at.1.0
 
-  now_read : IsRead (number + 1) got read_at.event × (number ≡ 5 → got ≡ read_at.event)
-  now_read = gets read_at.event (is_event table old r read_at.event of read_at.on).0 (word read_at.event read_at.on) t.at.1.2
+  abbrev read_on : StandsOn reader.position.rows r read_at.event
+  read_on = (read_at.on.0, read_at.on.1, read_at.on.2, read_at.on.3)
 
-  word_loads : Loads table old new word_made reader.position reader.walk
+  now_read : IsRead (number + 1) got read_at.event × (number ≡ 5 → got ≡ read_at.event)
+  now_read = gets read_at.event (is_event table old r read_at.event of read_on).0 (word read_at.event read_on) t.at.1.2
+
+  word_loads : Loads table old new word_made reader.position reader.walk reader.help
   word_loads = read_loads table old new _ found (word_elsewhere table.start.layout r number) of.lawful t.free h
 
   abbrev reader_now : Caller
-  reader_now = makes word_made (moved reader.position reader.walk no_names reader)
+  reader_now = makes word_made (moved reader.position reader.walk reader.help no_names reader)
 
   -- what was known of a row that was found present stays known
   still : (s : ℕ) (k : Link) (e : Event) → IsPresent n table s k e reader → IsPresent n table s k e reader_now
@@ -363,7 +415,7 @@ module _ (n : ℕ) (table : Table) (op : TakeOp) (r : ℕ) (l : Link) (number : 
   first_still Search known = tt
 
   pub read_stepped : number < 5 → TakeStepped n table op.found (take_at (in_place op place) (Reading r l number read first)) (take_at (in_place op place) (Reading r l (number + 1) got first)) old new More
-  read_stepped five = stays_on n table (in_place op place) (Reading r l number read first) old new word_made reader.position reader.walk word_loads refl refl t (Reading r l (number + 1) got first) (first_still place t.first) (
+  read_stepped five = stays_on n table (in_place op place) (Reading r l number read first) old new word_made reader.position reader.walk reader.help word_loads refl refl t (Reading r l (number + 1) got first) (first_still place t.first) (
     best_still,
     (
       record { walk = read_at.walk; walks = read_at.walks; head_is = read_at.head_is; bucket = read_at.bucket; least = read_at.least; at = read_at.at; some_row = read_at.some_row; event = read_at.event; on = read_at.on; belongs = read_at.belongs },
@@ -394,24 +446,24 @@ module _ (n : ℕ) (table : Table) (op : TakeOp) (r : ℕ) (l : Link) (number : 
       let at : StandsOn reader.position.rows w.walk.at got = subst (λ z. StandsOn reader.position.rows z got) (sym w.at) p.on in
       let sh = shape_of op.found in
       cond_both (ltb b (bucket sh got.time)) (take_at o Load, Done Nothing) (cond (leb op.limit got.time) (take_at o Load, Done (Beyond got)) (take_at o (Marking r l got first), More)) (λ (z : TakeOp × Progress MarkEnd). TakeStepped n table op.found (take_at o s) z.0 old new z.1)
-      (λ past. nothing n table o s old new word_made reader.position reader.walk word_loads refl refl u (u.sees.0, u.sees.1, u.sees.2, (w.walk, w.walks, w.bucket, inr (got, at, ltb-true b (bucket sh got.time) past))))
+      (λ past. nothing n table o s old new word_made reader.position reader.walk reader.help word_loads refl refl u (u.sees.0, u.sees.1, u.sees.2, (w.walk, w.walks, w.bucket, inr (got, at, ltb-true b (bucket sh got.time) past))))
       (λ up. let up_to = ltb-false b (bucket sh got.time) up in
       cond_both (leb op.limit got.time) (take_at o Load, Done (Beyond got)) (take_at o (Marking r l got first), More) (λ (z : TakeOp × Progress MarkEnd). TakeStepped n table op.found (take_at o s) z.0 old new z.1)
-      (λ yes. let high = leb-true op.limit got.time yes in beyond n table o s old new word_made reader.position reader.walk word_loads refl refl u got (record {
+      (λ yes. let high = leb-true op.limit got.time yes in beyond n table o s old new word_made reader.position reader.walk reader.help word_loads refl refl u got (record {
         began = u.began;
         sight = record { table = op.found; current = u.sees.0 };
         sees = u.sees.1;
         nothing = inr (w.walk, w.walks, subst (λ k. EndedWalk k op.found reader.position.rows w.walk op.limit) (sym w.bucket) (inl (got, at, up_to, high)));
       }) high (r, l, p) up_to)
-      (λ low. stays_on n table o s old new word_made reader.position reader.walk word_loads refl refl u (Marking r l got first)
-      (head_still u.first.0, whole_belongs five, λ is. past_still got (u.first.1 is got p.on))
+      (λ low. stays_on n table o s old new word_made reader.position reader.walk reader.help word_loads refl refl u (Marking r l got first)
+      (head_still u.first.0, whole_belongs five, subst (λ z. StandsIn reader.position.rows r z op.found.generation) (sym (whole five)) read_at.on, λ is. past_still got (u.first.1 is got p.on))
       (p, (w.walk, w.walks, w.bucket, subst (λ k. FoundFirst k op.found reader.position.rows w.walk r got) (sym w.bucket) (w.at, up_to)), leb-false op.limit got.time low) left_some))
 
   -- in a search
   search_read : IsControl op.found → IsTaking n table op.found (take_at (in_place op Search) (Reading r l number read first)) reader → 5 ≤ number
       → TakeStepped n table op.found (take_at (in_place op Search) (Reading r l number read first)) (row_read Search (in_place op Search) r l got first).0 old new (row_read Search (in_place op Search) r l got first).1
   search_read control u five = let c : Candidate = record { row = r; link = l; event = got } in let p = whole_on five in let w = u.at.1.0 in
-      goes_next n table op (Reading r l number read first) old new word_made reader.position reader.walk word_loads refl refl control left_some u w.walk w.walks w.bucket w.head_is (Some (lesser_of op.best c))
+      goes_next n table op (Reading r l number read first) old new word_made reader.position reader.walk reader.help word_loads refl refl control left_some u w.walk w.walks w.bucket w.head_is (Some (lesser_of op.best c))
       (best_at_row w.walk reader.position.rows op.best c w.at w.some_row w.least (λ g on. one_event reader of.lawful r g got on p.on) p.on)
       (λ d is. subst (λ z. IsPresent n table z.row z.link z.event reader_now × (head_of op.found z.event ≤ op.head)) (one_best (lesser_of op.best c) d is)
       (lesser_holds op.best c (λ z. IsPresent n table z.row z.link z.event reader_now × (head_of op.found z.event ≤ op.head)) (λ a e. let k = best_still a e in (k.present, let low = k.earlier in omega arith)) (p, let here = whole_belongs five in omega arith)))

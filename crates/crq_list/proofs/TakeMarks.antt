@@ -46,7 +46,7 @@ use Rattle.crq_list.proofs.SeekLaws.{cell_elsewhere}
 use Rattle.crq_list.proofs.Heads.{head_open}
 use Rattle.crq_list.proofs.StepLaws.{marks_apart}
 use Rattle.crq_list.proofs.SweepLaws.{sweep_begins, past_on}
-use Rattle.crq_list.proofs.SeekSteps.{one_event, one_target}
+use Rattle.crq_list.proofs.SeekSteps.{one_event, one_target, now_list, open_list}
 use Rattle.crq_list.proofs.TakeLoads.{in_place}
 use Rattle.crq_list.proofs.TakeLaws.{names_on, row_apart}
 
@@ -111,8 +111,8 @@ module _ (n : ℕ) (table : Table) (op : TakeOp) (r : ℕ) (l : Link) (e : Event
   cut_at found seek head at = let opened = event_open op.found e control in record {
     counted = let c = t.counted in let longer = length-append marker.made (mark_made found ∷ []) in omega arith;
     on = t.on;
-    list_is = record { control = t.control; generation = refl; is_head = opened.0; opened = opened.1 };
-    target_is = refl;
+    list_is = open_list op.found (list_taken op e) (now_marked found) t.control refl opened.0 opened.1;
+    target_is = now_list op.found op.found.generation e refl;
     swept = subst (λ z. SweepsTo table.start.layout (at_head its_head) (drop n (now_marked found).made) (cell z)) (sym head) (sweep_begins table.start.layout (at_head its_head) (drop n (now_marked found).made));
     at = at;
   }
@@ -142,8 +142,8 @@ module _ (n : ℕ) (table : Table) (op : TakeOp) (r : ℕ) (l : Link) (e : Event
               known = names.known;
               reached = refl;
               swept = names.swept;
-              next = λ some. record { event = e; on = t.at.0.on; belongs = refl; beyond = tt };
-              owed = record { ahead = λ d is at owed. (t.at.0.some_row, λ g on. let same = one_target (e, r) (d.event, d.row) is in subst (λ (z : Event × ℕ). rank g r ≤ rank z.0 z.1) same (subst (λ z. rank z r ≤ rank e r) (one g on) (le_refl (rank e r)))) };
+              next = λ some. record { event = e; on = known.2; belongs = now_list op.found op.found.generation e refl; beyond = tt };
+              owed = record { ahead = λ d is owed. (t.at.0.some_row, λ g on. let same = one_target (e, r) (d.event, d.row) is.0 in subst (λ (z : Event × ℕ). rank g r ≤ rank z.0 z.1) same (subst (λ z. rank z r ≤ rank e r) (one g on) (le_refl (rank e r)))) };
             };
             some_row = t.at.0.some_row;
             up_to = λ g on. subst (λ z. rank z r ≤ rank e r) (one g on) (le_refl (rank e r));
@@ -156,7 +156,7 @@ module _ (n : ℕ) (table : Table) (op : TakeOp) (r : ℕ) (l : Link) (e : Event
       event = e;
       row = r;
       target_is = refl;
-      past = subst (λ z. SweptPast n table.start.layout z e r (now_marked found)) (sym known.1) (past_on n table.start.layout op.head e r marker (now_marked found) (mark_made found) refl t.counted (λ t f less on. on) (known.2 is));
+      past = subst (λ z. SweptPast n table.start.layout z e r (now_marked found)) (sym known.1) (past_on n table.start.layout op.head e r marker (now_marked found) (mark_made found) refl t.counted (λ t f less on. on) (known.3 is));
       at = refl;
     }
 

@@ -9,6 +9,7 @@ use Rattle.crq_rule.specs.declared.pass.Table.{Table}
 use Rattle.crq_rule.specs.declared.debts.CutDebt.{CutDebt}
 use Rattle.crq_rule.specs.declared.layout.Layout.{Layout}
 use Rattle.crq_rule.specs.declared.view.Caller.{Caller}
+use Rattle.crq_rule.specs.Core.{HasName, names_of}
 use Rattle.crq_rule.specs.Ranks.{at_head, at_row}
 use Rattle.crq_rule.specs.ListKinds.{StandsOn}
 use Rattle.crq_rows.specs.Passes.{caller, IsPassOf}
@@ -27,8 +28,9 @@ use Rattle.crq_list.specs.declared.seek.SeekEnd.TheVariants.{There, Frozen as Fo
 use Rattle.crq_list.specs.Known.{Works, turns_after}
 use Rattle.crq_list.specs.Stretches.{Stretch}
 use Rattle.crq_list.specs.Operations.{Operation}
-use Rattle.crq_list.specs.Sweeps.{SweepsTo}
-use Rattle.crq_list.specs.Spots.{Target, IsAfter, SweptPast}
+use Rattle.crq_list.specs.Sweeps.{SweepsTo, MetFrozen}
+use Rattle.crq_list.specs.Helps.{KeepsCopying}
+use Rattle.crq_list.specs.Spots.{Target, IsAfter, NamesTarget, SweptPast}
 use Rattle.crq_list.specs.Seeking.{IsSeeking, seek_exchanges, seek_kind, seek_left}
 
 -- on the way from the dead row r to its retirement
@@ -37,8 +39,8 @@ IsOnRow (Load spot) r p = ⊥
 IsOnRow (Reading b place) r p = ⊥
 IsOnRow (Passing b) r p = b.link.row ≡ r
 IsOnRow (Cutting b last) r p = b.link.row ≡ r
-IsOnRow (Tagging spot row) r p = (d : CutDebt) → p.debts.cut ≡ Some d → d.row ≢ r
-IsOnRow (Retiring spot row tag) r p = (d : CutDebt) → p.debts.cut ≡ Some d → d.row ≢ r
+IsOnRow (Tagging spot row) r p = (d : CutDebt) → HasName (names_of p.debts) d → d.row ≢ r
+IsOnRow (Retiring spot row tag) r p = (d : CutDebt) → HasName (names_of p.debts) d → d.row ≢ r
 
 -- the cut is on the way to retire the row asked for, past which the list was swept while it was present
 pub record CutsSwept (n : ℕ) (l : Layout) (sought : Sought) (seek : SeekState) (p : Caller) : Type 0 where
@@ -48,7 +50,7 @@ pub record CutsSwept (n : ℕ) (l : Layout) (sought : Sought) (seek : SeekState)
   pub past : SweptPast n l sought.list.head event row p
   pub at : IsOnRow seek row p
 
--- a caller that cuts the dead rows of a list of the table that it found
+-- a caller that cuts the dead rows of a list
 abbrev pub IsCutting : ℕ → Table → Control → CutOp → Caller → Type 0
 IsCutting n table x op p = IsSeeking n table x op.sought op.state p × (op.swept ≡ true → CutsSwept n table.start.layout op.sought op.state p)
 
@@ -87,7 +89,7 @@ progress_of More = More
 progress_of (Done (There b)) = Done Clean
 progress_of (Done FoundFrozen) = Done Frozen
 
--- Since its first n steps the caller swept the list q: from its head on to its end, or to a row that comes after the target. Each row on the way was present when its link was loaded: so each dead one that was met was cut out
+-- Since its first n steps the caller swept the list q: from its head on to its end, or to a row that comes after the target. Each row on the way was present, or not valid yet, when its link was loaded: so each dead one that was met was cut out
 -- of the way before
 pub record HasSwept (n : ℕ) (l : Layout) (q : ℕ) (target : Target) (p : Caller) : Type 0 where
   pub row : ℕ
@@ -97,8 +99,8 @@ pub record HasSwept (n : ℕ) (l : Layout) (q : ℕ) (target : Target) (p : Call
 -- The list was swept up to the row asked for, and without one to its end. A dead row that was the target isn't owed any more
 abbrev pub CutAnswers : ℕ → Table → Control → CutOp → CutOp → Caller → Caller → Progress CutEnd → Type 0
 CutAnswers n table x op op' p q More = IsCutting n table x op' q × (op' ≡ record op { state = op'.state; swept = op'.swept }) × ((seek_exchanges op.state ≡ true) ⊎ (seek_left op'.state q < seek_left op.state p))
-CutAnswers n table x op op' p q (Done Clean) = (q.cut ≡ None) × ((d : CutDebt) → op.sought.target ≡ Some (d.event, d.row) → d.head ≡ op.sought.list.head → q.debts.cut ≡ Some d → ⊥) × HasSwept n table.start.layout op.sought.list.head op.sought.target q
-CutAnswers n table x op op' p q (Done Frozen) = ⊥
+CutAnswers n table x op op' p q (Done Clean) = (q.cut ≡ None) × ((d : CutDebt) → NamesTarget op.sought.target op.sought.list d → HasName (names_of q.debts) d → ⊥) × HasSwept n table.start.layout op.sought.list.head op.sought.target q
+CutAnswers n table x op op' p q (Done Frozen) = (q.cut ≡ None) × MetFrozen table.start.layout op.sought.list q
 
 -- one step of it was made
 pub record CutStepped (n : ℕ) (table : Table) (x : Control) (op op' : CutOp) (old new : Pass) (answer : Progress CutEnd) : Type 0 where
@@ -109,8 +111,9 @@ pub record CutStepped (n : ℕ) (table : Table) (x : Control) (op op' : CutOp) (
   pub number : new.number ≡ old.number
   pub free : new.free.items ≡ old.free.items
   pub debts : new.debts ≡ old.debts
+  pub copying : KeepsCopying (caller table old) (caller table new)
   pub own : (caller table new).own ≡ (caller table old).own
-  pub owed : ((caller table new).debts.cut ≡ None) ⊎ ((caller table new).debts.cut ≡ (caller table old).debts.cut)
+  pub owed : (d : CutDebt) → HasName (names_of (caller table new).debts) d → HasName (names_of (caller table old).debts) d
   pub answers : CutAnswers n table x op op' (caller table old) (caller table new) answer
 
 abbrev pub cut_exchanges : CutOp → Bool

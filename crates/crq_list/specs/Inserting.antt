@@ -1,35 +1,50 @@
--- Inserting a row: what is known between two steps, and what each step tells.
-use Rattle.std.specs.Prelude.{◌≡◌, ◌⊎◌, ℕ, ◌+◌, ◌-◌, ◌*◌, ◌^◌, ◌<◌, ◌≤◌, Bool, true, false, List, [], ◌∷◌, ◌++◌, length, Some, None}
+-- Inserting a row, of a put or as a copy: what is known between two steps, and what each step tells.
+use Rattle.std.specs.Prelude.{◌≡◌, ◌⊎◌, ℕ, ◌+◌, ◌-◌, ◌*◌, ◌^◌, ◌<◌, ◌≤◌, Bool, true, false, List, [], ◌∷◌, ◌++◌, length, Option, Some, None}
 use Rattle.crq_base.specs.declared.event.Event.{Event}
 use Rattle.crq_base.specs.declared.entry.Entry.TheVariants.{Put}
 use Rattle.crq_base.specs.declared.kinds.StepKind.{StepKind}
-use Rattle.crq_base.specs.declared.kinds.StepKind.TheVariants.{Write, Link}
+use Rattle.crq_base.specs.declared.kinds.StepKind.TheVariants.{Write, Link, Copy}
+use Rattle.crq_base.specs.declared.words.Mark.{Mark}
+use Rattle.crq_base.specs.declared.words.Mark.TheVariants.{Val, Inv}
 use Rattle.crq_base.specs.declared.words.Control.{Control}
 use Rattle.crq_base.specs.Lists.{In}
 use Rattle.crq_base.specs.Sources.{IsFresh}
 use Rattle.crq_rule.specs.declared.pass.Pass.{Pass}
 use Rattle.crq_rule.specs.declared.pass.Table.{Table}
+use Rattle.crq_rule.specs.declared.debts.CopyDebt.{CopyDebt}
+use Rattle.crq_rule.specs.declared.debts.Debts.{Debts}
+use Rattle.crq_rule.specs.declared.view.Help.{Help}
+use Rattle.crq_rule.specs.declared.view.Stand.{Stand}
 use Rattle.crq_rule.specs.declared.view.Wrote.{Wrote}
 use Rattle.crq_rule.specs.declared.view.Caller.{Caller}
+use Rattle.crq_rule.specs.declared.debts.CutDebt.{CutDebt}
+use Rattle.crq_rule.specs.Core.{HasName, names_of}
 use Rattle.crq_rule.specs.Parts.{IsOn, IsEvent}
-use Rattle.crq_rule.specs.Ranks.{head_of, shape_of}
+use Rattle.crq_rule.specs.Ranks.{shape_of}
 use Rattle.crq_rule.specs.ListKinds.{IsWritten, event_word, owed_event, unhanded}
 use Rattle.crq_rows.specs.Passes.{caller, IsPassOf}
 use Rattle.crq_list.specs.declared.parts.Progress.{Progress}
 use Rattle.crq_list.specs.declared.parts.Progress.TheVariants.{More, Done}
 use Rattle.crq_list.specs.declared.insert.InsertEnd.{InsertEnd}
 use Rattle.crq_list.specs.declared.insert.InsertEnd.TheVariants.{Linked, Frozen}
+use Rattle.crq_list.specs.declared.insert.CopyOf.{CopyOf}
 use Rattle.crq_list.specs.declared.insert.InsertOp.{InsertOp}
 use Rattle.crq_list.specs.declared.insert.InsertState.{InsertState}
 use Rattle.crq_list.specs.declared.insert.InsertState.TheVariants.{Writing, Seeking, Placing, Linking}
+use Rattle.crq_list.specs.declared.parts.ListAt.{ListAt}
+use Rattle.crq_list.specs.declared.parts.Before.{Before}
+use Rattle.crq_list.specs.declared.parts.Spot.TheVariants.{Head}
 use Rattle.crq_list.specs.declared.seek.SeekState.{SeekState}
+use Rattle.crq_list.specs.declared.seek.SeekState.TheVariants.{Load}
 use Rattle.crq_list.specs.declared.seek.Sought.{Sought}
 use Rattle.crq_list.specs.declared.seek.SeekEnd.{SeekEnd}
 use Rattle.crq_list.specs.declared.seek.SeekEnd.TheVariants.{There, Frozen as FoundFrozen}
 use Rattle.crq_list.specs.Known.{Works, turns_after}
 use Rattle.crq_list.specs.Stretches.{Stretch}
 use Rattle.crq_list.specs.Operations.{Operation}
-use Rattle.crq_list.specs.Spots.{IsListOf}
+use Rattle.crq_list.specs.Sweeps.{MetFrozen}
+use Rattle.crq_list.specs.Spots.{IsOfList, IsListOf}
+use Rattle.crq_list.specs.Helps.{HelpsOn}
 use Rattle.crq_list.specs.Seeking.{IsSeeking, IsThere, seek_exchanges, seek_kind, seek_left}
 
 -- the words at the places 1 to before `upto` were written into the row: no twin, and the event
@@ -40,23 +55,56 @@ AreWritten written r e upto = (1 < upto → In (record { row = r; place = 1; wor
 abbrev pub sought_by : InsertOp → Sought
 sought_by op = record { list = op.list; target = Some (op.event, op.row) }
 
+-- the mark of the row's own link: a row that is put is present, and a copy isn't valid yet
+abbrev pub own_mark : Option CopyOf → Mark
+own_mark None = Val
+own_mark (Some o) = Inv
+
+-- what the pass owes once the copy of a row is linked
+abbrev pub own_debt : InsertOp → CopyOf → CopyDebt
+own_debt op o = record { old = o.old; copy = op.row; event = op.event; generation = op.list.generation; head = op.list.head; last = o.last }
+
 abbrev pub IsInsertingAt : ℕ → Table → Control → InsertOp → InsertState → Caller → Type 0
 IsInsertingAt n table x op (Writing place) p = (p.cut ≡ None) × (1 ≤ place) × (place < 6) × AreWritten p.written op.row op.event place
 IsInsertingAt n table x op (Seeking seek) p = IsSeeking n table x (sought_by op) seek p × AreWritten p.written op.row op.event 6
 IsInsertingAt n table x op (Placing b) p = IsThere n table x (sought_by op) b p × AreWritten p.written op.row op.event 6
-IsInsertingAt n table x op (Linking b) p = IsThere n table x (sought_by op) b p × IsWritten p.written op.row op.event b.link
+IsInsertingAt n table x op (Linking b) p = IsThere n table x (sought_by op) b p × IsWritten (own_mark op.copy_of) p.written op.row op.event b.link
 
--- a caller that inserts its row in hand, with a fresh event of its sources, into the event's list of the table that it found. It owes no event, and has a permit to raise current's epoch for this one
+-- A put: the event is a fresh one of the caller's sources, and the list is of the open table. The caller owes no event, and has a permit to raise current's epoch for this one
+pub record IsPutting (table : Table) (x : Control) (op : InsertOp) (p : Caller) : Type 0 where
+  pub settled : p.debts.settle ≡ None
+  pub permit : p.permit ≡ true
+  pub opened : op.list.generation ≡ x.generation
+  pub fresh : IsFresh table.start.layout.workers p.deal.history p.own p.deal.span p.number op.event
+
+-- A copy of the row `o.old`: that holds the event, and the caller found it frozen and without a copy. The list is of the table that the open one moves into. The caller helps that move, found all heads of the open table frozen,
+-- owes no copy, and has room for a second dead row
+pub record IsCopying (x : Control) (op : InsertOp) (o : CopyOf) (p : Caller) : Type 0 where
+  pub none : p.debts.copy ≡ None
+  pub room : p.debts.second_cut ≡ None
+  pub moving : x.moving ≡ true
+  pub next : op.list.generation ≡ x.generation + 1
+  pub helps : (h : Help) × (p.help ≡ Some h) × (h.frozen ≡ 2 ^ x.log)
+  pub stand : Stand
+  pub old : p.position.old ≡ Some stand
+  pub old_row : stand.row ≡ o.old
+  pub old_event : stand.event ≡ op.event
+  pub last : (stand.last ≡ Some o.last) × (o.last.generation ≡ x.generation)
+
+-- what an insertion asks of its caller, where it is a put, and where it is a copy
+abbrev pub InsertAsks : Option CopyOf → Table → Control → InsertOp → Caller → Type 0
+InsertAsks None table x op p = IsPutting table x op p
+InsertAsks (Some o) table x op p = IsCopying x op o p
+
+-- a caller that inserts its row in hand into the event's list of a table that the control word tells, which it found
 pub record IsInserting (n : ℕ) (table : Table) (x : Control) (op : InsertOp) (p : Caller) : Type 0 where
   pub counted : n ≤ length p.made
   pub on : IsOn p.guard
-  pub settled : p.debts.settle ≡ None
-  pub permit : p.permit ≡ true
   pub list_is : IsListOf x op.list p
-  pub of_list : head_of x op.event ≡ op.list.head
+  pub of_list : IsOfList x op.list op.event
   pub held : In op.row p.hand
   pub event : IsEvent op.event
-  pub fresh : IsFresh table.start.layout.workers p.deal.history p.own p.deal.span p.number op.event
+  pub asks : InsertAsks op.copy_of table x op p
   pub at : IsInsertingAt n table x op op.state p
 
 abbrev pub state_exchanges : InsertState → Bool
@@ -68,12 +116,17 @@ state_exchanges (Linking b) = true
 abbrev pub insert_exchanges : InsertOp → Bool
 insert_exchanges op = state_exchanges op.state
 
+-- the kind of its last exchange
+abbrev pub link_kind : Option CopyOf → StepKind
+link_kind None = Link
+link_kind (Some o) = Copy
+
 -- the kind of its next step
-abbrev pub insert_kind : InsertState → StepKind
-insert_kind (Writing place) = Write
-insert_kind (Seeking seek) = seek_kind seek
-insert_kind (Placing b) = Write
-insert_kind (Linking b) = Link
+abbrev pub insert_kind : Option CopyOf → InsertState → StepKind
+insert_kind o (Writing place) = Write
+insert_kind o (Seeking seek) = seek_kind seek
+insert_kind o (Placing b) = Write
+insert_kind o (Linking b) = link_kind o
 
 abbrev pub state_left : InsertState → Caller → ℕ
 state_left (Writing place) p = (2 ^ 160) * 32 + (16 - place)
@@ -87,25 +140,45 @@ after_seek seek More = (Seeking seek, More)
 after_seek seek (Done (There b)) = (Placing b, More)
 after_seek seek (Done FoundFrozen) = (Seeking seek, Done Frozen)
 
--- Once the row is linked the caller owes the event. The pass has yet to note that at run time, since an insertion doesn't know how wide the table's buckets are
+-- what follows on the exchange that was to link the row behind the spot, if it was made
+abbrev pub after_link : ListAt → Before → Bool → InsertState × Progress InsertEnd
+after_link list b true = (Linking b, Done Linked)
+after_link list b false = (Seeking (Load (Head list.head)), More)
+
+-- What the pass owes at run time after a step: a copy, once it is linked. It has yet to note the event of a put, since an insertion doesn't know how wide the table's buckets are
+abbrev pub copy_noted : Option CopyOf → InsertOp → Debts → Debts
+copy_noted None op d = d
+copy_noted (Some o) op d = record d { copy = Some (own_debt op o) }
+
+abbrev pub debts_after : InsertOp → Progress InsertEnd → Debts → Debts
+debts_after op More d = d
+debts_after op (Done Linked) d = copy_noted op.copy_of op d
+debts_after op (Done Frozen) d = d
+
+-- once the row is linked, the caller owes the event of a put; or it owes the copy, and still has room for a second dead row
+abbrev pub LinkAnswers : Option CopyOf → Control → InsertOp → Pass → Caller → Caller → Type 0
+LinkAnswers None x op old p q = (q.own ≡ p.own ++ Put old.number op.event ∷ []) × (q.debts.settle ≡ Some (owed_event x.generation (shape_of x) op.event))
+LinkAnswers (Some o) x op old p q = (q.own ≡ p.own) × (q.debts.settle ≡ p.debts.settle) × (q.debts.copy ≡ Some (own_debt op o)) × (q.debts.second_cut ≡ None)
+
 abbrev pub InsertAnswers : ℕ → Table → Control → InsertOp → InsertOp → Pass → Pass → Progress InsertEnd → Type 0
 InsertAnswers n table x op op' old new More =
     IsInserting n table x op' (caller table new) × (op' ≡ record op { state = op'.state }) × ((caller table new).own ≡ (caller table old).own) × (new.free.items ≡ old.free.items)
     × ((insert_exchanges op ≡ true) ⊎ (state_left op'.state (caller table new) < state_left op.state (caller table old)))
 InsertAnswers n table x op op' old new (Done Linked) =
-    ((caller table new).own ≡ (caller table old).own ++ Put old.number op.event ∷ []) × (new.free.items ≡ unhanded op.row old.free.items) × ((caller table new).cut ≡ None)
-    × ((caller table new).debts.settle ≡ Some (owed_event x.generation (shape_of x) op.event))
-InsertAnswers n table x op op' old new (Done Frozen) = ⊥
+    LinkAnswers op.copy_of x op old (caller table old) (caller table new) × (new.free.items ≡ unhanded op.row old.free.items) × ((caller table new).cut ≡ None)
+InsertAnswers n table x op op' old new (Done Frozen) =
+    ((caller table new).own ≡ (caller table old).own) × (new.free.items ≡ old.free.items) × ((caller table new).cut ≡ None) × InsertAsks op.copy_of table x op (caller table new) × MetFrozen table.start.layout op.list (caller table new)
 
 -- one step of it was made
 pub record InsertStepped (n : ℕ) (table : Table) (x : Control) (op op' : InsertOp) (old new : Pass) (answer : Progress InsertEnd) : Type 0 where
   pub is : IsPassOf table new
   pub works : Works n (insert_exchanges op) (caller table old) (caller table new)
-  pub kind : works.step.kind ≡ insert_kind op.state
+  pub kind : works.step.kind ≡ insert_kind op.copy_of op.state
   pub turns : new.turns ≡ turns_after (insert_exchanges op) old.turns
   pub number : new.number ≡ old.number
-  pub debts : new.debts ≡ old.debts
-  pub owed : ((caller table new).debts.cut ≡ None) ⊎ ((caller table new).debts.cut ≡ (caller table old).debts.cut)
+  pub debts : new.debts ≡ debts_after op answer old.debts
+  pub owed : (d : CutDebt) → HasName (names_of (caller table new).debts) d → HasName (names_of (caller table old).debts) d
+  pub helps : HelpsOn (caller table old) (caller table new)
   pub answers : InsertAnswers n table x op op' old new answer
 
 -- one step of it was made, and then maybe others that are no exchanges

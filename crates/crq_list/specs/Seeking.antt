@@ -13,6 +13,7 @@ use Rattle.crq_rule.specs.declared.debts.CutDebt.{CutDebt}
 use Rattle.crq_rule.specs.declared.view.CutRow.{CutRow}
 use Rattle.crq_rule.specs.declared.view.Stand.{Stand}
 use Rattle.crq_rule.specs.declared.view.Caller.{Caller}
+use Rattle.crq_rule.specs.Core.{HasName, names_of}
 use Rattle.crq_rule.specs.Parts.{IsOn}
 use Rattle.crq_rule.specs.Ranks.{at_head}
 use Rattle.crq_rule.specs.ListKinds.{StandsOn}
@@ -30,7 +31,8 @@ use Rattle.crq_list.specs.declared.parts.Progress.TheVariants.{More, Done}
 use Rattle.crq_list.specs.Known.{Works, turns_after}
 use Rattle.crq_list.specs.Stretches.{Stretch}
 use Rattle.crq_list.specs.Operations.{Operation}
-use Rattle.crq_list.specs.Sweeps.{SweepsTo}
+use Rattle.crq_list.specs.Sweeps.{SweepsTo, MetFrozen}
+use Rattle.crq_list.specs.Helps.{KeepsCopying}
 use Rattle.crq_list.specs.Spots.{cell, Target, IsUpTo, IsAfter, IsReached, IsPassed, IsListOf, IsTarget, left_of}
 
 -- the words of the next row's event that were read are those of the target: the time and source, before the place that is read next
@@ -44,13 +46,13 @@ pub record IsPassing (n : ℕ) (table : Table) (x : Control) (sought : Sought) (
   pub up_to : (e : Event) → StandsOn p.position.rows b.link.row e → IsUpTo sought.target e b.link.row
 
 abbrev pub IsAt : ℕ → Table → Control → Sought → SeekState → Caller → Type 0
-IsAt n table x sought (Load spot) p = (p.cut ≡ None) × IsReached x sought.list.head sought.target spot p
+IsAt n table x sought (Load spot) p = (p.cut ≡ None) × IsReached x sought.list sought.target spot p
 IsAt n table x sought (Reading b place) p = (p.cut ≡ None) × IsPassed n table.start.layout x sought b p × (0 < b.link.row) × (2 ≤ place) × (place < 5)
     × ((t : Event × ℕ) × (sought.target ≡ Some t) × ((e : Event) → StandsOn p.position.rows b.link.row e → HasRead place e t.0))
 IsAt n table x sought (Passing b) p = (p.cut ≡ None) × IsPassing n table x sought b p
 IsAt n table x sought (Cutting b last) p = (p.cut ≡ None) × IsPassing n table x sought b p × IsLink last × (last.mark ≡ Del) × (last.row ≢ b.link.row) × ((s : Stand) × In s p.position.rows × (s.row ≡ b.link.row) × (s.last ≡ Some last))
-IsAt n table x sought (Tagging spot row) p = IsReached x sought.list.head sought.target spot p × ((y : CutRow) × (p.cut ≡ Some y) × (y.row ≡ row))
-IsAt n table x sought (Retiring spot row tag) p = IsReached x sought.list.head sought.target spot p × ((y : CutRow) × (p.cut ≡ Some y) × (y.row ≡ row) × In tag y.tags)
+IsAt n table x sought (Tagging spot row) p = IsReached x sought.list sought.target spot p × ((y : CutRow) × (p.cut ≡ Some y) × (y.row ≡ row))
+IsAt n table x sought (Retiring spot row tag) p = IsReached x sought.list sought.target spot p × ((y : CutRow) × (p.cut ≡ Some y) × (y.row ≡ row) × In tag y.tags)
 
 -- the spot at which the walk is
 abbrev pub spot_of : SeekState → Spot
@@ -61,7 +63,7 @@ spot_of (Cutting b last) = b.spot
 spot_of (Tagging spot row) = spot
 spot_of (Retiring spot row tag) = spot
 
--- a caller that walks the list of the target, whose control word it found. Its steps since the first n are a sweep to the spot at which it is
+-- a caller that walks the list of the target, of a table that the control word tells which it found. Its steps since the first n are a sweep to the spot at which it is
 pub record IsSeeking (n : ℕ) (table : Table) (x : Control) (sought : Sought) (seek : SeekState) (p : Caller) : Type 0 where
   pub counted : n ≤ length p.made
   pub on : IsOn p.guard
@@ -124,7 +126,7 @@ pub record IsThere (n : ℕ) (table : Table) (x : Control) (sought : Sought) (b 
 abbrev pub SeekAnswers : ℕ → Table → Control → Sought → SeekState → SeekState → Caller → Caller → Progress SeekEnd → Type 0
 SeekAnswers n table x sought seek seek' p q More = IsSeeking n table x sought seek' q × ((seek_exchanges seek ≡ true) ⊎ (seek_left seek' q < seek_left seek p))
 SeekAnswers n table x sought seek seek' p q (Done (There b)) = IsThere n table x sought b q
-SeekAnswers n table x sought seek seek' p q (Done Frozen) = ⊥
+SeekAnswers n table x sought seek seek' p q (Done Frozen) = (q.cut ≡ None) × MetFrozen table.start.layout sought.list q
 
 -- What a step leaves of stands and debts, on the way from a dead row to its retirement
 
@@ -139,7 +141,7 @@ KeepsPassing b (Retiring spot row tag) p q = Unit {0}
 
 -- it was cut: the caller leaves that row alone, and doesn't owe it any more
 abbrev pub KeepsCutting : Before → SeekState → Caller → Caller → Type 0
-KeepsCutting b (Tagging spot row) p q = ((r : ℕ) (f : Event) → r ≢ b.link.row → StandsOn p.position.rows r f → StandsOn q.position.rows r f) × ((d : CutDebt) → q.debts.cut ≡ Some d → d.row ≢ b.link.row)
+KeepsCutting b (Tagging spot row) p q = ((r : ℕ) (f : Event) → r ≢ b.link.row → StandsOn p.position.rows r f → StandsOn q.position.rows r f) × ((d : CutDebt) → HasName (names_of q.debts) d → d.row ≢ b.link.row)
 KeepsCutting b (Load spot) p q = Unit {0}
 KeepsCutting b (Reading b' place) p q = Unit {0}
 KeepsCutting b (Passing b') p q = Unit {0}
@@ -148,7 +150,7 @@ KeepsCutting b (Retiring spot row tag) p q = Unit {0}
 
 -- it was tagged or retired: stands and debts stay
 abbrev pub KeepsAll : Caller → Caller → Type 0
-KeepsAll p q = (q.position.rows ≡ p.position.rows) × (q.debts.cut ≡ p.debts.cut)
+KeepsAll p q = (q.position.rows ≡ p.position.rows) × (q.debts ≡ p.debts)
 
 abbrev pub Keeps : SeekState → SeekState → Caller → Caller → Type 0
 Keeps (Load spot) seek' p q = Unit {0}
@@ -158,7 +160,7 @@ Keeps (Cutting b last) seek' p q = KeepsCutting b seek' p q
 Keeps (Tagging spot row) seek' p q = KeepsAll p q
 Keeps (Retiring spot row tag) seek' p q = KeepsAll p q × (q.cut ≡ None)
 
--- one step of it was made: the caller's entries, rows in hand, words written and run-time state stay, but for a dead row that isn't owed any more
+-- one step of it was made: the caller's entries, rows in hand, words written and run-time state stay, but for dead rows that aren't owed any more
 pub record SeekStepped (n : ℕ) (table : Table) (x : Control) (sought : Sought) (seek seek' : SeekState) (old new : Pass) (answer : Progress SeekEnd) : Type 0 where
   pub is : IsPassOf table new
   pub works : Works n (seek_exchanges seek) (caller table old) (caller table new)
@@ -167,9 +169,10 @@ pub record SeekStepped (n : ℕ) (table : Table) (x : Control) (sought : Sought)
   pub number : new.number ≡ old.number
   pub free : new.free.items ≡ old.free.items
   pub debts : new.debts ≡ old.debts
+  pub copying : KeepsCopying (caller table old) (caller table new)
   pub own : (caller table new).own ≡ (caller table old).own
   pub written : (caller table new).written ≡ (caller table old).written
-  pub owed : ((caller table new).debts.cut ≡ None) ⊎ ((caller table new).debts.cut ≡ (caller table old).debts.cut)
+  pub owed : (d : CutDebt) → HasName (names_of (caller table new).debts) d → HasName (names_of (caller table old).debts) d
   pub keeps : Keeps seek seek' (caller table old) (caller table new)
   pub answers : SeekAnswers n table x sought seek seek' (caller table old) (caller table new) answer
 

@@ -38,9 +38,9 @@ use Rattle.crq_list.specs.declared.take.TakeState.TheVariants.{Load, Walking, Re
 use Rattle.crq_list.specs.Known.{is_exchange, Works, turns_after, last_known}
 use Rattle.crq_list.specs.Stretches.{Stretch}
 use Rattle.crq_list.specs.Operations.{Operation}
-use Rattle.crq_list.specs.Sweeps.{SweepsTo}
+use Rattle.crq_list.specs.Sweeps.{SweepsTo, MetFrozen}
 use Rattle.crq_list.specs.Cutting.{IsCutting, head_link, cut_begins}
-use Rattle.crq_list.specs.Spots.{rank_at, SweptPast}
+use Rattle.crq_list.specs.Spots.{rank_at, StandsIn, SweptPast}
 
 -- Heads and rows
 
@@ -96,6 +96,10 @@ abbrev pub row_read : Place → TakeOp → ℕ → Link → Event → ℕ → Ta
 row_read (Bucket b) op r l e f = cond (nat_lt b (bucket (shape_of op.found) e.time)) (take_at op Load, Done Nothing) (cond (nat_le op.limit e.time) (take_at op Load, Done (Beyond e)) (take_at op (Marking r l e f), More))
 row_read Search op r l e f = next_list op (Some (lesser_of op.best (record { row = r; link = l; event = e })))
 
+-- the list at which the take is
+abbrev pub list_at : TakeOp → ListAt
+list_at op = record { generation = op.found.generation; head = op.head }
+
 -- the list of an event that was taken, and the cut of its row, where the head of a bucket's list was found to name the row f
 abbrev pub list_taken : TakeOp → Event → ListAt
 list_taken op e = record { generation = op.found.generation; head = head_of op.found e }
@@ -135,7 +139,7 @@ pub record IsWalkAt (x : Control) (place : Place) (head : ℕ) (best : Option Ca
   pub at : walk.at ≡ r
   pub some_row : 0 < r
   pub event : Event
-  pub on : StandsOn p.position.rows r event
+  pub on : StandsIn p.position.rows r event x.generation
   pub belongs : head_of x event ≡ head
 
 -- a search goes on at this head: its walk of the list before that is over, and the least row is known
@@ -167,12 +171,12 @@ pub record NamesFirst (l : Layout) (generation q f : ℕ) (made : List Made) : T
   pub known : last_known made (index l (cell_place (at_head q))) ≡ Some (link_word (head_link generation f))
   pub swept : SweepsTo l (at_head q) made (at_row f)
 
--- so it was in a bucket, once the head is loaded; and if the row that was found present is that one, then the list was swept past it
+-- so it was in a bucket, once the head is loaded; and if the row that was found present, which is of the table, is that one, then the list was swept past it
 abbrev pub IsFirstKnown : ℕ → Layout → TakeOp → TakeState → Caller → Type 0
 IsFirstKnown n l op Load p = Unit {0}
 IsFirstKnown n l op (Walking r f) p = NamesFirst l op.found.generation op.head f (drop n p.made)
 IsFirstKnown n l op (Reading r link place read f) p = NamesFirst l op.found.generation op.head f (drop n p.made) × (f ≡ r → (e : Event) → StandsOn p.position.rows r e → SweptPast n l op.head e r p)
-IsFirstKnown n l op (Marking r link e f) p = NamesFirst l op.found.generation op.head f (drop n p.made) × (head_of op.found e ≡ op.head) × (f ≡ r → SweptPast n l op.head e r p)
+IsFirstKnown n l op (Marking r link e f) p = NamesFirst l op.found.generation op.head f (drop n p.made) × (head_of op.found e ≡ op.head) × StandsIn p.position.rows r e op.found.generation × (f ≡ r → SweptPast n l op.head e r p)
 
 -- nothing of that is known in a search
 abbrev pub IsFirstIn : Place → ℕ → Layout → TakeOp → TakeState → Caller → Type 0
@@ -262,7 +266,8 @@ TakeAnswers n table x op op' old new (Done Nothing) = let p = caller table old i
     (q.own ≡ p.own) × (new.debts ≡ old.debts) × FoundNothing x op.place q × (q.cut ≡ None) × (q.debts.cut ≡ None)
 TakeAnswers n table x op op' old new (Done Lost) = let p = caller table old in let q = caller table new in
     (q.own ≡ p.own) × (new.debts ≡ old.debts) × (taking_exchanges op.state ≡ true) × (q.cut ≡ None) × (q.debts.cut ≡ None) × FoundAnother p q
-TakeAnswers n table x op op' old new (Done Frozen) = ⊥
+TakeAnswers n table x op op' old new (Done Frozen) = let p = caller table old in let q = caller table new in
+    (q.own ≡ p.own) × (new.debts ≡ old.debts) × (q.cut ≡ None) × (q.debts.cut ≡ None) × MetFrozen table.start.layout (list_at op) q
 
 -- one step of it was made
 pub record TakeStepped (n : ℕ) (table : Table) (x : Control) (op op' : TakeOp) (old new : Pass) (answer : Progress MarkEnd) : Type 0 where

@@ -17,10 +17,10 @@ use crq_rows::{Pass, Table};
 #[derive(Clone, Copy, Debug, PartialEq, Eq)]
 pub enum CutEnd {
     /// The list was walked from its head up to the row asked for, and without one to its end, by this cut or by the take
-    /// that marked that row. Each row on the way was present when its link was loaded: each dead one that was met was cut
-    /// and retired before the walk went on. If the pass owed the row asked for, it doesn't any more.
+    /// that marked that row. Each row on the way was present, or not valid yet, when its link was loaded: each dead one that
+    /// was met was cut and retired before the walk went on. If the pass owed the row asked for, it doesn't any more.
     Clean,
-    /// A head or row was found that a migration froze, or a head of another table. Over one list this doesn't come.
+    /// The walk found a head or row frozen, or a head of another table, in a table that may move. No row is cut and not retired.
     Frozen,
 }
 

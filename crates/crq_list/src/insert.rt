@@ -1,5 +1,5 @@
 //! Inserting a row into a sorted list.
-ghost use Rattle.std.specs.Prelude.{◌≡◌, ◌<◌, ◌≤◌, ℕ};
+ghost use Rattle.std.specs.Prelude.{◌≡◌, ◌<◌, ◌≤◌, ℕ, Some, None};
 ghost use Rattle.crq_rule.specs.ListKinds.{event_word};
 ghost use Rattle.crq_rows.specs.Passes.{IsPassOf};
 ghost use Rattle.crq_rule.specs.declared.pass.Pass.{Pass};
@@ -7,23 +7,35 @@ ghost use Rattle.crq_list.specs.declared.parts.Progress.TheVariants.{More};
 ghost use Rattle.crq_list.specs.declared.insert.InsertOp.{InsertOp};
 ghost use Rattle.crq_list.specs.declared.insert.InsertState.TheVariants.{Writing, Seeking, Placing, Linking};
 ghost use Rattle.crq_list.specs.Operations.{IsUnderWay, MayGoOn, MakesStep, MakesSteps, GoesOn};
-ghost use Rattle.crq_list.specs.Inserting.{the_insertion, insertion_at, insert_exchanges, after_seek};
+ghost use Rattle.crq_list.specs.Inserting.{the_insertion, insertion_at, insert_exchanges, after_seek, after_link, own_mark, own_debt};
 
 use crate::parts::{Before, ListAt, Progress, Spot};
 use crate::seek::{SeekEnd, SeekState, Sought};
-use crate::steps::link_step;
+use crate::steps::{copy_step, link_step};
 use crate::stretch::run_seek;
-use crq_base::Event;
+use crq_base::{Event, Link, Mark};
 use crq_rows::{Pass, Table, write_step};
+use crq_rule::CopyDebt;
 
 /// How an insertion ends.
 #[derive(Clone, Copy, Debug, PartialEq, Eq)]
 pub enum InsertEnd {
-    /// The row is linked: the event was put, and the caller owes it to be settled. The pass's own debts don't name it yet,
-    /// since a list doesn't tell how wide the buckets of its table are: whoever made the step notes that.
+    /// The row is linked. Of a put: the event was put, and the caller owes it to be settled. The pass's own debts don't
+    /// name it yet, since a list doesn't tell how wide the buckets of its table are: whoever made the step notes that. Of
+    /// a copy: the pass owes it to be bound.
     Linked,
-    /// A head or row was found that a migration froze, or a head of another table. Over one list this doesn't come.
+    /// The walk found a head or row frozen, or a head of another table, in a table that may move. Nothing was put or
+    /// copied: the row is still in hand, and the pass owes no event of a put, and no copy.
     Frozen,
+}
+
+/// Of which row a copy is inserted.
+#[derive(Clone, Copy, Debug, PartialEq, Eq)]
+pub struct CopyOf {
+    /// The frozen row of the table that moves.
+    pub old: u32,
+    /// Its last link.
+    pub last: Link,
 }
 
 /// How far an insertion is.
@@ -40,7 +52,8 @@ pub enum InsertState {
 }
 
 /// The insertion of a row in hand before the first row with a greater key, one atomic step at a time. It writes the words
-/// of its row, walks to the row's place, cuts dead rows on its way, and links the row by one exchange.
+/// of its row, walks to the row's place, cuts dead rows on its way, and links the row by one exchange. The row is that of
+/// a put, or a copy of a frozen row.
 #[derive(Clone, Copy, Debug, PartialEq, Eq)]
 pub struct InsertOp {
     /// The event's list.
@@ -49,6 +62,8 @@ pub struct InsertOp {
     pub row: u32,
     /// The event.
     pub event: Event,
+    /// Of which row this one is a copy; a put has none.
+    pub copy_of: Option<CopyOf>,
     /// How far it is.
     pub state: InsertState,
 }
@@ -171,7 +186,7 @@ fn run_to_place(
     after_seek(seek, walked)
 }
 
-/// Writes the row's own link: the row that is next behind the spot is to follow it.
+/// Writes the row's own link, which for a copy isn't valid yet: the row that is next behind the spot is to follow it.
 #[inline(always)]
 fn place_row(
     table: &Table,
@@ -183,9 +198,32 @@ fn place_row(
     requires op { IsUnderWay the_insertion table.now (insertion_at op.now (Placing before), pass.old) }
     ensures { MakesStep the_insertion table.now (insertion_at op.now (Placing before), pass.old) (insertion_at op.now result.0, pass.new) result.1 }
 {
-    let word = before.link.pack();
+    let link = Link {
+        mark: op.mark(),
+        ..before.link
+    };
+    let word = link.pack();
     write_step(table, pass, op.row, 0, word);
     (InsertState::Linking(before), Progress::More)
+}
+
+/// What follows on the exchange that was to link the row behind the spot: where it found another link, the list is walked
+/// anew.
+#[inline(always)]
+fn after_link(list: ListAt, before: Before, linked: bool) -> (InsertState, Progress<InsertEnd>)
+    ensures { result ≡ after_link list before linked }
+{
+    if linked {
+        (
+            InsertState::Linking(before),
+            Progress::Done(InsertEnd::Linked),
+        )
+    } else {
+        (
+            InsertState::Seeking(SeekState::Load(Spot::Head(list.head))),
+            Progress::More,
+        )
+    }
 }
 
 /// Links the row behind the spot, or walks the list anew where the spot's link has changed.
@@ -200,16 +238,16 @@ fn link_row(
     requires op { IsUnderWay the_insertion table.now (insertion_at op.now (Linking before), pass.old) }
     ensures { MakesStep the_insertion table.now (insertion_at op.now (Linking before), pass.old) (insertion_at op.now result.0, pass.new) result.1 }
 {
-    if link_step(table, pass, before.spot, before.link, op.row, &op.event) {
-        (
-            InsertState::Linking(before),
-            Progress::Done(InsertEnd::Linked),
-        )
-    } else {
-        (
-            InsertState::Seeking(SeekState::Load(Spot::Head(op.list.head))),
-            Progress::More,
-        )
+    match op.copy_of {
+        None => {
+            let linked = link_step(table, pass, before.spot, before.link, op.row, &op.event);
+            after_link(op.list, before, linked)
+        }
+        Some(of) => {
+            let debt = op.debt(of);
+            let linked = copy_step(table, pass, before.spot, before.link, &debt);
+            after_link(op.list, before, linked)
+        }
     }
 }
 
@@ -253,17 +291,56 @@ fn then_place(
 }
 
 impl InsertOp {
-    /// An insertion that has made no step. `old` is the row of which this one is a copy: none for a put. No row is copied yet,
-    /// and nothing reads it: it is there for tables whose rows move to a larger one.
+    /// An insertion of a put that has made no step. Nothing reads `old`: a copy is inserted by `copy`.
     pub fn new(list: ListAt, row: u32, event: Event, old: Option<u32>) -> InsertOp
-        ensures { result ≡ record { list = list; row = row; event = event; state = Writing 1 } }
+        ensures { result ≡ record { list = list; row = row; event = event; copy_of = None; state = Writing 1 } }
     {
         let _of_a_migration = old;
         InsertOp {
             list,
             row,
             event,
+            copy_of: None,
             state: InsertState::Writing(1),
+        }
+    }
+
+    /// An insertion of a copy that has made no step, into the event's list of the table that the open one moves into.
+    pub fn copy(list: ListAt, row: u32, event: Event, of: CopyOf) -> InsertOp
+        ensures { result ≡ record { list = list; row = row; event = event; copy_of = Some of; state = Writing 1 } }
+    {
+        InsertOp {
+            list,
+            row,
+            event,
+            copy_of: Some(of),
+            state: InsertState::Writing(1),
+        }
+    }
+
+    /// The mark of the row's own link: a row that is put is present, and a copy isn't valid yet.
+    #[inline(always)]
+    fn mark(&self) -> Mark
+        ensures { result ≡ own_mark self.now.copy_of }
+    {
+        match self.copy_of {
+            None => Mark::Val,
+            Some(_) => Mark::Inv,
+        }
+    }
+
+    /// What the pass owes once the copy is linked.
+    #[inline(always)]
+    fn debt(&self, of: CopyOf) -> CopyDebt
+        ensures { result ≡ own_debt self.now of }
+    {
+        CopyDebt {
+            old: of.old,
+            copy: self.row,
+            event: self.event,
+            generation: self.list.generation,
+            head: self.list.head,
+            last: of.last,
         }
     }
 

@@ -13,7 +13,7 @@ mod stretch;
 mod take;
 
 pub use cut::{CutEnd, CutOp};
-pub use insert::{InsertEnd, InsertOp};
+pub use insert::{CopyOf, InsertEnd, InsertOp};
 pub use parts::{ListAt, Place, Progress};
 pub use steps::{begin_step, control_step, head_of, miss_step};
 pub use take::{Candidate, MarkEnd, TakeOp};

@@ -38,7 +38,7 @@ pub enum Spot {
     Row(u32),
 }
 
-/// A spot that was passed, and the link that was found there, which is present.
+/// A spot that was passed, and the link that was found there, which is present, or not valid yet.
 #[derive(Clone, Copy, Debug, PartialEq, Eq)]
 pub struct Before {
     /// The spot.

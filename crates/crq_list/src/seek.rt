@@ -44,7 +44,7 @@ pub struct Sought {
 pub enum SeekEnd {
     /// The target's place is behind this spot.
     There(Before),
-    /// A head or row was found that a migration froze, or a head of another table.
+    /// A head or row was found frozen, or the head of another table than the list, in a table that may move.
     Frozen,
 }
 
@@ -66,7 +66,7 @@ fn next_of(before: Before, sought: &Sought) -> (SeekState, Progress<SeekEnd>)
     }
 }
 
-/// Loads the link of a spot.
+/// Loads the link of a spot. A head is of the list's table, or not prepared for that yet; a row is of its spot's table.
 #[inline(always)]
 pub(crate) fn load(
     table: &Table,
@@ -79,13 +79,16 @@ pub(crate) fn load(
     ensures { MakesStep (the_walk sought.now) table.now (Load spot, pass.old) (result.0, pass.new) result.1 }
 {
     let link = walk_step(table, pass, spot, None);
+    if link.generation != sought.list.generation {
+        return (SeekState::Load(spot), Progress::Done(SeekEnd::Frozen));
+    }
     match link.mark {
-        Mark::Val => next_of(Before { spot, link }, sought),
+        Mark::Val | Mark::Inv => next_of(Before { spot, link }, sought),
         Mark::Del => (
             SeekState::Load(Spot::Head(sought.list.head)),
             Progress::More,
         ),
-        _ => (SeekState::Load(spot), Progress::Done(SeekEnd::Frozen)),
+        Mark::Mov => (SeekState::Load(spot), Progress::Done(SeekEnd::Frozen)),
     }
 }
 
@@ -149,7 +152,7 @@ pub(crate) fn read(
     )
 }
 
-/// Loads the link of the next row, which is passed where it is present.
+/// Loads the link of the next row, which is passed where it is present, or not valid yet.
 #[inline(always)]
 pub(crate) fn pass_row(
     table: &Table,
@@ -164,9 +167,9 @@ pub(crate) fn pass_row(
     let spot = Spot::Row(before.link.row);
     let link = walk_step(table, pass, spot, None);
     match link.mark {
-        Mark::Val => next_of(Before { spot, link }, sought),
+        Mark::Val | Mark::Inv => next_of(Before { spot, link }, sought),
         Mark::Del => (SeekState::Cutting(before, link), Progress::More),
-        _ => (SeekState::Load(spot), Progress::Done(SeekEnd::Frozen)),
+        Mark::Mov => (SeekState::Load(spot), Progress::Done(SeekEnd::Frozen)),
     }
 }
 

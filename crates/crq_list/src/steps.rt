@@ -1,5 +1,5 @@
 //! One function for each kind of step on lists.
-ghost use Rattle.std.specs.Prelude.{◌≡◌, Some};
+ghost use Rattle.std.specs.Prelude.{◌≡◌, Some, true};
 ghost use Rattle.std.specs.VecDeque.{deque_capacity};
 ghost use Rattle.crq_base.specs.declared.kinds.StepKind.TheVariants.{Begin, ControlLoad, Miss};
 ghost use Rattle.crq_base.specs.declared.words.Control.{Control};
@@ -8,15 +8,15 @@ ghost use Rattle.crq_base.specs.Words.{IsLink, IsControl};
 ghost use Rattle.crq_rule.specs.Parts.{IsOn};
 ghost use Rattle.crq_rule.specs.Places.{index, IsPlace};
 ghost use Rattle.crq_rule.specs.Ranks.{at_row, cell_place, head_of};
-ghost use Rattle.crq_rule.specs.ListKinds.{MayWalk, MaySeek, MayLink, MayMark, MayCut, MayMiss, begins, misses, loads_control, unhanded};
+ghost use Rattle.crq_rule.specs.ListKinds.{is_cell, MayWalk, MaySeek, MayLink, MayMark, MayCut, MayMiss, begins, misses, loads_control, unhanded};
 ghost use Rattle.crq_rows.specs.Passes.{caller, IsPassOf};
 ghost use Rattle.crq_list.specs.Spots.{cell, aim_of};
-ghost use Rattle.crq_list.specs.Swaps.{Saw, LinkSwapped, MarkSwapped, CutSwapped, Controlled};
+ghost use Rattle.crq_list.specs.Swaps.{Saw, MayOweCopy, LinkSwapped, CopySwapped, MarkSwapped, CutSwapped, Controlled};
 
 use crate::parts::{Place, Spot};
 use crq_base::{Control, Event, Link, Mark};
 use crq_rows::{Pass, Table, exchange_as, exchange_seated, load_turning};
-use crq_rule::{BANK, CutDebt};
+use crq_rule::{BANK, CopyDebt, CutDebt};
 use std::collections::VecDeque;
 use std::marker::Brand;
 
@@ -72,6 +72,42 @@ pub(crate) fn link_step(
     let won = found == old;
     if won {
         forget(&mut pass.free, row);
+    }
+    won
+}
+
+/// Links a row in hand as a copy behind the spot, where its link is still this one, and answers whether it was. Then the
+/// pass owes the copy.
+pub(crate) fn copy_step(
+    table: &Table,
+    pass: &mut Pass,
+    spot: Spot,
+    link: Link,
+    debt: &CopyDebt,
+) -> bool
+    requires of { IsPassOf table.now pass.old }
+    requires may { MayOweCopy (cell spot) link debt.now (caller table.now pass.old) }
+    ensures { CopySwapped table.now pass.old pass.new (cell spot) link debt.now result }
+{
+    let word = word_of(table, spot);
+    let old = link.pack();
+    let new = Link {
+        row: debt.copy,
+        ..link
+    }
+    .pack();
+    let found = exchange_seated::<Brand, (Link, CopyDebt)>(
+        table,
+        pass,
+        word,
+        old,
+        new,
+        &(link, *debt),
+    );
+    let won = found == old;
+    if won {
+        forget(&mut pass.free, debt.copy);
+        pass.debts.copy = Some(*debt);
     }
     won
 }
@@ -150,7 +186,7 @@ pub fn head_of(control: &Control, event: &Event) -> u32
 pub(crate) fn cut_step(table: &Table, pass: &mut Pass, spot: Spot, link: Link, last: Link) -> bool
     requires of { IsPassOf table.now pass.old }
     requires bits { IsLink link }
-    requires present { link.mark ≡ Val }
+    requires present { is_cell link.mark ≡ true }
     requires may { MayCut (cell spot) link.row last (caller table.now pass.old) }
     ensures { CutSwapped table.now pass.old pass.new (cell spot) link last result }
 {

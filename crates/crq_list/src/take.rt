@@ -35,8 +35,7 @@ pub enum MarkEnd {
     Nothing,
     /// The first present row has changed, and nothing was taken.
     Lost,
-    /// A head or row was found that a migration froze, or a head of another table. As long as no table moves this doesn't
-    /// come.
+    /// A head or row was found frozen, in a table that may move. Nothing was taken, and the pass owes no dead row.
     Frozen,
 }
 
@@ -66,8 +65,9 @@ pub enum TakeState {
 }
 
 /// A take of the first present event of a bucket, or of all lists, that is below a limit, one atomic step at a time. It goes
-/// past dead rows without cutting them, and marks the row that it takes by one exchange. In a bucket's list it stops at the
-/// first present row. A search does so in each list in turn, and keeps the least of these rows.
+/// past dead rows without cutting them, and past such as aren't valid yet, and marks the row that it takes by one exchange.
+/// In a bucket's list it stops at the first present row. A search does so in each list in turn, and keeps the least of these
+/// rows.
 #[derive(Clone, Copy, Debug, PartialEq, Eq)]
 pub struct TakeOp {
     /// The control word under which the lists are open.
@@ -330,7 +330,7 @@ impl TakeOp {
         }
     }
 
-    /// Loads the link of the row at which the walk is, and goes past it where it is dead.
+    /// Loads the link of the row at which the walk is, and goes past it where it is dead, or not valid yet.
     #[inline(always)]
     fn walk(
         self,
@@ -470,7 +470,7 @@ impl TakeOp {
         }
     }
 
-    /// Loads the link of the row at which the walk of a bucket is, and goes past it where it is dead.
+    /// Loads the link of the row at which the walk of a bucket is, and goes past it where it is dead, or not valid yet.
     #[inline(always)]
     fn walk_in(
         &self,
@@ -552,7 +552,7 @@ impl TakeOp {
         }
     }
 
-    /// Walks in a bucket past dead rows to a present one, or to the end of the list.
+    /// Walks in a bucket past dead rows, and such as aren't valid yet, to a present one, or to the end of the list.
     #[inline(always)]
     fn walk_rows(
         &self,

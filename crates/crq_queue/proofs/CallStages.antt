@@ -93,7 +93,7 @@ pub fresh_on : (w : ℕ) (e : Event) (d d' : Deal) (own own' : List Entry) (j j'
 fresh_on w e d d' own own' j j' deal same number fresh = subst (λ (z : Deal). IsFresh w z.history own' z.span j' e) (sym deal) (subst (λ z. IsFresh w d.history z d.span j' e) (sym same) (subst (λ z. IsFresh w d.history own d.span z e) (sym number) fresh))
 
 -- what the pass comes to owe is of the operation's event
-pub debt_same : (x : Control) {op : InsertOp} {list : ListAt} {row : ℕ} {event : Event} → op ≡ record { list = list; row = row; event = event; state = Writing 1 } → (d : SettleDebt) → d ≡ owed_event x.generation (shape_of x) event → d ≡ owed_event x.generation (shape_of x) op.event
+pub debt_same : (x : Control) {op : InsertOp} {list : ListAt} {row : ℕ} {event : Event} → op ≡ record { list = list; row = row; event = event; copy_of = None; state = Writing 1 } → (d : SettleDebt) → d ≡ owed_event x.generation (shape_of x) event → d ≡ owed_event x.generation (shape_of x) op.event
 debt_same x is d owes = owes ∙ ap (λ (o : InsertOp). owed_event x.generation (shape_of x) o.event) (sym is)
 
 module _ {table : Table} {budget : ℕ} {a b : Pass} {x : Control} (r : IsResting table a) (found : (caller table a).found.control ≡ Some x) (enter : (n budget : ℕ) → MayRun table n budget a → Entered table n budget a b) where
@@ -101,7 +101,7 @@ module _ {table : Table} {budget : ℕ} {a b : Pass} {x : Control} (r : IsRestin
   enter_inside {n} may = let e = enter n budget may in (e.ran, goes_inside r found e)
 
   module _ {op : InsertOp} {list : ListAt} {row : ℕ} {event : Event} (names : (list.generation ≡ x.generation) × (list.head ≡ head_of x event)) (fits : IsEvent op.event) (settled : a.debts.settle ≡ None) (permit : (caller table a).permit ≡ true) (held : In row (caller table a).hand)
-      (fresh : IsFresh table.start.layout.workers (caller table a).deal.history (caller table a).own (caller table a).deal.span a.number event) (is : op ≡ record { list = list; row = row; event = event; state = Writing 1 }) where
+      (fresh : IsFresh table.start.layout.workers (caller table a).deal.history (caller table a).own (caller table a).deal.span a.number event) (is : op ≡ record { list = list; row = row; event = event; copy_of = None; state = Writing 1 }) where
     pub enter_insert : {n : ℕ} → MayRun table n budget a → IsInserting n table x op (caller table b)
     enter_insert {n} may = let e = enter n budget may in let w = goes_inside r found e in
         may_insert w.is w.inside op list event row e.ran.counted names fits (w.settle ∙ (e.keeps.event.run ∙ settled)) (e.keeps.event.permit ∙ permit) (subst (In row) (sym r.is.free ∙ (sym e.keeps.free ∙ w.is.free)) held)
@@ -137,7 +137,7 @@ module _ {table : Table} {budget : ℕ} {a b : Pass} {x : Control} (r : IsRestin
 -- the insertion that was made is noted
 
 noted_pass : {table : Table} {d : SettleDebt} {mid : Pass} → IsPassOf table mid → (caller table mid).debts.settle ≡ Some d → IsPassOf table (record mid { debts = record mid.debts { settle = Some d } })
-noted_pass {table} {d} {mid} of known = record { sits = seated_anew (record mid.debts { settle = Some d }) mid.turns of.sits; lawful = of.lawful; free = of.free; room = of.room; debts = record { settle = inr known; copy = of.debts.copy; cut = of.debts.cut; second_cut = of.debts.second_cut } }
+noted_pass {table} {d} {mid} of known = record { sits = seated_anew (record mid.debts { settle = Some d }) mid.turns of.sits; lawful = of.lawful; free = of.free; room = of.room; debts = record { settle = inr known; copy = of.debts.copy; names = of.debts.names } }
 
 module _ {table : Table} {n budget : ℕ} {x : Control} {op : InsertOp} {d : SettleDebt} {old mid : Pass} (owes : d ≡ owed_event x.generation (shape_of x) op.event) where
   pub event_noted : {u v : Unit {0}} → InsertRan table n budget x op old mid (Ok u) → EventNoted table n budget x op d old (record mid { debts = record mid.debts { settle = Some d } }) (Ok v)

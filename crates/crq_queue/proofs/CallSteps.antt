@@ -1,5 +1,5 @@
 -- The stages of a call: what holds of the pass between two parts, and what the parts make together.
-use Rattle.std.proofs.Common.{◌≡◌, inl, ℕ, ◌+◌, ◌*◌, ◌%◌, ◌^◌, ◌<◌, ◌≤◌, List, [], ◌∷◌, ◌++◌, length, Some, None, refl, sym, ap, ◌∙◌, subst, le_refl, arith}
+use Rattle.std.proofs.Common.{◌≡◌, inr, ℕ, ◌+◌, ◌*◌, ◌%◌, ◌^◌, ◌<◌, ◌≤◌, List, [], ◌∷◌, ◌++◌, length, Some, None, refl, sym, ap, ◌∙◌, subst, le_refl, arith}
 use Rattle.std.proofs.lemmas.List.{append-nil}
 use Rattle.std.proofs.lemmas.Nat.{pow_pos, pow_below}
 use Rattle.std.proofs.Math.Nat.{pow-le-pow_right, one-mul, mod-eq_of_lt}
@@ -151,7 +151,7 @@ module _ {table : Table} {old : Pass} where
 
   -- the row that was to be cut isn't owed any more
   pub is_uncut : IsPassOf table old → (caller table old).debts.cut ≡ None → IsPassOf table (record old { debts = record old.debts { cut = None } })
-  is_uncut of none = record { sits = seated_anew (record old.debts { cut = None }) old.turns of.sits; lawful = of.lawful; free = of.free; room = of.room; debts = record { settle = of.debts.settle; copy = of.debts.copy; cut = inl none; second_cut = of.debts.second_cut } }
+  is_uncut of none = record { sits = seated_anew (record old.debts { cut = None }) old.turns of.sits; lawful = of.lawful; free = of.free; room = of.room; debts = record { settle = of.debts.settle; copy = of.debts.copy; names = inr (inr (λ i. record { first = none i; second = of.lawful.ordered none i })) } }
 
   pub uncut_ran : {n budget : ℕ} {start : Pass} {es : List Entry} → Ran table n budget start old es → IsPassOf table (record old { debts = record old.debts { cut = None } }) → Ran table n budget start (record old { debts = record old.debts { cut = None } }) es
   uncut_ran r of = record { is = of; number = r.number; deal = r.deal; own = r.own; told = r.told; copy = r.copy; second_cut = r.second_cut; since = r.since; made = r.made; fair = r.fair; turns = r.turns; makes = r.makes; within = r.within; counted = r.counted }

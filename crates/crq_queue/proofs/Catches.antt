@@ -92,6 +92,7 @@ module _ {table : Table} {budget : ℕ} {x : Control} {raises : ℕ} {start a : 
         inside = t.keeps.inside;
         began = subst EndsInBegin (sym (t.ran.own ∙ append-nil (caller table a).own)) g.ready.began;
         free = ap (λ (d : Debts). d.cut) t.keeps.debts ∙ g.ready.free;
+        one = ap (λ (d : Debts). d.second_cut) t.keeps.debts ∙ g.ready.one;
       }
 
       pub catching_on : {n : ℕ} → MayRun table n budget start → to < 2 ^ x.log → IsCatching table budget x to start b × (a.turns < b.turns)

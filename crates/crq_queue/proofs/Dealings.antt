@@ -44,11 +44,14 @@ lawful_spanned n p l = record {
   owed_at = l.owed_at;
   owed_now = l.owed_now;
   owed_fits = l.owed_fits;
+  ordered = l.ordered;
   scarce = l.scarce;
   one_name = l.one_name;
+  copying = λ d owes. let k = l.copying d owes in record { on = k.on; old = k.old; copy = k.copy; event = k.event; last = k.last; room = k.room };
   sighted = l.sighted;
   permitted = l.permitted;
   controlled = l.controlled;
+  helping = l.helping;
 }
 
 spanned_rests : (table : Table) (history : List Entry) (span k : ℕ) (p : Caller) (rest : Rest) → Rests table history k p rest → Rests table history k (spanned_part span p) rest

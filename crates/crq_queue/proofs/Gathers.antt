@@ -110,11 +110,14 @@ lawful_settled h p l = record {
   owed_at = l.owed_at;
   owed_now = l.owed_now;
   owed_fits = l.owed_fits;
+  ordered = l.ordered;
   scarce = l.scarce;
   one_name = l.one_name;
+  copying = λ d owes. let k = l.copying d owes in record { on = k.on; old = k.old; copy = k.copy; event = k.event; last = k.last; room = k.room };
   sighted = l.sighted;
   permitted = l.permitted;
   controlled = l.controlled;
+  helping = l.helping;
 }
 
 settled_rests : (table : Table) (history h : List Entry) (k : ℕ) (pass : Pass) → h ≡ history → pass.number ≡ k → MayGather table pass → Rests table history k (settled_part h (caller table pass)) (rest_of pass)

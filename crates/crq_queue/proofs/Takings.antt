@@ -1,5 +1,5 @@
 -- Takes in a bucket and in a search, as stages of a call.
-use Rattle.std.proofs.Common.{◌≡◌, inl, inr, ℕ, ◌/◌, ◌^◌, ◌<◌, ◌≤◌, true, [], ◌∷◌, ◌++◌, length, drop, Some, None, Result, Ok, Err, refl, sym, ap, ◌∙◌, subst, arith}
+use Rattle.std.proofs.Common.{◌≡◌, inl, inr, ℕ, ◌/◌, ◌^◌, ◌<◌, ◌≤◌, true, false, [], ◌∷◌, ◌++◌, length, drop, Some, None, Result, Ok, Err, refl, sym, ap, ◌∙◌, subst, arith}
 use Rattle.std.proofs.lemmas.List.{append-nil}
 use Rattle.crq_base.specs.declared.entry.Entry.TheVariants.{Take, Miss}
 use Rattle.crq_base.specs.declared.event.Event.{Event}
@@ -9,6 +9,7 @@ use Rattle.crq_base.specs.declared.words.Control.{Control}
 use Rattle.crq_base.specs.declared.words.Current.{Current}
 use Rattle.crq_base.specs.Words.{current_word}
 use Rattle.crq_rule.specs.declared.debts.Debts.{Debts}
+use Rattle.crq_rule.specs.declared.layout.Start.{Start}
 use Rattle.crq_rule.specs.declared.pass.Pass.{Pass}
 use Rattle.crq_rule.specs.declared.pass.Table.{Table}
 use Rattle.crq_rule.specs.declared.view.Caller.{Caller}
@@ -79,23 +80,24 @@ pub record MayTake (table : Table) (x : Control) (place : Place) (limit : ℕ) (
   pub inside : IsInside table x a
   pub began : EndsInBegin (caller table a).own
   pub free : a.debts.cut ≡ None
+  pub one : a.debts.second_cut ≡ None
   pub sees : SeesPlace x place (caller table a)
   pub is : op ≡ take_of x place limit
 
 module _ {table : Table} {x : Control} {place : Place} {limit : ℕ} {a : Pass} {op : TakeOp} (t : MayTake table x place limit a op) where
   pub begins_take : {n : ℕ} → n ≤ length (caller table a).made → IsTaking n table x op (caller table a)
-  begins_take counted = may_take t.of t.inside op place limit counted t.began t.free t.sees t.is
+  begins_take counted = may_take t.of t.inside op place limit counted t.began t.free t.one t.sees t.is
 
   pub take_told : (budget : ℕ) (b : Pass) (end : Result MarkEnd Spent) → Says table budget op a b end → (n : ℕ) → n ≤ length (caller table a).made → TakeRan table n budget x (take_of x place limit) a b end
   take_told budget b end take n counted = subst (λ op. TakeRan table n budget x op a b end) t.is (take n x (begins_take counted))
 
 -- What a mark leaves, after other steps of the take
-marked_after : {table : Table} {n budget : ℕ} {x : Control} (place : Place) {limit : ℕ} {start a b : Pass} (r : ℕ) {e : Event} {c : CutOp} → KeepsOwed table start a → TakeRan table n budget x (take_of x place limit) a b (Ok (RowMarked r e c)) → EventMarked n table x limit e c start b
-marked_after {table} {n} {budget} {x} place {limit} {start} {a} {b} r {e} {c} kept t = record {
+marked_after : {table : Table} {n budget : ℕ} {x : Control} (place : Place) {limit : ℕ} {start a b : Pass} (r : ℕ) {e : Event} {c : CutOp} → KeepsOwed table start a → a.debts.second_cut ≡ None → TakeRan table n budget x (take_of x place limit) a b (Ok (RowMarked r e c)) → EventMarked n table x limit e c start b
+marked_after {table} {n} {budget} {x} place {limit} {start} {a} {b} r {e} {c} kept one t = record {
   inside = t.1;
   event = owed_trans kept (owed_kept t.2);
   below = t.3;
-  owed = record { row = r; owes = t.4; cuts = (t.5, (cut_debt x r e, t.4, t.6)) };
+  owed = record { row = r; owes = t.4; cuts = (t.5, (cut_debt x r e, t.4, t.6), t.0.second_cut ∙ one) };
 }
 
 -- A round
@@ -106,9 +108,10 @@ pub record IsReady (table : Table) (x : Control) (a : Pass) : Type 0 where
   pub inside : IsInside table x a
   pub began : EndsInBegin (caller table a).own
   pub free : a.debts.cut ≡ None
+  pub one : a.debts.second_cut ≡ None
 
-pub may_view : {table : Table} {x : Control} {a : Pass} → IsReady table x a → MayView (caller table a).own (caller table a).found.control true
-may_view {table} {x} {a} r = (r.began, (x, r.inside.control, (r.of.lawful.controlled x r.inside.control).1))
+pub may_view : {table : Table} {x : Control} {a : Pass} → table.start.moves ≡ false → IsReady table x a → MayView (caller table a).own (caller table a).found.control true
+may_view {table} {x} {a} still r = (r.began, (x, r.inside.control, (r.of.lawful.controlled x r.inside.control).1 (ap (λ (s : Start). s.moves) r.of.sits.started ∙ still)))
 
 module _ {table : Table} {x : Control} {a v : Pass} {y : Current} (r : IsReady table x a) (view : Viewed table a v true y) where
   seen_now : (caller table v).sight ≡ Some (record { table = x; current = y })
@@ -123,6 +126,9 @@ module _ {table : Table} {x : Control} {a v : Pass} {y : Current} (r : IsReady t
   pub view_free : v.debts.cut ≡ None
   view_free = ap (λ (p : Pass). p.debts.cut) view.same ∙ r.free
 
+  view_one : v.debts.second_cut ≡ None
+  view_one = ap (λ (p : Pass). p.debts.second_cut) view.same ∙ r.one
+
   view_keeps : TakesOn table x a v
   view_keeps = record { inside = view_inside; debts = ap (λ (p : Pass). p.debts) view.same; event = record { run = ap (λ (p : Pass). p.debts.settle) view.same; known = ap (λ (p : Caller). p.debts.settle) view.part } }
 
@@ -131,7 +137,7 @@ module _ {table : Table} {x : Control} {a v : Pass} {y : Current} (r : IsReady t
   round_over limit from over may = (view_ran view may, view_keeps, record { began = view_began; sight = record { table = x; current = y }; sees = seen_now; nothing = inl over })
 
   pub round_takes : {op : TakeOp} {limit : ℕ} → op ≡ take_of x (Bucket (bucket (shape_of x) y.tick)) limit → MayTake table x (Bucket (bucket (shape_of x) y.tick)) limit v op
-  round_takes is = record { of = view.is; inside = view_inside; began = view_began; free = view_free; sees = (y, seen_now, refl); is = is }
+  round_takes is = record { of = view.is; inside = view_inside; began = view_began; free = view_free; one = view_one; sees = (y, seen_now, refl); is = is }
 
 module _ {table : Table} {budget : ℕ} {x : Control} {a v : Pass} {y : Current} {op : TakeOp} {limit n : ℕ} (r : IsReady table x a) (view : Viewed table a v true y) (is : op ≡ take_of x (Bucket (bucket (shape_of x) y.tick)) limit) (b : Pass) (may : MayRun table n budget a) where
   round_told : (end : Result MarkEnd Spent) → Says table budget op v b end → TakeRan table n budget x (take_of x (Bucket (bucket (shape_of x) y.tick)) limit) v b end
@@ -146,7 +152,7 @@ module _ {table : Table} {budget : ℕ} {x : Control} {a v : Pass} {y : Current}
   pub round_marked : (from row : ℕ) (e : Event) (c : CutOp) → Says table budget op v b (Ok (RowMarked row e c)) → RoundEnded table n budget x limit from a b (Ok (Marked e y.tick c))
   round_marked from row e c take = let one = view_ran view may in let t = round_told (Ok (RowMarked row e c)) take in let both : RanUnraised table n budget 0 a b (Take v.number e ∷ []) = calm_trans one (ran_calm t.0) in
       let since : both.since ≡ one.since ++ t.0.since = since_calm one (ran_calm t.0) ∙ ap (λ ms. one.since ++ ms) (since_as_calm t.0) in
-      numbered one.number both (marked_after (Bucket (bucket (shape_of x) y.tick)) row (view_keeps r view).event t) (record {
+      numbered one.number both (marked_after (Bucket (bucket (shape_of x) y.tick)) row (view_keeps r view).event (view_one r view) t) (record {
         current = y;
         is = view.is_current;
         at = refl;
@@ -213,17 +219,18 @@ pub record IsSearching (table : Table) (budget : ℕ) (x : Control) (start pass 
   pub of : IsPassOf table pass
   pub began : EndsInBegin (caller table pass).own
   pub free : pass.debts.cut ≡ None
+  pub one : pass.debts.second_cut ≡ None
   pub sees : SeesPlace x Search (caller table pass)
   pub within : pass.turns ≤ budget
   pub keeps : TakesOn table x start pass
   pub ran : (n : ℕ) → MayRun table n budget start → Ran table n budget start pass []
 
-pub search_begins : {table : Table} {budget : ℕ} {x : Control} {pass : Pass} → IsPassOf table pass → IsInside table x pass → EndsInBegin (caller table pass).own → pass.debts.cut ≡ None → SeesPlace x Search (caller table pass) → pass.turns ≤ budget → IsSearching table budget x pass pass
-search_begins {table} {budget} {x} {pass} of inside began free sees within = record { of = of; began = began; free = free; sees = sees; within = within; keeps = takes_none table x pass inside; ran = λ n may. ran_none of may }
+pub search_begins : {table : Table} {budget : ℕ} {x : Control} {pass : Pass} → IsPassOf table pass → IsInside table x pass → EndsInBegin (caller table pass).own → pass.debts.cut ≡ None → pass.debts.second_cut ≡ None → SeesPlace x Search (caller table pass) → pass.turns ≤ budget → IsSearching table budget x pass pass
+search_begins {table} {budget} {x} {pass} of inside began free one sees within = record { of = of; began = began; free = free; one = one; sees = sees; within = within; keeps = takes_none table x pass inside; ran = λ n may. ran_none of may }
 
 module _ {table : Table} {budget : ℕ} {x : Control} {start a : Pass} {op : TakeOp} {limit : ℕ} (s : IsSearching table budget x start a) (is : op ≡ take_of x Search limit) where
   search_take : MayTake table x Search limit a op
-  search_take = record { of = s.of; inside = s.keeps.inside; began = s.began; free = s.free; sees = s.sees; is = is }
+  search_take = record { of = s.of; inside = s.keeps.inside; began = s.began; free = s.free; one = s.one; sees = s.sees; is = is }
 
   pub search_takes : {n : ℕ} → n ≤ length (caller table a).made → IsTaking n table x op (caller table a)
   search_takes counted = begins_take search_take counted
@@ -233,7 +240,7 @@ module _ {table : Table} {budget : ℕ} {x : Control} {start a : Pass} {op : Tak
 
   pub search_marked : (b : Pass) (raises row : ℕ) (e : Event) (c : CutOp) → Says table budget op a b (Ok (RowMarked row e c)) → {n : ℕ} → MayRun table n budget start → SearchEnded table n budget x limit raises start b (Ok (Some (record { event = e; route = BySearch raises; cut = c })))
   search_marked b raises row e c take {n} may = let ran = s.ran n may in let t = search_told b (Ok (RowMarked row e c)) take n ran.counted in
-      (subst (λ j. Ran table n budget start b (Take j e ∷ [])) ran.number (ran_trans ran t.0), marked_after Search row s.keeps.event t, t.8, refl)
+      (subst (λ j. Ran table n budget start b (Take j e ∷ [])) ran.number (ran_trans ran t.0), marked_after Search row s.keeps.event s.one t, t.8, refl)
 
   pub search_lost : (b : Pass) → Says table budget op a b (Ok Lost) → IsSearching table budget x start b × (a.turns < b.turns)
   search_lost b take = let t = search_told b (Ok Lost) take 0 (omega arith) in (
@@ -241,6 +248,7 @@ module _ {table : Table} {budget : ℕ} {x : Control} {start a : Pass} {op : Tak
       of = t.0.is;
       began = subst EndsInBegin (sym (t.0.own ∙ append-nil (caller table a).own)) s.began;
       free = ap (λ (d : Debts). d.cut) t.1.debts ∙ s.free;
+      one = ap (λ (d : Debts). d.second_cut) t.1.debts ∙ s.one;
       sees = (s.sees.0, t.1.sight ∙ s.sees.1, tt);
       within = t.0.within;
       keeps = takes_trans s.keeps (takes_kept t.1);

@@ -89,7 +89,7 @@ fresh_rests table history k rest none b new = record {
   cut = refl;
   free = new.free;
   room = new.room;
-  debts = subst (λ d. IsOwed d no_debts) (sym new.debts) record { settle = inl refl; copy = refl; cut = inl refl; second_cut = refl };
+  debts = subst (λ d. IsOwed d no_debts) (sym new.debts) record { settle = inl refl; copy = refl; names = inl (inl refl) };
   settle = ap (λ (d : Debts). d.settle) new.debts;
   settled = refl;
   told = refl;

@@ -39,9 +39,9 @@ use Rattle.crq_queue.specs.Runs.{Ran, RanTicks, RanUnraised, RanRaising, KeepsEv
 use Rattle.crq_queue.specs.Parts.{SettleNeeds, InsertNeeds, TakeNeeds, RaiseNeeds, CutNeeds, IsUsedUp, UptoNeeds, RowNeeds, MarksBy}
 use Rattle.crq_queue.specs.Calls.{Call, Called, OwesNothing, InBucket, IsFoundBy, StoppedSettling, NoRow, settles, steps_before}
 
--- this cut is under way, and goes up to the dead row that the pass owes
+-- this cut is under way, and goes up to the one dead row that the pass owes
 abbrev pub CutsDebt : ℕ → Table → Control → CutOp → Pass → Type 0
-CutsDebt n table x op pass = IsCutting n table x op (caller table pass) × ((d : CutDebt) × (pass.debts.cut ≡ Some d) × (op.sought.target ≡ Some (d.event, d.row)))
+CutsDebt n table x op pass = IsCutting n table x op (caller table pass) × ((d : CutDebt) × (pass.debts.cut ≡ Some d) × (op.sought.target ≡ Some (d.event, d.row))) × (pass.debts.second_cut ≡ None)
 
 -- the pass owes no dead row; or it still owes the one that the old pass owed, and the budget is used up in the cut of that
 abbrev pub IsFinished : Table → ℕ → ℕ → Pass → Pass → Result (Unit {0}) Spent → Type 0

@@ -1,5 +1,5 @@
 //! A calendar, how it begins and how it ends.
-ghost use Rattle.std.specs.Prelude.{◌≡◌, [], IfOk};
+ghost use Rattle.std.specs.Prelude.{◌≡◌, false, [], IfOk};
 ghost use Rattle.crq_base.specs.Sizes.{IsTeam, AreRows};
 ghost use Rattle.crq_base.specs.Starts.{IsFirst};
 ghost use Rattle.crq_rule.specs.Opening.{AreFresh};
@@ -15,6 +15,8 @@ use std::alloc::Global;
 pub struct Calendar {
     /// The shared table.
     pub table: Table,
+    // Its table doesn't move into one of another size.
+    ghost still: { table.start.moves ≡ false },
 }
 
 /// The passes of a calendar, made one: nobody is at work, and the history stands still.
@@ -56,7 +58,7 @@ impl Calendar {
             table,
             seat,
             places,
-        } = open_table(alloc, &layout, first)?;
+        } = open_table(alloc, &layout, first, false)?;
         Ok((Calendar { table }, Whole { seat, places }))
     }
 

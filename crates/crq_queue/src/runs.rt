@@ -1,5 +1,5 @@
 //! The parts of a call: single operations, each made within the budget of exchanges that the call has left.
-ghost use Rattle.std.specs.Prelude.{◌≡◌, ◌⊎◌, ◌<◌, ◌≤◌, ◌++◌, [], ◌∷◌, ℕ, Some, None, Ok, Err, Option, Result, MatchResult};
+ghost use Rattle.std.specs.Prelude.{◌≡◌, ◌⊎◌, ◌<◌, ◌≤◌, ◌++◌, [], ◌∷◌, ℕ, false, Some, None, Ok, Err, Option, Result, MatchResult};
 ghost use Rattle.crq_base.specs.declared.words.Control.{Control};
 ghost use Rattle.crq_rule.specs.declared.view.Guard.TheVariants.{Off};
 ghost use Rattle.crq_rows.specs.Passes.{caller, IsPassOf};
@@ -50,6 +50,7 @@ pub(crate) fn cut_within(
     budget: u32,
 ) -> Result<(), Spent>
     requires of { IsPassOf table.now pass.old }
+    requires still { table.now.start.moves ≡ false }
     requires within { pass.old.turns ≤ budget }
     requires op { (n : ℕ) × (x : Control) × IsCutting n table.now x op (caller table.now pass.old) }
     ensures { (n : ℕ) (x : Control) → IsCutting n table.now x op (caller table.now pass.old) → CutRan table.now n budget x op pass.old pass.new result }
@@ -74,6 +75,7 @@ pub(crate) fn insert_within(
     budget: u32,
 ) -> Result<(), Spent>
     requires of { IsPassOf table.now pass.old }
+    requires still { table.now.start.moves ≡ false }
     requires within { pass.old.turns ≤ budget }
     requires op { (n : ℕ) × (x : Control) × IsInserting n table.now x op (caller table.now pass.old) }
     ensures { (n : ℕ) (x : Control) → IsInserting n table.now x op (caller table.now pass.old) → InsertRan table.now n budget x op pass.old pass.new result }
@@ -98,6 +100,7 @@ pub(crate) fn take_within(
     budget: u32,
 ) -> Result<MarkEnd, Spent>
     requires of { IsPassOf table.now pass.old }
+    requires still { table.now.start.moves ≡ false }
     requires within { pass.old.turns ≤ budget }
     requires free { pass.old.debts.cut ≡ None }
     requires op { (n : ℕ) × (x : Control) × IsTaking n table.now x op (caller table.now pass.old) }

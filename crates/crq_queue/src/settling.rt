@@ -1,5 +1,5 @@
 //! Finishing what a pass owes: an event that it put and that isn't settled yet, and then a dead row.
-ghost use Rattle.std.specs.Prelude.{◌≡◌, ◌≤◌, ℕ, Some, is_some, true};
+ghost use Rattle.std.specs.Prelude.{◌≡◌, ◌≤◌, ℕ, Some, None, is_some, true};
 ghost use Rattle.crq_base.specs.declared.words.Control.{Control};
 ghost use Rattle.crq_base.specs.Words.{IsControl};
 ghost use Rattle.crq_rule.specs.Ranks.{head_of, shape_of};
@@ -61,6 +61,7 @@ impl Calendar {
     fn finish_cut(&self, pass: &mut Pass, control: &Control, budget: u32) -> Result<(), Spent>
         requires of { IsPassOf self.now.table pass.old }
         requires inside { IsInside self.now.table control.now pass.old }
+        requires one { pass.old.debts.second_cut ≡ None }
         requires within { pass.old.turns ≤ budget }
         ensures { (n : ℕ) → MayRun self.now.table n budget pass.old → CutFinished self.now.table n budget control.now pass.old pass.new result }
     {

@@ -88,6 +88,7 @@ impl Calendar {
         requires inside { IsInside self.now.table control.now pass.old }
         requires began { EndsInBegin (caller self.now.table pass.old).own }
         requires free { pass.old.debts.cut ≡ None }
+        requires one { pass.old.debts.second_cut ≡ None }
         requires few { raises < 2 ^ control.now.log }
         requires within { pass.old.turns ≤ budget }
         ensures { (n : ℕ) → MayRun self.now.table n budget pass.old → RoundEnded self.now.table n budget control.now limit raises pass.old pass.new result }
@@ -120,6 +121,7 @@ impl Calendar {
         requires inside { IsInside self.now.table control.now pass.old }
         requires began { EndsInBegin (caller self.now.table pass.old).own }
         requires free { pass.old.debts.cut ≡ None }
+        requires one { pass.old.debts.second_cut ≡ None }
         requires sees { SeesPlace control.now Search (caller self.now.table pass.old) }
         requires within { pass.old.turns ≤ budget }
         ensures { (n : ℕ) → MayRun self.now.table n budget pass.old → SearchEnded self.now.table n budget control.now limit raises pass.old pass.new result }
@@ -154,6 +156,7 @@ impl Calendar {
         requires inside { IsInside self.now.table control.now pass.old }
         requires began { EndsInBegin (caller self.now.table pass.old).own }
         requires free { pass.old.debts.cut ≡ None }
+        requires one { pass.old.debts.second_cut ≡ None }
         requires within { pass.old.turns ≤ budget }
         ensures { (n : ℕ) → MayRun self.now.table n budget pass.old → EventTaken self.now.table n budget control.now limit pass.old pass.new result }
     {

@@ -1,6 +1,6 @@
 -- The passes of a new table.
 use Rattle.std.proofs.lemmas.Bool.{false≢true}
-use Rattle.std.proofs.Common.{◌≡◌, inl, ℕ, zero, suc, ◌+◌, ◌*◌, ◌<◌, List, [], ◌∷◌, length, None, Some, sym, refl, ap, ◌∙◌, subst, arith}
+use Rattle.std.proofs.Common.{◌≡◌, ⊎_elim, inl, ℕ, zero, suc, ◌+◌, ◌*◌, ◌<◌, List, [], ◌∷◌, length, None, Some, sym, refl, ap, ◌∙◌, subst, arith}
 use lib.ListN.{get_elem?}
 use Rattle.atomic_table.specs.declared.shared.Seat.{Seat}
 use Rattle.crq_rule.specs.declared.debts.CutDebt.{CutDebt}
@@ -17,8 +17,8 @@ use Rattle.crq_rule.specs.Moves.{Lawful}
 use Rattle.crq_rule.specs.Opening.{IsFresh, IsOpening, no_debts}
 use Rattle.crq_rule.proofs.ScarceLaws.{none_base}
 use Rattle.crq_rule.proofs.Counting.{rows_in}
-use Rattle.crq_rule.proofs.ListOpening.{no_sight, no_settle}
-use Rattle.crq_rule.proofs.Openings.{fresh_at, none_control}
+use Rattle.crq_rule.proofs.ListOpening.{no_sight, no_settle, no_copy}
+use Rattle.crq_rule.proofs.Openings.{fresh_at, none_control, none_help}
 use Rattle.crq_rule.proofs.HolderLaws.{none_some}
 use Rattle.crq_rows.specs.Passes.{first_part, IsOwed, IsNew, AreNew}
 use Rattle.crq_rows.specs.Waking.{AllRest, pass_of, AllWoken}
@@ -40,15 +40,18 @@ fresh_lawful start n b = record {
   apart = λ r s _ i. absurd i;
   on = λ s i. absurd i;
   agree = λ s t i. absurd i;
-  owed_at = λ d x is. absurd (no_debt d is);
-  owed_now = λ d x is. absurd (no_debt d is);
-  owed_fits = λ d is. absurd (no_debt d is);
-  one_name = refl;
+  owed_at = λ d x is. absurd (⊎_elim (no_debt d) (no_debt d) is);
+  owed_fits = λ d is. absurd (⊎_elim (no_debt d) (no_debt d) is);
+  ordered = λ _. refl;
+  owed_now = λ d x _ is. absurd (⊎_elim (no_debt d) (no_debt d) is);
+  one_name = λ _. refl;
+  copying = λ d is. absurd (no_copy d is);
   owing = λ d is. absurd (no_settle d is);
   scarce = λ b vain. absurd (none_base b vain.0);
   sighted = λ s is. absurd (no_sight s is);
   permitted = λ x has _. absurd (false≢true has);
   controlled = λ x is. absurd (none_control x is);
+  helping = λ h is. absurd (none_help h is);
 }
 
 new_pass : (table : Table) (seat : Seat (Unit {0}) View) (n : ℕ) (rest : Rest) → n < table.start.layout.workers → seat.table_id ≡ table.inner.shared.table_id → seat.me ≡ (record { parts = fresh table.start n ∷ [] }, [])
@@ -67,7 +70,7 @@ new_pass table seat n rest b id me new = let parts : seat.me.0.parts ≡ fresh t
         lawful = subst Lawful (sym part) (fresh_lawful table.start n b);
         free = new.free ∙ sym (ap (λ (p : Caller). p.hand) part);
         room = new.room;
-        debts = let owed : rest.debts ≡ no_debts = new.debts in subst (λ (p : Caller). IsOwed rest.debts p.debts) (sym part) (subst (λ d. IsOwed d no_debts) (sym owed) record { settle = inl refl; copy = refl; cut = inl refl; second_cut = refl });
+        debts = let owed : rest.debts ≡ no_debts = new.debts in subst (λ (p : Caller). IsOwed rest.debts p.debts) (sym part) (subst (λ d. IsOwed d no_debts) (sym owed) record { settle = inl refl; copy = refl; names = inl (inl refl) });
       };
       number = refl;
       part = part;

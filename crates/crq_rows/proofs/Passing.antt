@@ -1,8 +1,9 @@
 -- A pass after a step.
-use Rattle.std.proofs.Common.{◌≡◌, ◌⊎◌, ⊎_elim, inl, ℕ, [], ◌∷◌, None, sym, refl, ap, ◌∙◌, subst}
+use Rattle.std.proofs.Common.{◌≡◌, ◌⊎◌, ⊎_elim, inl, inr, ℕ, [], ◌∷◌, Option, None, Some, sym, refl, ap, ◌∙◌, subst}
 use Rattle.atomic_table.specs.declared.shared.Seat.{Seat}
 use Rattle.atomic_table.specs.Table.{Allows}
 use Rattle.crq_base.specs.declared.kinds.StepKind.{StepKind}
+use Rattle.crq_rule.specs.declared.debts.CutDebt.{CutDebt}
 use Rattle.crq_rule.specs.declared.debts.Debts.{Debts}
 use Rattle.crq_rule.specs.declared.layout.Start.{Start}
 use Rattle.crq_rule.specs.declared.view.Made.{Made}
@@ -10,11 +11,58 @@ use Rattle.crq_rule.specs.declared.view.Caller.{Caller}
 use Rattle.crq_rule.specs.declared.view.View.{View}
 use Rattle.crq_rule.specs.declared.pass.Pass.{Pass}
 use Rattle.crq_rule.specs.declared.pass.Table.{Table}
+use Rattle.crq_rule.specs.Core.{DeadNames, moved_up, names_of, renamed}
 use Rattle.crq_rule.specs.Kinds.{makes}
 use Rattle.crq_rule.specs.Rule.{Stands}
 use Rattle.crq_rule.specs.Moves.{Moves, MovesBy, By, Lawful, FirstTurns}
 use Rattle.crq_rule.proofs.Glue.{allows, moves_by}
-use Rattle.crq_rows.specs.Passes.{caller, first_part, IsOwed, IsSeated, IsPassOf, StaysAside, Steps, Stepped, Turned, Turns, Exchanged, Exchanges, counted}
+use Rattle.crq_rows.specs.Passes.{caller, first_part, NamesLag, IsOwed, IsSeated, IsPassOf, StaysAside, Steps, Stepped, Turned, Turns, Exchanged, ExchangedBy, Exchanges, counted}
+
+-- no dead rows
+abbrev none_named : DeadNames
+none_named = record { first = None; second = None }
+
+-- names that lag behind those that lag lag too
+pub lag_on : (run mid known : DeadNames) → NamesLag run mid → NamesLag mid known → NamesLag run known
+lag_on run mid known a b = ⊎_elim
+    (⊎_elim
+    (λ same. subst (λ m. NamesLag m known) same b)
+    (λ up. from_second (subst (λ m. NamesLag m known) up b)))
+    (⊎_elim
+    (λ kept. from_first (subst (λ m. NamesLag m known) kept b))
+    (λ none. inr (inr (from_none (subst (λ m. NamesLag m known) none b)))))
+    a
+  where
+    from_second : NamesLag (record { first = run.second; second = None }) known → NamesLag run known
+    from_second z = ⊎_elim (⊎_elim (λ q. inl (inr q)) (λ q. inr (inr q))) (⊎_elim (λ q. inl (inr q)) (λ q. inr (inr q))) z
+
+    from_first : NamesLag (record { first = run.first; second = None }) known → NamesLag run known
+    from_first z = ⊎_elim (⊎_elim (λ q. inr (inl q)) (λ q. inr (inr q))) (⊎_elim (λ q. inr (inl q)) (λ q. inr (inr q))) z
+
+    from_none : NamesLag none_named known → known ≡ none_named
+    from_none z = ⊎_elim (⊎_elim (λ q. q) (λ q. q)) (⊎_elim (λ q. q) (λ q. q)) z
+
+-- names of which some drop out lag behind what they were, where the first comes first
+pub lag_dropped : (names : DeadNames) (first second : Option CutDebt) → (names.first ≡ None → names.second ≡ None) → (first ≡ names.first) ⊎ (first ≡ None) → (second ≡ names.second) ⊎ (second ≡ None) → NamesLag names (moved_up first second)
+lag_dropped names first second ordered a b = ⊎_elim
+    (λ same. subst (λ f. NamesLag names (moved_up f second)) (sym same) (kept names.first refl))
+    (λ gone. subst (λ f. NamesLag names (moved_up f second)) (sym gone) (⊎_elim (λ q. inl (inr (ap (moved_up None) q))) (λ q. inr (inr (ap (moved_up None) q))) b))
+    a
+  where
+    kept : (o : Option CutDebt) → names.first ≡ o → NamesLag names (moved_up o second)
+    kept None is = ⊎_elim (λ q. inl (inr (ap (moved_up None) q))) (λ q. inr (inr (ap (moved_up None) q))) b
+    kept (Some d) is = ⊎_elim (λ q. inl (inl (λ i. record { first = sym is i; second = q i }))) (λ q. inr (inl (λ i. record { first = sym is i; second = q i }))) b
+
+-- a pass that names one dead row at most owes that, or none
+pub one_name_owed : (run known : Debts) → IsOwed run known → run.second_cut ≡ None → ((known.cut ≡ None) ⊎ (known.cut ≡ run.cut)) × (known.second_cut ≡ None)
+one_name_owed run known owed one = ⊎_elim
+    (⊎_elim
+    (λ q. (inr (ap (λ (n : DeadNames). n.first) q), ap (λ (n : DeadNames). n.second) q ∙ one))
+    (λ q. (inl (ap (λ (n : DeadNames). n.first) q ∙ one), ap (λ (n : DeadNames). n.second) q)))
+    (⊎_elim
+    (λ q. (inr (ap (λ (n : DeadNames). n.first) q), ap (λ (n : DeadNames). n.second) q))
+    (λ q. (inl (ap (λ (n : DeadNames). n.first) q), ap (λ (n : DeadNames). n.second) q)))
+    owed.names
 
 -- the seat after a step
 record Sat (table : Table) (old : Pass) (seat : Seat (Unit {0}) View) (m : Made) (R : Caller → Caller → Type 0) : Type 0 where
@@ -25,7 +73,31 @@ record Sat (table : Table) (old : Pass) (seat : Seat (Unit {0}) View) (m : Made)
   part : caller table (record old { seat = seat }) ≡ makes m after
 
 lawful_made : (m : Made) (q : Caller) → Lawful q → Lawful (makes m q)
-lawful_made m q l = record { inside = l.inside; epochs = l.epochs; hand = l.hand; cut = l.cut; tags = l.tags; ripening = l.ripening; stands = l.stands; last = l.last; apart = l.apart; on = l.on; agree = l.agree; owed_at = l.owed_at; owed_now = l.owed_now; owed_fits = l.owed_fits; one_name = l.one_name; owing = l.owing; scarce = l.scarce; sighted = l.sighted; controlled = l.controlled; permitted = l.permitted }
+lawful_made m q l = record {
+  inside = l.inside;
+  epochs = l.epochs;
+  hand = l.hand;
+  cut = l.cut;
+  tags = l.tags;
+  ripening = l.ripening;
+  stands = l.stands;
+  last = l.last;
+  apart = l.apart;
+  on = l.on;
+  agree = l.agree;
+  owed_at = l.owed_at;
+  owed_fits = l.owed_fits;
+  ordered = l.ordered;
+  owed_now = l.owed_now;
+  one_name = l.one_name;
+  copying = λ d owes. let k = l.copying d owes in record { on = k.on; old = k.old; copy = k.copy; event = k.event; last = k.last; room = k.room };
+  owing = l.owing;
+  scarce = l.scarce;
+  sighted = l.sighted;
+  controlled = l.controlled;
+  helping = l.helping;
+  permitted = l.permitted;
+}
 
 module _ (table : Table) (old : Pass) (seat : Seat (Unit {0}) View) (m : Made) (R : Caller → Caller → Type 0) where
   sat : IsSeated table old → seat.table_id ≡ old.seat.table_id → FirstTurns R m old.seat.me.0.parts seat.me.0 → seat.me.1 ≡ old.seat.me.1 → Sat table old seat m R
@@ -48,8 +120,9 @@ module _ (table : Table) (old : Pass) (seat : Seat (Unit {0}) View) (m : Made) (
   pub turns : IsSeated table old → seat.table_id ≡ old.seat.table_id → seat.id ≡ old.seat.id → FirstTurns R m old.seat.me.0.parts seat.me.0 → seat.me.1 ≡ old.seat.me.1 → Turns table old (record old { seat = seat }) m R
   turns of table_id id moved bare = let s = sat of table_id moved bare in record { sits = s.sits; lawful = subst Lawful (sym s.part) s.lawful; same = refl; id = id; after = (s.after, s.turns, s.part) }
 
-  still_owed : (d e : Debts) (run : Debts) → IsOwed run d → (e ≡ d) ⊎ (e ≡ record d { cut = None }) → IsOwed run e
-  still_owed d e run owed how = ⊎_elim (λ q. subst (IsOwed run) (sym q) owed) (λ q. subst (IsOwed run) (sym q) record { settle = owed.settle; copy = owed.copy; cut = inl refl; second_cut = owed.second_cut }) how
+  still_owed : (d e : Debts) (run : Debts) → IsOwed run d → (e ≡ d) ⊎ ((names : DeadNames) × (e ≡ renamed d names) × NamesLag (names_of d) names) → IsOwed run e
+  still_owed d e run owed how = ⊎_elim (λ q. subst (IsOwed run) (sym q) owed)
+      (λ (t : (names : DeadNames) × (e ≡ renamed d names) × NamesLag (names_of d) names). subst (IsOwed run) (sym t.1) record { settle = owed.settle; copy = owed.copy; names = lag_on (names_of run) (names_of d) t.0 owed.names t.2 }) how
 
   pub turned : IsPassOf table old → ((p q : Caller) → Lawful p → R p q → StaysAside p q) → seat.table_id ≡ old.seat.table_id → seat.id ≡ old.seat.id → FirstTurns R m old.seat.me.0.parts seat.me.0 → seat.me.1 ≡ old.seat.me.1
       → Turned table old (record old { seat = seat }) m R
@@ -103,6 +176,15 @@ exchanged table old new t m f is s = record {
   turns = is;
   id = s.id;
   part = s.part;
+}
+
+pub exchanged_by : (table : Table) (old new : Pass) (t : ℕ) (m : Made) (R : Caller → Caller → Type 0) → t ≡ counted old.turns → Turned table old new m R → ExchangedBy table old (record new { turns = t }) m R
+exchanged_by table old new t m R is s = record {
+  is = record { sits = seated_counted table new t s.is.sits; lawful = s.is.lawful; free = s.is.free; room = s.is.room; debts = s.is.debts };
+  same = ap (λ (p : Pass). record p { turns = t }) s.same;
+  turns = is;
+  id = s.id;
+  after = s.after;
 }
 
 -- what `atomic_table` asks of a step of the pass

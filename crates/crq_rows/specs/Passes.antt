@@ -10,6 +10,7 @@ use Rattle.crq_rule.specs.declared.pass.Table.{Table}
 use Rattle.crq_rule.specs.declared.pass.Seating.{Seating}
 use Rattle.crq_rule.specs.declared.pass.Seating.TheVariants.{Here}
 use Rattle.crq_rule.specs.declared.layout.Start.{Start}
+use Rattle.crq_rule.specs.Core.{DeadNames, moved_up, names_of, renamed}
 use Rattle.crq_rule.specs.Kinds.{makes}
 use Rattle.crq_rule.specs.Rule.{fresh}
 use Rattle.crq_rule.specs.Moves.{Lawful}
@@ -32,12 +33,15 @@ pub record IsSeated (table : Table) (pass : Pass) : Type 0 where
   pub inside : pass.number < table.start.layout.workers
   pub started : (caller table pass).start ≡ table.start
 
--- the pass owes what its caller does, and maybe a dead row that was cut meanwhile. An event that the pass linked just now may have yet to be noted at run time
+-- of the dead rows that the pass names, its caller owes all, or the second or the first alone, or none: the others were cut meanwhile. Where the first was, the second moves up
+abbrev pub NamesLag : DeadNames → DeadNames → Type 0
+NamesLag run known = ((known ≡ run) ⊎ (known ≡ moved_up None run.second)) ⊎ ((known ≡ record { first = run.first; second = None }) ⊎ (known ≡ record { first = None; second = None }))
+
+-- the pass owes what its caller does, and maybe dead rows that were cut meanwhile. An event that the pass linked just now may have yet to be noted at run time
 pub record IsOwed (run known : Debts) : Type 0 where
   pub settle : (run.settle ≡ None) ⊎ (known.settle ≡ run.settle)
   pub copy : known.copy ≡ run.copy
-  pub cut : (known.cut ≡ None) ⊎ (known.cut ≡ run.cut)
-  pub second_cut : known.second_cut ≡ run.second_cut
+  pub names : NamesLag (names_of run) (names_of known)
 
 -- the pass is of the table: its fields agree with what is known of its caller, and its list of free rows has room for all home rows
 pub record IsPassOf (table : Table) (pass : Pass) : Type 0 where
@@ -99,6 +103,14 @@ pub record Exchanged (table : Table) (old new : Pass) (m : Made) (f : Caller →
   pub id : new.seat.id ≡ old.seat.id
   pub part : caller table new ≡ makes m (f (caller table old))
 
+-- the one exchange m was made with the pass, and is counted; what is known of its caller changed as R says
+pub record ExchangedBy (table : Table) (old new : Pass) (m : Made) (R : Caller → Caller → Type 0) : Type 0 where
+  pub is : IsPassOf table new
+  pub same : new ≡ record old { seat = new.seat; turns = new.turns }
+  pub turns : new.turns ≡ counted old.turns
+  pub id : new.seat.id ≡ old.seat.id
+  pub after : (q : Caller) × R (caller table old) q × (caller table new ≡ makes m q)
+
 -- the one exchange m was made with the pass, and is counted. What else the pass has at run time has yet to follow
 pub record Exchanges (table : Table) (old new : Pass) (m : Made) (f : Caller → Caller) : Type 0 where
   pub sits : IsSeated table new
@@ -108,10 +120,10 @@ pub record Exchanges (table : Table) (old new : Pass) (m : Made) (f : Caller →
   pub id : new.seat.id ≡ old.seat.id
   pub part : caller table new ≡ makes m (f (caller table old))
 
--- what the pass has at run time still agrees: the rows in hand stay, and so do the debts, or the dead row to cut isn't owed any more
+-- what the pass has at run time still agrees: the rows in hand stay, and so do the debts, but that some dead rows aren't owed any more
 pub record StaysAside (p q : Caller) : Type 0 where
   pub hand : q.hand ≡ p.hand
-  pub debts : (q.debts ≡ p.debts) ⊎ (q.debts ≡ record p.debts { cut = None })
+  pub debts : (q.debts ≡ p.debts) ⊎ ((names : DeadNames) × (q.debts ≡ renamed p.debts names) × NamesLag (names_of p.debts) names)
 
 abbrev pub IsAside : (ℕ → Caller → Caller) → Type 0
 IsAside f = (r : ℕ) (p : Caller) → Lawful p → StaysAside p (f r p)

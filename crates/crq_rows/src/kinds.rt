@@ -9,7 +9,7 @@ ghost use Rattle.crq_base.specs.declared.kinds.StepKind.TheVariants.{EpochLoad};
 ghost use Rattle.crq_rule.specs.declared.layout.Start.{Start};
 ghost use Rattle.crq_rule.specs.declared.view.Caller.{Caller};
 ghost use Rattle.crq_rule.specs.Moves.{Lawful, Moves, MovesBy, By, FirstTurns, quiet};
-ghost use Rattle.crq_rows.specs.Passes.{caller, StaysAside, IsAside, IsPassOf, IsSeated, Steps, Stepped, Turned, Turns, Exchanged, Exchanges, load_made, store_made, step_made};
+ghost use Rattle.crq_rows.specs.Passes.{caller, StaysAside, IsAside, IsPassOf, IsSeated, Steps, Stepped, Turned, Turns, Exchanged, ExchangedBy, Exchanges, load_made, store_made, step_made};
 
 use atomic_table::Play;
 use crq_rule::{Pass, Table, View};
@@ -147,6 +147,28 @@ pub fn exchange_as<F: Change, T>(
         .inner
         .shared
         .compare_exchange::<Does<F>>(&mut pass.seat, word, old, new)
+}
+
+/// Exchanges a word as `exchange_as` does, by a kind of step that tells more than the word found.
+pub fn exchange_turning<F: Turn, T>(
+    table: &Table,
+    pass: &mut Pass,
+    word: usize,
+    old: u64,
+    new: u64,
+    _said: &T,
+) -> u64
+    requires of { IsPassOf table.now pass.old }
+    requires word { word < table.now.inner.shared.table_id.words }
+    requires aside { (r : ℕ) (p q : Caller) → Lawful p → F.turns r p q → StaysAside p q }
+    requires moves { MovesBy F.kind table.now.start (caller table.now pass.old) word (λ n. either (n == old) new n) F.turns }
+    ensures { ExchangedBy table.now pass.old pass.new (step_made F.kind word old new result) (F.turns result) }
+{
+    pass.turns = pass.turns.saturating_add(1);
+    table
+        .inner
+        .shared
+        .compare_exchange::<TurnsBy<F>>(&mut pass.seat, word, old, new)
 }
 
 /// Exchanges a word as `exchange_as` does, where what the pass has at run time has yet to follow.

@@ -20,8 +20,8 @@ pub use crq_rule::{Owes, Pass, Seating, Table};
 pub use dealing::{passes, wake_all};
 pub use gathering::{gather_step, span_step};
 pub use kinds::{
-    Change, Does, Turn, TurnsBy, exchange_as, exchange_seated, load_as, load_seated, load_turning,
-    store_as, store_seated,
+    Change, Does, Turn, TurnsBy, exchange_as, exchange_seated, exchange_turning, load_as,
+    load_seated, load_turning, store_as, store_seated,
 };
 pub use own::{Own, OwnOp};
 pub use places::Passes;

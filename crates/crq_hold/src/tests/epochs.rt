@@ -31,7 +31,7 @@ fn pair(alloc: Global, guard: u64) -> Result<(Table, Pass, Pass), AllocError>
         generation: 1,
         guard,
     };
-    let (table, mut all) = passes(open_table(alloc, &layout, first)?);
+    let (table, mut all) = passes(open_table(alloc, &layout, first, false)?);
     let zero = all.lift(0);
     let one = all.lift(1);
     all.lower(zero);

@@ -70,6 +70,7 @@ fn take_here(queue: &Calendar, pass: &mut Pass, control: &Control) -> (TakeOp, C
     requires control { IsControl control.now × (control.now.moving ≡ false) }
     requires began { EndsInBegin (caller queue.now.table pass.old).own }
     requires free { pass.old.debts.cut ≡ None }
+    requires one { pass.old.debts.second_cut ≡ None }
     ensures of { IsPassOf queue.now.table pass.new }
     ensures free { pass.new.debts.cut ≡ None }
     ensures at { IsTaking 0 queue.now.table control.now result.0 (caller queue.now.table pass.new) }
@@ -88,6 +89,7 @@ fn mark(queue: &Calendar, pass: &mut Pass, control: &Control) -> Option<(Event, 
     requires control { IsControl control.now × (control.now.moving ≡ false) }
     requires began { EndsInBegin (caller queue.now.table pass.old).own }
     requires free { pass.old.debts.cut ≡ None }
+    requires one { pass.old.debts.second_cut ≡ None }
     ensures of { IsPassOf queue.now.table pass.new }
     ensures inside { IsInside queue.now.table control.now pass.new }
 {
@@ -109,6 +111,7 @@ fn raise(queue: &Calendar, pass: &mut Pass, control: &Control) -> bool
     requires control { IsControl control.now × (control.now.moving ≡ false) }
     requires began { EndsInBegin (caller queue.now.table pass.old).own }
     requires free { pass.old.debts.cut ≡ None }
+    requires one { pass.old.debts.second_cut ≡ None }
 {
     let (mut op, current) = take_here(queue, pass, control);
     for _ in 0..STEPS {

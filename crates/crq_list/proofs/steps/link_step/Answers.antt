@@ -2,7 +2,7 @@ use Rattle.std.proofs.Common.{◌==◌, ℕ, cond, sym, refl, ap, ◌∙◌, sub
 use prog.Atomic.{either}
 use Rattle.crq_base.specs.declared.kinds.StepKind.TheVariants.{Link}
 use Rattle.crq_base.specs.Words.{link_word}
-use Rattle.crq_rule.specs.Ranks.{cell_place}
+use Rattle.crq_rule.specs.Ranks.{head_of, cell_place}
 use Rattle.crq_rule.specs.ListKinds.{links, unhanded}
 use Rattle.crq_rule.specs.Moves.{Moves, wins, quiet}
 use Rattle.crq_rule.proofs.Glue.{moves_flat}
@@ -14,7 +14,7 @@ use Rattle.crq_list.proofs.StepLaws.{cell_is, comes_walk, place_below, links_fou
 use Rattle.crq_list.proofs.steps.link_step.Goals as goal
 
 pub word_of-word-requires : goal.word_of-word-requires
-word_of-word-requires c = let may = c.requires.may.1 in cell_is c.args.table.now c.args.pass.now (cell c.args.spot) c.requires.of (comes_walk c.requires.may.0 _ (cell c.args.spot) c.args.row c.args.event.now may.after)
+word_of-word-requires c = let may = c.requires.may.1 in cell_is c.args.table.now c.args.pass.now (cell c.args.spot) c.requires.of (comes_walk (head_of c.requires.may.0) _ (cell c.args.spot) c.args.row c.args.event.now may.after)
 
 pub pack-old-requires : goal.pack-old-requires
 pack-old-requires c = c.requires.may.1.expected.0
@@ -25,7 +25,7 @@ pack-new-requires c = let table = c.args.table.now in let may = c.requires.may.1
 
 pub exchange_seated-found-requires-clause-word : goal.exchange_seated-found-requires-clause-word
 exchange_seated-found-requires-clause-word c = let may = c.requires.may.1 in place_below c.args.table.now (cell_place (cell c.args.spot)) _
-    (cell_is c.args.table.now c.args.pass.now (cell c.args.spot) c.requires.of (comes_walk c.requires.may.0 _ (cell c.args.spot) c.args.row c.args.event.now may.after)) c.word_of-word.ensures
+    (cell_is c.args.table.now c.args.pass.now (cell c.args.spot) c.requires.of (comes_walk (head_of c.requires.may.0) _ (cell c.args.spot) c.args.row c.args.event.now may.after)) c.word_of-word.ensures
 
 pub exchange_seated-found-requires-clause-moves : goal.exchange_seated-found-requires-clause-moves
 exchange_seated-found-requires-clause-moves c = let key = c.args.table.now.start in let p = caller c.args.table.now c.args.pass.now in let l = c.args.link in let r = c.args.row in let e = c.args.event.now in let x = c.requires.may.0 in

@@ -29,10 +29,10 @@ head_of-requires c = (c.requires.of.lawful.sighted (record { table = c.args.cont
 pub returns-then-won : goal.returns-then-won
 returns-then-won c = let found = c.exchange_seated-found.result in let from = c.pack-old.result in let mid = c.exchange_seated-found.new.pass in let x = c.args.control.now in let r = c.args.row in let e = c.args.event.now in
     let owed = cut_debt x r e in
-    marked c.args.table.now c.args.pass.now mid (record mid { debts = record mid.debts { cut = Some (record owed { head = c.head_of.result }) } }) (at_row r) c.word_of-word.result from c.pack.result found (found == from) c.args.link x r e c.requires.of c.word_of-word.ensures c.pack-old.ensures c.pack.ensures c.exchange_seated-found.ensures.exchanges refl refl
+    marked c.args.table.now c.args.pass.now mid (record mid { debts = record mid.debts { cut = Some (record owed { head = c.head_of.result }) } }) (at_row r) c.word_of-word.result from c.pack.result found (found == from) c.args.link x r e c.requires.of c.requires.may.free c.word_of-word.ensures c.pack-old.ensures c.pack.ensures c.exchange_seated-found.ensures.exchanges refl refl
     ((λ i. record mid.debts { cut = Some (record owed { head = c.head_of.ensures i }) }) ∙ ap (λ b. cond b (record mid.debts { cut = Some owed }) mid.debts) (sym (eq-eqb found from c.if-won.true)))
 
 pub returns-else-won : goal.returns-else-won
 returns-else-won c = let found = c.exchange_seated-found.result in let from = c.pack-old.result in let mid = c.exchange_seated-found.new.pass in let x = c.args.control.now in let r = c.args.row in let e = c.args.event.now in
-    marked c.args.table.now c.args.pass.now mid mid (at_row r) c.word_of-word.result from c.pack.result found (found == from) c.args.link x r e c.requires.of c.word_of-word.ensures c.pack-old.ensures c.pack.ensures c.exchange_seated-found.ensures.exchanges refl refl
+    marked c.args.table.now c.args.pass.now mid mid (at_row r) c.word_of-word.result from c.pack.result found (found == from) c.args.link x r e c.requires.of c.requires.may.free c.word_of-word.ensures c.pack-old.ensures c.pack.ensures c.exchange_seated-found.ensures.exchanges refl refl
     (ap (λ b. cond b (record mid.debts { cut = Some (cut_debt x r e) }) mid.debts) (sym (ne_eqb found from c.if-won.false)))

@@ -21,4 +21,4 @@ from_word-requires c = let w = c.load_turning-found.ensures.after.1 in subst IsC
 
 pub returns : goal.returns
 returns c = let control = c.from_word.ensures in
-    controlled Miss c.args.table.now c.args.pass.now c.load_turning-found.new.pass (misses c.args.limit) c.control-word.result c.load_turning-found.result c.from_word.result c.control-word.ensures control.0 control.1 c.load_turning-found.ensures
+    controlled Miss c.args.table.now c.args.pass.now c.load_turning-found.new.pass (misses c.args.limit) c.control-word.result c.load_turning-found.result c.from_word.result c.requires.of c.control-word.ensures control.0 control.1 c.load_turning-found.ensures

@@ -31,7 +31,7 @@ loop-op-smaller c = let o = c.requires.op in let n = o.0 in let x = o.1 in let l
 
 pub returns-in-Done : goal.returns-in-Done
 returns-in-Done c n x begun = let l = c.loop-op in let g = l.invariant n x begun in let a = c.in-Done in
-    take_runs_out c.args.table.now n c.args.budget x c.args.op c.args.pass.now (omega arith) l.op _ l.pass _ a.end g
+    take_runs_out c.args.table.now n c.args.budget x c.args.op c.args.pass.now (omega arith) c.requires.still l.op _ l.pass _ a.end g
     (λ swaps. elim c.if-not-exchanges.branch [ then-not-exchanges w ↦ absurd (false≢true (sym w.if-not-exchanges.true ∙ (c.exchanges.ensures ∙ swaps))) | else-not-exchanges+then-pass-budget w ↦ w.if-pass-budget.true ])
     (a.ensures n x g.at)
 

@@ -7,7 +7,7 @@ use Rattle.crq_list.proofs.TakeMarks.{answers_so, row_in}
 use Rattle.crq_list.proofs.take.TakeOp.read_in.Goals as goal
 
 pub with_word-event-requires-clause-word : goal.with_word-event-requires-clause-word
-with_word-event-requires-clause-word c = let w = c.requires.op.2.at.1.0 in (w.event, (is_event c.args.table.now c.args.pass.now c.args.row w.event c.requires.of w.on).0, c.read_step-word.ensures.word w.event w.on)
+with_word-event-requires-clause-word c = let w = c.requires.op.2.at.1.0 in let on = w.on in (w.event, (is_event c.args.table.now c.args.pass.now c.args.row w.event c.requires.of (on.0, on.1, on.2, on.3)).0, c.read_step-word.ensures.word w.event (on.0, on.1, on.2, on.3))
 
 pub returns-then-place-lt5-clause-stepped : goal.returns-then-place-lt5-clause-stepped
 returns-then-place-lt5-clause-stepped c n x t = let table = c.args.table.now in let op = c.args.self.now in let old = c.args.pass.now in let r = c.args.row in let l = c.args.link in let k = c.args.place in let f = c.args.first in let got = c.with_word-event.result in

@@ -1,9 +1,10 @@
+use Rattle.crq_list.specs.declared.take.MarkEnd.TheVariants.{Frozen}
 use Rattle.std.proofs.Common.{⊎_elim, ap, refl}
 use Rattle.crq_rule.specs.ListKinds.{is_passed}
-use Rattle.crq_list.specs.declared.parts.Progress.TheVariants.{More}
-use Rattle.crq_list.specs.declared.take.TakeState.TheVariants.{Walking, Reading}
+use Rattle.crq_list.specs.declared.parts.Progress.TheVariants.{More, Done}
+use Rattle.crq_list.specs.declared.take.TakeState.TheVariants.{Load, Walking, Reading}
 use Rattle.crq_list.specs.Taking.{take_at, goes_past}
-use Rattle.crq_list.proofs.TakeLaws.{present_stepped, dead_stepped}
+use Rattle.crq_list.proofs.TakeLaws.{present_stepped, dead_stepped, row_frozen}
 use Rattle.crq_list.proofs.TakeMarks.{answers_so, past_in}
 use Rattle.crq_list.proofs.take.TakeOp.walk_in.Goals as goal
 
@@ -16,3 +17,8 @@ pub returns-in-Inv : goal.returns-in-Inv
 returns-in-Inv c n x t = let table = c.args.table.now in let op = c.args.self.now in let old = c.args.pass.now in let l = c.walk_step-link.result in let r = c.args.row in let f = c.args.first in let told = c.goes_past_in.result in let at = c.requires.place in
     answers_so n table x (take_at op (Walking r f)) old _ (take_at op told.0, told.1) (goes_past op l f) (past_in op at.0 at.1 l f told c.goes_past_in.ensures)
     (λ control u. dead_stepped n table op old _ l r f op.place control c.requires.of.lawful c.walk_step-link.ensures u (⊎_elim (ap is_passed) (ap is_passed) c.in-Inv.is)) c.requires.of.lawful t
+
+pub returns-in-Mov : goal.returns-in-Mov
+returns-in-Mov c n x t = let table = c.args.table.now in let op = c.args.self.now in let old = c.args.pass.now in let l = c.walk_step-link.result in let r = c.args.row in let f = c.args.first in
+    answers_so n table x (take_at op (Walking r f)) old _ ((take_at op Load), Done Frozen) ((take_at op Load), Done Frozen) refl
+    (λ control u. row_frozen n table op (take_at op Load) old _ l r f op.place c.requires.of.lawful c.walk_step-link.ensures c.in-Mov.is u) c.requires.of.lawful t

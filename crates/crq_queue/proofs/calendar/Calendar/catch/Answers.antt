@@ -6,7 +6,7 @@ use Rattle.crq_queue.proofs.Catches.{catching_begins, catch_marked, catch_may_mi
 use Rattle.crq_queue.proofs.calendar.Calendar.catch.Goals as goal
 
 pub loop-event-init : goal.loop-event-init
-loop-event-init c = let r = c.requires in catching_begins (record { of = r.of; inside = r.inside; began = r.began; free = r.free }) r.within
+loop-event-init c = let r = c.requires in catching_begins (record { of = r.of; inside = r.inside; began = r.began; free = r.free; one = r.one }) r.within
 
 pub returns-in_err-event : goal.returns-in_err-event
 returns-in_err-event c n may = let p = err_from_is_err_and c.from_residual.result c.from_residual.ensures.1 in rw (p.1) (catch_late c.loop-event.invariant c.args.limit c.round.new.pass c.in_err-event.field-0.0 c.in_err-event.ensures may)
@@ -22,7 +22,7 @@ returns-in-Missed c n may = catch_missed c.loop-event.invariant c.args.limit c.r
 
 pub search-requires : goal.search-requires
 search-requires c = let m = c.in-On in let t = may_search c.loop-event.invariant c.args.limit c.round.new.pass m.made (round_so c.args.self.now.table c.args.budget c.args.control.now c.args.limit c.loop-event.raises c.loop-event.pass c.round.new.pass (On m.made) m.is c.in_ok-event.ensures) (may_from_none c.requires.within c.ranges.budget.fits) in
-    record { of = t.0.of; inside = t.0.inside; began = t.0.began; free = t.0.free; sees = t.1; within = t.2 }
+    record { of = t.0.of; inside = t.0.inside; began = t.0.began; free = t.0.free; one = t.0.one; sees = t.1; within = t.2 }
 
 pub returns-then-made-control : goal.returns-then-made-control
 returns-then-made-control c n may = let m = c.in-On in let r = c.requires in let x = c.args.control.now in let count = list_count x (r.of.lawful.controlled x r.inside.control).0 in let all = c.if-made-control.true in

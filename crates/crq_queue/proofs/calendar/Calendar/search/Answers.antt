@@ -5,7 +5,7 @@ use Rattle.crq_list.specs.declared.take.MarkEnd.TheVariants.{Marked, Lost}
 use Rattle.crq_queue.proofs.calendar.Calendar.search.Goals as goal
 
 pub loop-event-init : goal.loop-event-init
-loop-event-init c = let r = c.requires in search_begins r.of r.inside r.began r.free r.sees r.within
+loop-event-init c = let r = c.requires in search_begins r.of r.inside r.began r.free r.one r.sees r.within
 
 pub take_within-requires-clause-op : goal.take_within-requires-clause-op
 take_within-requires-clause-op c = (0, c.args.control.now, search_takes c.loop-event.invariant c.new-op.ensures (omega arith))

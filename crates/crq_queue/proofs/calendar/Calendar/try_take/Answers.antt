@@ -13,6 +13,7 @@ catch-requires c = let old = c.args.pass.now in let low = c.ranges.budget.fits i
   inside = w.inside;
   began = take_began old low begun enter;
   free = take_free old low begun enter;
+  one = w.second_cut;
   within = take_within old low begun enter;
 }
 
