@@ -1,0 +1,5 @@
+pub mod Orders
+pub mod StepLaws
+pub mod HelperLaws
+pub mod PrepareLaws
+pub mod FreezeLaws

@@ -1,0 +1,12 @@
+//! How a part of a move ends.
+
+/// How a part of a move ends for one of its helpers.
+#[derive(Clone, Copy, Debug, PartialEq, Eq)]
+pub enum PartEnd {
+    /// Each head was found as the part leaves it.
+    Done,
+    /// The copy of an event wants a row, and the pass has none free. Only the emptying of lists ends so.
+    NeedRow,
+    /// Control was found to have moved on: the move is over.
+    Passed,
+}
