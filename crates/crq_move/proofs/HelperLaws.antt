@@ -83,26 +83,26 @@ counted_on n b p q works low = subst (λ ms. n ≤ length ms) (sym works.made) (
 -- a head was loaded
 pub loaded_part : (n : ℕ) (table : Table) (old new : Pass) (q : ℕ) (l : Link) → IsPassOf table old → Saw table old new (at_head q) no_take l → PartStepped n table false Walk old new
 loaded_part n table old new q l of s = let p : Caller = caller table old in let gone = relieved p.found.control (at_head q) p.position.rows l s.event in record {
-      is = s.is;
-      works = record {
-        stays = subst (Stays p) (sym s.part) record { number = refl; start = refl; deal = refl; found = refl; guard = refl; permit = refl; sight = refl; told = refl };
-        step = load_made Walk (index table.start.layout (head q)) (link_word l);
-        made = ap (λ (r : Caller). r.made) s.part;
-        kind = refl;
-        expects = λ no. absurd (false≢true no);
-        timed = λ no. absurd (false≢true no);
-        settle = λ _. ap (λ (r : Caller). r.debts.settle) s.part;
-      };
-      kind_is = refl;
-      turns = ap (λ (r : Pass). r.turns) s.same;
-      number = ap (λ (r : Pass). r.number) s.same;
-      free = ap (λ (r : Pass). r.free.items) s.same;
-      debts = ap (λ (r : Pass). r.debts) s.same;
-      own = ap (λ (r : Caller). r.own) s.part;
-      cut = ap (λ (r : Caller). r.cut) s.part;
-      owed = λ d has. ⊎_elim (λ w. inl (was_owed p.found.control (at_head q) p.position.rows l s.event p.debts.cut d w)) (λ w. inr (was_owed p.found.control (at_head q) p.position.rows l s.event p.debts.second_cut d w))
-          (was_left (gone p.debts.cut) (gone p.debts.second_cut) d (subst (λ (r : Caller). HasName (names_of r.debts) d) s.part has));
-    }
+  is = s.is;
+  works = record {
+    stays = subst (Stays p) (sym s.part) record { number = refl; start = refl; deal = refl; found = refl; guard = refl; permit = refl; sight = refl; told = refl };
+    step = load_made Walk (index table.start.layout (head q)) (link_word l);
+    made = ap (λ (r : Caller). r.made) s.part;
+    kind = refl;
+    expects = λ no. absurd (false≢true no);
+    timed = λ no. absurd (false≢true no);
+    settle = λ _. ap (λ (r : Caller). r.debts.settle) s.part;
+  };
+  kind_is = refl;
+  turns = ap (λ (r : Pass). r.turns) s.same;
+  number = ap (λ (r : Pass). r.number) s.same;
+  free = ap (λ (r : Pass). r.free.items) s.same;
+  debts = ap (λ (r : Pass). r.debts) s.same;
+  own = ap (λ (r : Caller). r.own) s.part;
+  cut = ap (λ (r : Caller). r.cut) s.part;
+  owed = λ d has. ⊎_elim (λ w. inl (was_owed p.found.control (at_head q) p.position.rows l s.event p.debts.cut d w)) (λ w. inr (was_owed p.found.control (at_head q) p.position.rows l s.event p.debts.second_cut d w))
+      (was_left (gone p.debts.cut) (gone p.debts.second_cut) d (subst (λ (r : Caller). HasName (names_of r.debts) d) s.part has));
+}
 
 -- and its link is known since
 pub loaded_known : (n : ℕ) (table : Table) (old new : Pass) (q : ℕ) (l : Link) → n ≤ length (caller table old).made → Saw table old new (at_head q) no_take l → last_known (drop n (caller table new).made) (index table.start.layout (head q)) ≡ Some (link_word l)

@@ -6,6 +6,7 @@
 
 mod freeze;
 mod heads;
+mod names;
 mod parts;
 mod prepare;
 mod steps;
@@ -13,4 +14,8 @@ mod steps;
 pub use freeze::{FreezeOp, FreezeState};
 pub use parts::PartEnd;
 pub use prepare::{PrepareOp, PrepareState};
-pub use steps::announce_step;
+pub use steps::{
+    announce_step, bind_step, copy_link_step, discard_step, drop_step, freeze_head_step,
+    freeze_row_step, head_step, owed_twin_step, pop_step, prepare_step, row_step, twin_step,
+    validate_step,
+};
