@@ -495,6 +495,7 @@ module _ (n : ℕ) (table : Table) (x : Control) (op : InsertOp) (old new : Pass
                 (ap (λ (q : Caller). q.own) s.swapped.part ∙ ap (λ j. p.own ++ Put j op.event ∷ []) of.sits.numbered, ap (λ (q : Caller). q.debts.settle) s.swapped.part),
             s.free,
             ap (λ (q : Caller). q.cut) s.swapped.part ∙ i.at.0.none,
+            refl,
           );
         }
 
@@ -519,6 +520,7 @@ module _ (n : ℕ) (table : Table) (x : Control) (op : InsertOp) (old new : Pass
             ),
             s.free,
             ap (λ (q : Caller). q.cut) s.swapped.part ∙ i.at.0.none,
+            refl,
           );
         }
 

@@ -98,6 +98,7 @@ saw table old new cell aim word found l of at bits spells t = let w = t.after.1 
   row = λ some. let named = w.row some in (subst (λ (z : Start). IsRow z.layout w.link.row) of.sits.started named.0, named.1);
   next = w.next;
   marked = w.marked;
+  frozen = w.frozen;
 }
 
 -- the control word that was found is the one that the word spells

@@ -165,7 +165,7 @@ InsertAnswers n table x op op' old new More =
     IsInserting n table x op' (caller table new) × (op' ≡ record op { state = op'.state }) × ((caller table new).own ≡ (caller table old).own) × (new.free.items ≡ old.free.items)
     × ((insert_exchanges op ≡ true) ⊎ (state_left op'.state (caller table new) < state_left op.state (caller table old)))
 InsertAnswers n table x op op' old new (Done Linked) =
-    LinkAnswers op.copy_of x op old (caller table old) (caller table new) × (new.free.items ≡ unhanded op.row old.free.items) × ((caller table new).cut ≡ None)
+    LinkAnswers op.copy_of x op old (caller table old) (caller table new) × (new.free.items ≡ unhanded op.row old.free.items) × ((caller table new).cut ≡ None) × (insert_exchanges op ≡ true)
 InsertAnswers n table x op op' old new (Done Frozen) =
     ((caller table new).own ≡ (caller table old).own) × (new.free.items ≡ old.free.items) × ((caller table new).cut ≡ None) × InsertAsks op.copy_of table x op (caller table new) × MetFrozen table.start.layout op.list (caller table new)
 

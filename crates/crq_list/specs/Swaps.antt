@@ -18,7 +18,7 @@ use Rattle.crq_rule.specs.Kinds.{makes}
 use Rattle.crq_rule.specs.Ranks.{next_list, Cell, cell_place}
 use Rattle.crq_rule.specs.ListKinds.{Aim, walks, links, marks, cuts, unhanded, forgotten, cut_debt}
 use Rattle.crq_rule.specs.CopyKinds.{copy_debt, MayCopy}
-use Rattle.crq_rule.specs.Moves.{WalksOn, IsWalkable}
+use Rattle.crq_rule.specs.Moves.{WalksOn, IsWalkable, IsStillFrozen}
 use Rattle.crq_rows.specs.Passes.{caller, IsPassOf, load_made, step_made, counted}
 
 -- the link l of the cell was found
@@ -31,6 +31,7 @@ pub record Saw (table : Table) (old new : Pass) (cell : Cell) (aim : Aim) (l : L
   pub row : 0 < l.row → IsRow table.start.layout l.row × IsEvent event
   pub next : WalksOn cell l event (caller table old)
   pub marked : IsWalkable cell l (caller table old)
+  pub frozen : IsStillFrozen cell l (caller table old)
 
 abbrev pub where_won : Bool → (Caller → Caller) → Caller → Caller
 where_won won f p = cond won (f p) p

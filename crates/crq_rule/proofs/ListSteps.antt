@@ -1,5 +1,6 @@
 -- What a step function asks of each kind on lists.
 use Rattle.std.proofs.Common.{◌≡◌, ◌≢◌, ◌⊎◌, inl, inr, ℕ, zero, suc, ◌+◌, ◌*◌, ◌^◌, ◌<◌, ◌≤◌, Bool, true, false, List, [], ◌∷◌, ◌++◌, Option, None, Some, cond, get_or, set, eqb, sym, refl, ap, ◌∙◌, subst, arith, eq-eqb, ne_eqb, ⊎_elim}
+use Rattle.std.proofs.lemmas.Option.{same_Some}
 use mathlib.Core.Logic.{dite}
 use native.Mathlib.Decide.{ℕ_discrete}
 use prog.Atomic.{either}
@@ -8,10 +9,11 @@ use Rattle.crq_base.specs.declared.entry.Entry.TheVariants.{Begin as BeginEntry,
 use Rattle.crq_base.specs.declared.kinds.StepKind.{StepKind}
 use Rattle.crq_base.specs.declared.kinds.StepKind.TheVariants.{Write, Walk as WalkKind, Link as LinkKind, ControlLoad, Begin, Mark as MarkKind, Cut as CutKind, Miss}
 use Rattle.crq_base.specs.declared.words.Link.{Link}
-use Rattle.crq_base.specs.declared.words.Mark.TheVariants.{Val, Del}
+use Rattle.crq_base.specs.declared.words.Mark.TheVariants.{Val, Mov, Del}
 use Rattle.crq_base.specs.declared.words.Control.{Control}
 use Rattle.crq_base.specs.Words.{link_word, IsLink}
 use Rattle.crq_rule.specs.declared.layout.Start.{Start}
+use Rattle.crq_rule.specs.declared.view.Help.{Help}
 use Rattle.crq_rule.specs.declared.view.Sight.{Sight}
 use Rattle.crq_rule.specs.declared.view.Stand.{Stand}
 use Rattle.crq_rule.specs.declared.view.Walk.{Walk}
@@ -21,19 +23,20 @@ use Rattle.crq_rule.specs.Core.{Core, caller_of, owed_by}
 use Rattle.crq_rule.specs.Parts.{ground_of, IsOn, Leads, IsGuarded}
 use Rattle.crq_rule.specs.ListParts.{row_word, IsShut, IsPrepared}
 use Rattle.crq_rule.specs.Invariant.{Inv}
-use Rattle.crq_rule.specs.Ranks.{rank, shape_of, list_in, head_of, Cell, at_head, at_row, cell_place, link_at, heads_set, links_set}
+use Rattle.crq_rule.specs.Ranks.{rank, first_head_of, shape_of, list_in, head_of, Cell, at_head, at_row, cell_place, link_at, heads_set, links_set}
 use Rattle.crq_rule.specs.ListKinds.{Aim, is_cell, stands_after, walk_after, taken_on, sweep_on, clean_on, Content, new_link, no_twin, new_time, new_source, new_sequence, new_load, IsContent, content_number, content_word, row_place, wrote, writes, links, event_word, loads_control, control_loaded, begins, marks, cuts, misses, MayWalk, MaySeek, MayLink, MayMark, MayCut, MayMiss, ComesAfter, owed_event, unhanded, forgotten, cut_debt, name_in, without_stand, relieved_names, unnamed_row, FoundFirst}
 use Rattle.crq_rule.specs.Steps.{Kind, write, walk, link as link_kind, link_fails, control_load, begin, mark, mark_fails, cut, cut_fails, miss, May, After, kind_of, place_of}
 use Rattle.crq_rule.specs.Rule.{IsWords}
 use Rattle.crq_rule.specs.Stated.{IsNext}
-use Rattle.crq_rule.specs.Helping.{help_after, helped_by}
-use Rattle.crq_rule.specs.Moves.{MovesBy, By, Walked, WalksOn, IsWalkable, FoundControl, wins, quiet}
+use Rattle.crq_rule.specs.Helping.{help_after, helped_by, IsHelping, old_head}
+use Rattle.crq_rule.specs.Moves.{MovesBy, By, Walked, WalksOn, IsWalkable, IsStillFrozen, FoundControl, wins, quiet}
 use Rattle.crq_base.proofs.WordLaws.{link_one}
 use Rattle.crq_base.specs.Lists.{In}
 use Rattle.crq_rule.proofs.Puts.{put_here}
 use Rattle.crq_rule.proofs.Placing.{shows_set}
 use Rattle.crq_rule.proofs.CoverLaws.{guarded_by, names_covered}
 use Rattle.crq_rule.proofs.GuardSteps.{same_words}
+use Rattle.crq_rule.proofs.HelpLaws.{head_woven}
 use Rattle.crq_rule.proofs.SizeLaws.{fitting_list}
 use Rattle.crq_rule.proofs.SteadyLaws.{open_is, next_is, guarded_out, steady_still, still_mark, moves_so, found_generation, found_open, found_moving, found_told}
 use Rattle.crq_rule.proofs.Lawfuls.{stand_covered}
@@ -151,6 +154,12 @@ module _ (key : Start) (p : Caller) where
   walkable (at_row r) c b inv may = let v : IsGuarded (ground_of c) r = subst (IsGuarded (ground_of c)) may.1.2 (guarded_by j (stand_covered c j may.1.0 b may.1.1 inv)) in
       (row_mark c inv r v c.start.moves refl, λ s i row. subst (λ r. (c.words.link r).generation ≡ s.generation) row (inv.standing.each j s b i).of)
 
+  still_frozen : (cell : Cell) (c : Core) → j < c.start.layout.workers → Inv c → IsStillFrozen cell (link_at c.words.head c.words.link cell) (caller_of c j)
+  still_frozen (at_head q) c b inv = λ x h is helps all opened. let w = inv.helps.finds j h b helps in let helping : IsHelping x h = subst (λ z. IsHelping z h) (same_Some w.0 x (sym w.1 ∙ is)) w.2 in
+      let same = found_moving c inv j x b is helping.moving in let passed = inv.helps.passed j h b helps (helping.same ∙ ap (λ (z : Control). z.generation) same) in let at = head_woven j x.log (first_head_of x.generation) q opened.0 opened.1 in
+      subst (λ z. (c.words.head z).mark ≡ Mov) (ap (λ z. old_head z j at.0) (sym same) ∙ at.2) (passed.frozen at.0 (subst (λ n. at.0 < n) (sym all) at.1))
+  still_frozen (at_row r) c b inv = tt
+
   abbrev walk_now : Core → Cell → Aim → Option Walk
   walk_now c cell aim = walk_after cell aim (c.sight j) (link_at c.words.head c.words.link cell) (c.walk j) (c.rows j)
 
@@ -178,6 +187,7 @@ module _ (key : Start) (p : Caller) where
           row = λ some. let n = named cell c b inv may' some in (n.0, inv.spelled.events l.row n.0);
           next = next_of cell c b inv may';
           marked = walkable cell c b inv may';
+          frozen = still_frozen cell c b inv;
         },
       )
     where

@@ -110,6 +110,11 @@ IsWalkable (at_head q) l p = (x : Control) → p.found.control ≡ Some x → (I
     × (x.moving ≡ true → IsHeadIn (x.generation + 1) (next_of x) q → x.generation < l.generation → (l.mark ≡ Val) × (l.generation ≡ x.generation + 1))
 IsWalkable (at_row r) l p = (((l.mark ≡ Val) ⊎ (l.mark ≡ Del)) ⊎ (p.start.moves ≡ true)) × ((s : Stand) → In s p.position.rows → s.row ≡ r → l.generation ≡ s.generation)
 
+-- a helper that has passed all heads of the table that moves finds each of them frozen
+abbrev pub IsStillFrozen : Cell → Link → Caller → Type 0
+IsStillFrozen (at_head q) l p = (x : Control) (h : Help) → p.found.control ≡ Some x → p.help ≡ Some h → h.frozen ≡ 2 ^ x.log → IsOpen x q → l.mark ≡ Mov
+IsStillFrozen (at_row r) l p = Unit {0}
+
 -- a walk found the link of the cell, and the event of the row that it names
 pub record Walked (cell : Cell) (aim : Aim) (found : ℕ) (p q : Caller) : Type 0 where
   pub link : Link
@@ -120,6 +125,7 @@ pub record Walked (cell : Cell) (aim : Aim) (found : ℕ) (p q : Caller) : Type 
   pub row : 0 < link.row → IsRow p.start.layout link.row × IsEvent event
   pub next : WalksOn cell link event p
   pub marked : IsWalkable cell link p
+  pub frozen : IsStillFrozen cell link p
 
 -- a call began, or missed: the control word was found, which is steady unless the table may move
 pub record FoundControl (f : Control → Caller → Caller) (found : ℕ) (p q : Caller) : Type 0 where
