@@ -4,3 +4,16 @@ pub mod EmptySteps
 pub mod HelperLaws
 pub mod PrepareLaws
 pub mod FreezeLaws
+pub mod EmptyLaws
+pub mod HelpingLaws
+pub mod TwinLaws
+pub mod NameLaws
+pub mod LoadLaws
+pub mod FirstStands
+pub mod RowLaws
+pub mod LeavingLaws
+pub mod OwingLaws
+pub mod CopyingLaws
+pub mod ReadLaws
+pub mod BeginLaws
+pub mod LosingLaws

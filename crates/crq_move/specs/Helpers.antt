@@ -29,6 +29,10 @@ AllPrepared x p = (h : Help) × (p.help ≡ Some h) × (h.prepared ≡ 2 ^ x.new
 abbrev pub AllFrozen : Control → Caller → Type 0
 AllFrozen x p = (h : Help) × (p.help ≡ Some h) × (h.frozen ≡ 2 ^ x.log)
 
+-- and their lists empty
+abbrev pub AllEmptied : Control → Caller → Type 0
+AllEmptied x p = (h : Help) × (p.help ≡ Some h) × (h.emptied ≡ 2 ^ x.log)
+
 -- one step of a part of a move was made, of this kind. What the pass owes at run time stays, and of the dead rows that are to be cut some may turn out not to be owed any more
 pub record PartStepped (n : ℕ) (table : Table) (exchanges : Bool) (kind : StepKind) (old new : Pass) : Type 0 where
   pub is : IsPassOf table new

@@ -2,8 +2,9 @@
 ghost use Rattle.std.specs.Prelude.{◌≡◌, ◌<◌, ◌^◌};
 ghost use Rattle.crq_base.specs.Words.{IsControl};
 ghost use Rattle.crq_rule.specs.Helping.{woven, old_head, new_head};
+ghost use Rattle.crq_rule.specs.Ranks.{next_list};
 
-use crq_base::Control;
+use crq_base::{Control, Event};
 use crq_rule::BANK;
 
 /// The head that the caller with this number passes at this place, of 2^log heads. It goes in blocks of 16 heads, so that
@@ -31,4 +32,12 @@ pub(crate) fn new_head(control: &Control, number: u32, at: u32) -> u32
     ensures { result ≡ new_head control.now number at }
 {
     (control.generation + 1) % 2 * BANK + woven(number, control.new_log, at)
+}
+
+/// The event's list in the new table, as a head numbered over both banks.
+pub(crate) fn next_list(control: &Control, event: &Event) -> u32
+    requires { IsControl control.now }
+    ensures { result ≡ next_list control.now event.now }
+{
+    (control.generation + 1) % 2 * BANK + (event.time >> control.new_shift) % (1 << control.new_log)
 }

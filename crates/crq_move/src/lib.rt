@@ -4,14 +4,19 @@
 //! Any caller may help a move. It opens the heads of the new table, freezes those of the old one, and empties their lists.
 #![tactic(auto)]
 
+mod empty;
 mod freeze;
 mod heads;
+mod help;
 mod names;
 mod parts;
 mod prepare;
+mod reads;
 mod steps;
 
+pub use empty::{MoveOp, MoveState};
 pub use freeze::{FreezeOp, FreezeState};
+pub use help::{HelpOp, HelpPart};
 pub use parts::PartEnd;
 pub use prepare::{PrepareOp, PrepareState};
 pub use steps::{

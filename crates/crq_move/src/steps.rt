@@ -304,14 +304,14 @@ pub fn drop_step(table: &Table, pass: &mut Pass, debt: &CopyDebt, from: Link) ->
         return false;
     }
     pass.debts.copy = None;
-    let name = CutDebt {
+    let lost = CutDebt {
         generation: debt.generation,
         head: debt.head,
         event: debt.event,
         row: debt.copy,
         front: false,
     };
-    name_too(&mut pass.debts, name);
+    name_too(&mut pass.debts, lost);
     true
 }
 
