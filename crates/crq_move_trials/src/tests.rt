@@ -1,0 +1,6 @@
+//! Moves that several callers help.
+
+mod halting;
+mod helping;
+mod moved;
+mod moving;

@@ -1,0 +1,199 @@
+//! Callers that help a move: a table that may move, events that stand in it, and the helpers' steps.
+ghost use Rattle.std.specs.Prelude.{◌≡◌, ◌<◌, ◌+◌, ℕ, true, length, IfOk, IfSome};
+ghost use Rattle.crq_rows.specs.Passes.{IsNew};
+ghost use Rattle.crq_move_trials.specs.Moving.{AreNewPlaces, HasEntered, MayHelp};
+
+use crq_base::{Control, Event, First};
+use crq_current::current_step;
+use crq_list::{InsertEnd, InsertOp, ListAt, Progress, control_step, head_of};
+use crq_move::{HelpOp, PartEnd, announce_step};
+use crq_rows::{Pass, Passes, Seating, Table, confirm_step, enter_step, epoch_step, passes};
+use crq_rule::{Layout, open_table};
+use std::alloc::{AllocError, Global};
+
+/// More steps than one operation makes on any list here.
+const STEPS: u32 = 4096;
+/// The rows of a caller beyond those that a table adds: enough for the copies of all events.
+const ROWS: u32 = 16;
+/// The callers that put no event: one announces the new table, one looks on, and the others help.
+pub(crate) const HELPERS: u32 = 6;
+/// Epochs from which on current's isn't raised any more.
+const LAST_EPOCHS: u32 = u32::MAX - 63;
+
+/// A caller: its help, while that is under way, and its pass.
+pub(crate) type Helper = (Option<HelpOp>, Pass);
+
+/// The event that the caller with this number puts at this time.
+pub(crate) fn event_of(src: u32, time: u32) -> Event
+    ensures { result ≡ record { time = time; src = src; seq = 0; dst = 1; load = time + 1 } }
+{
+    Event {
+        time,
+        src,
+        seq: 0,
+        dst: 1,
+        load: u64::from(time) + 1,
+    }
+}
+
+/// The pass of the last caller that has none yet.
+pub(crate) fn next_pass(table: &Table, places: &mut Vec<Seating>) -> Option<Pass>
+    requires { AreNewPlaces table.now places.old.items }
+    ensures places { AreNewPlaces table.now places.new.items }
+    ensures pass { IfSome result (λ pass. (j : ℕ) × IsNew table.now j pass) }
+{
+    match places.pop() {
+        Some(Seating::Here(pass)) => Some(pass),
+        _ => None,
+    }
+}
+
+/// Turns the guard of a new pass on, and loads the control word and current. It answers the control word, unless no epochs
+/// of current are left.
+pub(crate) fn enter(table: &Table, pass: &mut Pass) -> Option<Control>
+    requires { (j : ℕ) × IsNew table.now j pass.old }
+    ensures { IfSome result (λ control. HasEntered table.now control pass.new) }
+{
+    let epoch = epoch_step(table, pass);
+    enter_step(table, pass, epoch);
+    confirm_step(table, pass);
+    let control = control_step(table, pass);
+    let current = current_step(table, pass, false);
+    if current.epoch < LAST_EPOCHS {
+        Some(control)
+    } else {
+        None
+    }
+}
+
+/// Puts an event of the caller's own source at this time, and says whether it was linked.
+fn put(table: &Table, pass: &mut Pass, control: &Control, time: u32) -> bool
+    requires { HasEntered table.now control.now pass.old }
+{
+    let event = event_of(pass.number, time);
+    let Some(row) = pass.free.front() else {
+        return false;
+    };
+    let list = ListAt {
+        generation: control.generation,
+        head: head_of(control, &event),
+    };
+    let mut op = InsertOp::new(list, *row, event, None);
+    for _ in 0..STEPS {
+        match op.step(table, pass) {
+            Progress::More => {}
+            Progress::Done(end) => return end == InsertEnd::Linked,
+        }
+    }
+    false
+}
+
+/// Puts events at these times, each by a caller of its own, from the last one on. It says whether all were linked.
+fn put_all(table: &Table, places: &mut Vec<Seating>, times: &[u32]) -> bool
+    requires { AreNewPlaces table.now places.old.items }
+    ensures { AreNewPlaces table.now places.new.items }
+{
+    for time in times {
+        let Some(mut pass) = next_pass(table, places) else {
+            return false;
+        };
+        let Some(control) = enter(table, &mut pass) else {
+            return false;
+        };
+        if !put(table, &mut pass, &control, *time) {
+            return false;
+        }
+    }
+    true
+}
+
+/// Announces that the table moves into one of 2^log lists, whose buckets are 2^shift ticks wide, and says whether that was
+/// done.
+fn announce(table: &Table, mut pass: Pass, log: u32, shift: u32) -> bool
+    requires new { (j : ℕ) × IsNew table.now j pass }
+    requires moves { table.now.start.moves ≡ true }
+    requires log { log < 16 }
+    requires shift { shift < 32 }
+{
+    let Some(control) = enter(table, &mut pass) else {
+        return false;
+    };
+    if control.moving || control.generation >= (1 << 30) - 2 {
+        return false;
+    }
+    announce_step(table, &mut pass, &control, log, shift).is_ok()
+}
+
+/// A table in which events stand at these times, and that was announced to move into one of 2^log lists, whose buckets are
+/// 2^shift ticks wide; and the passes of the callers that may help.
+pub(crate) fn announced(
+    alloc: Global,
+    times: &[u32],
+    log: u32,
+    shift: u32,
+) -> Result<Option<(Table, Vec<Seating>)>, AllocError>
+    requires few { length times.now < 11 }
+    requires log { log < 16 }
+    requires shift { shift < 32 }
+    ensures { IfOk result (λ made. IfSome made (λ pair. AreNewPlaces pair.0 pair.1.items)) }
+{
+    let layout = Layout::of(times.len() as u32 + HELPERS, ROWS);
+    let (table, all) = passes(open_table(alloc, &layout, First::of_program(), true)?);
+    let Passes { mut places } = all;
+    if !put_all(&table, &mut places, times) {
+        return Ok(None);
+    }
+    let Some(pass) = next_pass(&table, &mut places) else {
+        return Ok(None);
+    };
+    if announce(&table, pass, log, shift) {
+        Ok(Some((table, places)))
+    } else {
+        Ok(None)
+    }
+}
+
+/// The next caller, at the begin of its help.
+pub(crate) fn helper(table: &Table, places: &mut Vec<Seating>) -> Option<Helper>
+    requires { AreNewPlaces table.now places.old.items }
+    ensures places { AreNewPlaces table.now places.new.items }
+    ensures helper { IfSome result (λ helper. MayHelp table.now helper) }
+{
+    let mut pass = next_pass(table, places)?;
+    let control = enter(table, &mut pass)?;
+    if !control.moving || pass.debts.second_cut.is_some() {
+        return None;
+    }
+    Some((Some(HelpOp::new(&control)), pass))
+}
+
+/// Makes a step of a helper, and answers how its help ended, where it did.
+pub(crate) fn step(table: &Table, helper: &mut Helper) -> Option<PartEnd>
+    requires { MayHelp table.now helper.old }
+    ensures { MayHelp table.now helper.new }
+{
+    let mut op = helper.0?;
+    match op.step(table, &mut helper.1) {
+        Progress::More => {
+            helper.0 = Some(op);
+            None
+        }
+        Progress::Done(end) => {
+            helper.0 = None;
+            Some(end)
+        }
+    }
+}
+
+/// Lets a helper go on to the end of its help, and answers that.
+pub(crate) fn finish(table: &Table, helper: &mut Helper) -> Option<PartEnd>
+    requires { MayHelp table.now helper.old }
+    ensures { MayHelp table.now helper.new }
+{
+    for _ in 0..STEPS {
+        if let Some(end) = step(table, helper) {
+            return Some(end);
+        }
+    }
+    None
+}
