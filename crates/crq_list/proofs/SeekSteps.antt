@@ -23,7 +23,7 @@ use Rattle.crq_rule.specs.Kinds.{makes, loads_epoch, tagged, retires}
 use Rattle.crq_rule.specs.Core.{HasName, names_of}
 use Rattle.crq_rule.specs.Ranks.{rank, Shape, shape_of, next_of, head_in, head_of, list_by, IsTold, IsHeadIn, IsOpen, Cell, at_head, at_row, cell_place}
 use Rattle.crq_rule.specs.ListKinds.{is_cell, StandsOn, no_take, walk_after, MayWalk, MayCut, is_beyond, walks, cuts, event_word, row_place, relieved, unnamed}
-use Rattle.crq_rule.specs.Moves.{Lawful, WalksOn, IsWalkable, IsFrozen}
+use Rattle.crq_rule.specs.Moves.{Lawful, WalksOn, IsHeadOf, IsWalkable}
 use Rattle.crq_rows.specs.Passes.{caller, IsPassOf, Stepped, load_made, store_made, step_made}
 use Rattle.crq_rows.specs.Reading.{stays}
 use Rattle.crq_list.specs.declared.parts.Spot.{Spot}
@@ -253,25 +253,18 @@ module _ (n : ℕ) (table : Table) (x : Control) (sought : Sought) (p : Caller) 
       go true is = is
       go false is = absurd (false≢true (sym ((law.controlled x found).1 is) ∙ moving))
 
-  -- a head of the open table is present or frozen, and of that
-  head_old : (h : ℕ) (l : Link) → IsListOf x sought.list p → IsReached x sought.list sought.target (Head h) p → IsWalkable (at_head h) l p → sought.list.generation ≡ x.generation → ((l.mark ≡ Val) ⊎ IsFrozen l p) × (l.generation ≡ x.generation)
-  head_old h l is reached may now = (may x is.control).0 (subst (IsOpen x) (sym reached) (open_now x sought.list.generation sought.list.head now is.opened))
+  -- what is known of a head of the open table
+  head_old : (h : ℕ) (l : Link) → IsListOf x sought.list p → IsReached x sought.list sought.target (Head h) p → IsWalkable (at_head h) l p → sought.list.generation ≡ x.generation → IsHeadOf x l p
+  head_old h l is reached may now = may.1 x is.control (subst (IsOpen x) (sym reached) (open_now x sought.list.generation sought.list.head now is.opened))
 
-  -- a head of the next table, and of that, is present
-  head_new : (h : ℕ) (l : Link) → IsListOf x sought.list p → IsReached x sought.list sought.target (Head h) p → IsWalkable (at_head h) l p → x.moving ≡ true → sought.list.generation ≡ x.generation + 1 → l.generation ≡ sought.list.generation → l.mark ≡ Val
-  head_new h l is reached may moving next now = ((may x is.control).1 moving (subst (IsHeadIn (x.generation + 1) (next_of x)) (sym reached) (open_next x sought.list.generation sought.list.head next is.opened)) (omega arith)).0
-
-  -- so a head of the list's table isn't dead
-  pub head_alive : (h : ℕ) (l : Link) → IsListOf x sought.list p → IsReached x sought.list sought.target (Head h) p → IsWalkable (at_head h) l p → l.generation ≡ sought.list.generation → l.mark ≡ Del → ⊥
-  head_alive h l is reached may now dead = ⊎_elim
-      (λ (old : sought.list.generation ≡ x.generation). ⊎_elim (λ val. val_del l val dead) (λ (frozen : IsFrozen l p). del_mov l dead frozen.0) (head_old h l is reached may old).0)
-      (λ (new : (x.moving ≡ true) × (sought.list.generation ≡ x.generation + 1)). val_del l (head_new h l is reached may new.0 new.1 now) dead)
-      is.told
+  -- no head is dead
+  pub head_alive : (h : ℕ) (l : Link) → IsWalkable (at_head h) l p → l.mark ≡ Del → ⊥
+  head_alive h l may dead = ⊎_elim (λ val. val_del l val dead) (λ mov. del_mov l dead mov) may.0
 
   -- a spot of the list is frozen only where the table may move
   pub spot_frozen : (spot : Spot) (l : Link) → Lawful p → IsListOf x sought.list p → IsReached x sought.list sought.target spot p → IsWalkable (cell spot) l p → l.mark ≡ Mov → p.start.moves ≡ true
   spot_frozen (Head h) l law is reached may mov = ⊎_elim
-      (λ (old : sought.list.generation ≡ x.generation). ⊎_elim (λ val. absurd (val_mov l val mov)) (λ (frozen : IsFrozen l p). frozen.1) (head_old h l is reached may old).0)
+      (λ (old : sought.list.generation ≡ x.generation). (head_old h l is reached may old).frozen mov)
       (λ (new : (x.moving ≡ true) × (sought.list.generation ≡ x.generation + 1)). moves_so law is.control new.0)
       is.told
   spot_frozen (Row r) l law is reached may mov = ⊎_elim (λ known. absurd (⊎_elim (λ val. val_mov l val mov) (λ dead. del_mov l dead mov) known)) (λ moves. moves) may.0
@@ -281,10 +274,14 @@ module _ (n : ℕ) (table : Table) (x : Control) (sought : Sought) (p : Caller) 
   spot_other (Head h) l law is reached may ne = (
     ap at_head reached,
     ⊎_elim
-        (λ (old : sought.list.generation ≡ x.generation). absurd (ne ((head_old h l is reached may old).1 ∙ sym old)))
+        (λ (old : sought.list.generation ≡ x.generation). by_moves p.start.moves refl old)
         (λ (new : (x.moving ≡ true) × (sought.list.generation ≡ x.generation + 1)). moves_so law is.control new.0)
         is.told,
   )
+    where
+      by_moves : (b : Bool) → p.start.moves ≡ b → sought.list.generation ≡ x.generation → p.start.moves ≡ true
+      by_moves true moves old = moves
+      by_moves false still old = absurd (ne ((head_old h l is reached may old).still still ∙ sym old))
   spot_other (Row r) l law is reached may ne = absurd (ne (row_now r l reached may))
 
   load_low : (spot : Spot) (q : Caller) → left_of spot q * 16 + 12 < seek_left (Load spot) p
@@ -688,7 +685,7 @@ module _ (n : ℕ) (table : Table) (x : Control) (sought : Sought) (old new : Pa
   pub load_dead : (spot : Spot) (l : Link) → IsPassOf table old → Saw table old new (cell spot) no_take l → l.mark ≡ Del → l.generation ≡ sought.list.generation → IsSeeking n table x sought (Load spot) (caller table old)
       → SeekStepped n table x sought (Load spot) (Load (Head sought.list.head)) old new More
   load_dead (Row r) l of saw dead now at = stepped (Load (Row r)) (Load (Head sought.list.head)) (seen n table x sought (caller table old) (Row r) l saw.event) More saw.is saw.same saw.part refl (load_del n table x sought (caller table old) r l saw.event at)
-  load_dead (Head h) l of saw dead now at = absurd (head_alive n table x sought (caller table old) h l at.list_is at.at.1 saw.marked now dead)
+  load_dead (Head h) l of saw dead now at = absurd (head_alive n table x sought (caller table old) h l saw.marked dead)
 
   pub pass_present : (b : Before) (l : Link) (to : SeekState × Progress SeekEnd) → IsPassOf table old → Saw table old new (at_row b.link.row) no_take l → is_cell l.mark ≡ true → to ≡ next_seek (record { spot = Row b.link.row; link = l }) sought.target
       → IsSeeking n table x sought (Passing b) (caller table old) → SeekStepped n table x sought (Passing b) to.0 old new to.1

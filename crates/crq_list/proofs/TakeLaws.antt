@@ -1,5 +1,5 @@
 -- What is known of a take's words, stands and walk after one step more, and what each step that loads a head, a row or a word of its event tells.
-use Rattle.std.proofs.Common.{◌≢◌, ◌≡◌, ⊎_elim, inl, inr, ℕ, ◌+◌, ◌<◌, ◌≤◌, ltb, leb, ◌&&◌, cond, true, false, List, [], ◌∷◌, ◌++◌, length, drop, Option, Some, None, eq-eqb, ne_eqb, sym, refl, ap, ◌∙◌, subst, arith}
+use Rattle.std.proofs.Common.{◌≢◌, ◌≡◌, ◌⊎◌, Bool, ⊎_elim, inl, inr, ℕ, ◌+◌, ◌<◌, ◌≤◌, ltb, leb, ◌&&◌, cond, true, false, List, [], ◌∷◌, ◌++◌, length, drop, Option, Some, None, eq-eqb, ne_eqb, sym, refl, ap, ◌∙◌, subst, arith}
 use Rattle.std.proofs.lemmas.Bool.{cond_both, ltb-true, ltb-false, leb-true, leb-false}
 use mathlib.Core.Logic.{dite}
 use native.Mathlib.Decide.{ℕ_discrete}
@@ -27,7 +27,7 @@ use Rattle.crq_rule.specs.Kinds.{makes}
 use Rattle.crq_rule.specs.Ranks.{rank, bucket, shape_of, first_head_of, head_for, head_of, Cell, at_head, at_row, cell_place}
 use Rattle.crq_rule.specs.ListKinds.{is_cell, StandsOn, MaySeek, EndedWalk, FoundFirst, is_take, is_passed, is_val, stands_after, begins_walk, new_walk, bucket_seen, least_after, walked, walk_after, walks, best_of, swept_head, taken_on, sweep_on, clean_on, row_place, event_word, relieved_names}
 use Rattle.crq_rule.specs.Helping.{helped_by}
-use Rattle.crq_rule.specs.Moves.{Lawful, IsFrozen}
+use Rattle.crq_rule.specs.Moves.{Lawful, IsHeadOf}
 use Rattle.crq_rows.specs.Passes.{caller, load_made, IsPassOf, Stepped}
 use Rattle.crq_rows.specs.Reading.{stays}
 use Rattle.crq_rows.proofs.Knowing.{known_here, known_else}
@@ -208,22 +208,30 @@ far_is p law r e on = rank_at_is p.position.rows r e (λ g k. one_event p law r 
 
 module _ (n : ℕ) (table : Table) (op : TakeOp) (old new : Pass) (cell : Cell) (place : Place) (s : TakeState) (l : Link) (law : Lawful (caller table old)) (saw : Saw table old new cell (take_aim place) l)
     (no : taking_exchanges s ≡ false) (kind : WalkKind ≡ take_kind s) (t : IsTaking n table op.found (take_at (in_place op place) s) (caller table old)) where
-  frozen_stepped : (op' : TakeOp) → IsFrozen l (caller table old) → TakeStepped n table op.found (take_at (in_place op place) s) op' old new (Done Frozen)
-  frozen_stepped op' is = let p = caller table old in let m = load_made WalkKind (index table.start.layout (cell_place cell)) (link_word l) in let w = walk_after cell (take_aim place) p.sight l p.walk p.position.rows in
+  frozen_stepped : (op' : TakeOp) → (l.mark ≡ Mov) ⊎ ((cell ≡ at_head op.head) × (l.generation ≢ op.found.generation)) → (caller table old).start.moves ≡ true → TakeStepped n table op.found (take_at (in_place op place) s) op' old new (Done Frozen)
+  frozen_stepped op' is moves = let p = caller table old in let m = load_made WalkKind (index table.start.layout (cell_place cell)) (link_word l) in let w = walk_after cell (take_aim place) p.sight l p.walk p.position.rows in
       frozen n table (in_place op place) s old new m _ w _ (saw_loads table old new cell place l saw w law t.free refl) no kind t op'
-      (record { before = p.made; step = m; made = refl; kind = refl; link = l; bits = saw.is_link; found = refl; frozen = inl is.0; moves = is.1 })
+      (record { before = p.made; step = m; made = refl; kind = refl; link = l; bits = saw.is_link; found = refl; frozen = ⊎_elim inl (λ other. inr (ap (λ c. index table.start.layout (cell_place c)) other.0, other.1)) is; moves = moves })
 
--- the head isn't present
-pub head_frozen : (n : ℕ) (table : Table) (op op' : TakeOp) (old new : Pass) (l : Link) (place : Place) → Lawful (caller table old) → Saw table old new (at_head op.head) (take_aim place) l → l.mark ≢ Val
+-- the head isn't present, or is of a later table
+pub head_frozen : (n : ℕ) (table : Table) (op op' : TakeOp) (old new : Pass) (l : Link) (place : Place) → Lawful (caller table old) → Saw table old new (at_head op.head) (take_aim place) l → (l.generation ≡ op.found.generation → l.mark ≢ Val)
     → IsTaking n table op.found (take_at (in_place op place) Load) (caller table old) → TakeStepped n table op.found (take_at (in_place op place) Load) op' old new (Done Frozen)
-head_frozen n table op op' old new l place law saw not t = frozen_stepped n table op old new (at_head op.head) place Load l law saw refl refl t op'
-    (⊎_elim (λ val. absurd (not val)) (λ is. is) ((saw.marked op.found t.control).0 t.opened).0)
+head_frozen n table op op' old new l place law saw not t = dite (ℕ_discrete l.generation op.found.generation)
+    (λ same. let mov = ⊎_elim (λ val. absurd (not same val)) (λ is. is) saw.marked.0 in frozen_stepped n table op old new (at_head op.head) place Load l law saw refl refl t op' (inl mov) (of.frozen mov))
+    (λ other. frozen_stepped n table op old new (at_head op.head) place Load l law saw refl refl t op' (inr (refl, other)) (moves_so (caller table old).start.moves refl other))
+  where
+    of : IsHeadOf op.found l (caller table old)
+    of = saw.marked.1 op.found t.control t.opened
+
+    moves_so : (b : Bool) → (caller table old).start.moves ≡ b → l.generation ≢ op.found.generation → (caller table old).start.moves ≡ true
+    moves_so true is other = is
+    moves_so false is other = absurd (other (of.still is))
 
 -- the row is frozen
 pub row_frozen : (n : ℕ) (table : Table) (op op' : TakeOp) (old new : Pass) (l : Link) (r first : ℕ) (place : Place) → Lawful (caller table old) → Saw table old new (at_row r) (take_aim place) l → l.mark ≡ Mov
     → IsTaking n table op.found (take_at (in_place op place) (Walking r first)) (caller table old) → TakeStepped n table op.found (take_at (in_place op place) (Walking r first)) op' old new (Done Frozen)
 row_frozen n table op op' old new l r first place law saw mov t = frozen_stepped n table op old new (at_row r) place (Walking r first) l law saw refl refl t op'
-    (⊎_elim (λ known. absurd (⊎_elim (val_mov l mov) (del_mov l mov) known)) (λ moves. (mov, moves)) saw.marked.0)
+    (inl mov) (⊎_elim (λ known. absurd (⊎_elim (val_mov l mov) (del_mov l mov) known)) (λ moves. moves) saw.marked.0)
   where
     val_mov : (l : Link) → l.mark ≡ Mov → l.mark ≡ Val → ⊥
     val_mov l a b = cc
@@ -234,12 +242,9 @@ row_frozen n table op op' old new l r first place law saw mov t = frozen_stepped
 -- Load: the head is present
 
 module _ (n : ℕ) (table : Table) (op : TakeOp) (old new : Pass) (l : Link) (place : Place) (control : IsControl op.found) (law : Lawful (caller table old)) (saw : Saw table old new (at_head op.head) (take_aim place) l) (val : l.mark ≡ Val)
-    (t : IsTaking n table op.found (take_at (in_place op place) Load) (caller table old)) where
+    (same_table : l.generation ≡ op.found.generation) (t : IsTaking n table op.found (take_at (in_place op place) Load) (caller table old)) where
   abbrev head_made : Made
   head_made = load_made WalkKind (index table.start.layout (cell_place (at_head op.head))) (link_word l)
-
-  same_table : l.generation ≡ op.found.generation
-  same_table = ((saw.marked op.found t.control).0 t.opened).1
 
   first_in : (place : Place) (a : Position) (w : Option Walk) (o : Option Help) → IsFirstIn place n table.start.layout (take_at (in_place op place) (Walking l.row l.row)) (Walking l.row l.row) (makes head_made (moved a w o no_names (caller table old)))
   first_in (Bucket b) a w o = names_first table.start.layout op.found.generation op.head n (caller table old).made l t.counted saw.is_link val same_table

@@ -35,7 +35,8 @@ pub enum MarkEnd {
     Nothing,
     /// The first present row has changed, and nothing was taken.
     Lost,
-    /// A head or row was found frozen, in a table that may move. Nothing was taken, and the pass owes no dead row.
+    /// A head or row was found frozen, or the head was of a later table, where tables may move. Nothing was taken, and the
+    /// pass owes no dead row.
     Frozen,
 }
 
@@ -316,7 +317,7 @@ impl TakeOp {
         }
     }
 
-    /// Loads the head.
+    /// Loads the head. That of a later table of the same bank isn't walked, since the take is to see its own.
     #[inline(always)]
     fn load(self, table: &Table, pass: &mut Pass) -> (TakeOp, Progress<MarkEnd>)
         requires of { IsPassOf table.now pass.old }
@@ -324,6 +325,9 @@ impl TakeOp {
         ensures { MakesStep the_take table.now (take_at self Load, pass.old) (result.0, pass.new) result.1 }
     {
         let link = walk_step(table, pass, Spot::Head(self.head), Some(self.place));
+        if link.generation != self.found.generation {
+            return (self, Progress::Done(MarkEnd::Frozen));
+        }
         match link.mark {
             Mark::Val => self.goes_past(link, link.row),
             _ => (self, Progress::Done(MarkEnd::Frozen)),
@@ -464,6 +468,9 @@ impl TakeOp {
         ensures { MakesStep the_take table.now (take_at self.now Load, pass.old) (take_at self.now result.0, pass.new) result.1 }
     {
         let link = walk_step(table, pass, Spot::Head(self.head), Some(self.place));
+        if link.generation != self.found.generation {
+            return (TakeState::Load, Progress::Done(MarkEnd::Frozen));
+        }
         match link.mark {
             Mark::Val => TakeOp::goes_past_in(link, link.row),
             _ => (TakeState::Load, Progress::Done(MarkEnd::Frozen)),

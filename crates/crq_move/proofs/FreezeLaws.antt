@@ -23,7 +23,7 @@ use Rattle.crq_rows.specs.Passes.{caller, IsPassOf}
 use Rattle.crq_list.specs.declared.parts.Progress.TheVariants.{More, Done}
 use Rattle.crq_list.specs.Known.{last_known}
 use Rattle.crq_list.specs.Swaps.{Saw}
-use Rattle.crq_move.specs.declared.parts.PartEnd.TheVariants.{Done as PartDone}
+use Rattle.crq_move.specs.declared.parts.PartEnd.TheVariants.{Done as PartDone, Passed}
 use Rattle.crq_move.specs.declared.freeze.FreezeState.TheVariants.{Load, Freeze}
 use Rattle.crq_move.specs.declared.freeze.FreezeOp.{FreezeOp}
 use Rattle.crq_move.specs.Steps.{HeadLeft}
@@ -81,12 +81,19 @@ module _ (n : ℕ) (table : Table) (x : Control) (op : FreezeOp) (old new : Pass
             (frozen_more x p.number q l h.frozen op.passed low is.more place mov);
       }
 
+  -- or of a later table
+  pub load_later : (l : Link) → op.state ≡ Load → q ≡ old_head op.control old.number op.passed → Saw table old new (at_head q) no_take l → l.generation ≢ op.control.generation → FreezeStepped n table x op op old new (Done Passed)
+  load_later l state at s other = let part = loaded_part n table old new q l of s in let low = (s.marked.1 x is.helper.control (next_in at)).generation in let same = ap (λ (z : Control). z.generation) is.control in record {
+    step = subst (λ z. PartStepped n table (state_exchanges z) (state_kind z) old new) (sym state) part;
+    answers = record { at = q; link = l; before = (caller table old).made; bits = s.is_link; opened = next_in at; made = ap (λ (c : Caller). c.made) s.part; later = omega arith };
+  }
+
   -- or it is to be frozen
-  pub load_freeze : (l : Link) → op.state ≡ Load → q ≡ old_head op.control old.number op.passed → Saw table old new (at_head q) no_take l → l.mark ≢ Mov → FreezeStepped n table x op (record op { state = Freeze l }) old new More
-  load_freeze l state at s other = let p : Caller = caller table old in let h = is.helper.helps.0 in let helps = is.helper.helps.1 in let part = loaded_part n table old new q l of s in let place = next_is at in
+  pub load_freeze : (l : Link) → op.state ≡ Load → q ≡ old_head op.control old.number op.passed → Saw table old new (at_head q) no_take l → l.generation ≡ op.control.generation → l.mark ≢ Mov → FreezeStepped n table x op (record op { state = Freeze l }) old new More
+  load_freeze l state at s now_is other = let p : Caller = caller table old in let h = is.helper.helps.0 in let helps = is.helper.helps.1 in let part = loaded_part n table old new q l of s in let place = next_is at in
       let low : op.passed ≤ h.frozen = subst (λ (z : Help). op.passed ≤ z.frozen) (same_Some is.frozen.0 h (sym is.frozen.1 ∙ helps)) is.frozen.2 in
       let now = loaded_help table old new x q l h is.helper.control helps s in let h' : Help = passes_head x p.number q l h in let helper = helper_stays x p (caller table new) is.helper part.works.stays (h', now, is.helper.helps.2) in
-      let found = (s.marked x is.helper.control).0 (next_in at) in let val : l.mark ≡ Val = ⊎_elim (λ v. v) (λ f. absurd (other f.0)) found.0 in record {
+      let val : l.mark ≡ Val = ⊎_elim (λ v. v) (λ mov. absurd (other mov)) s.marked.0 in record {
         step = subst (λ z. PartStepped n table (state_exchanges z) (state_kind z) old new) (sym state) part;
         answers = (
           record {
@@ -99,7 +106,7 @@ module _ (n : ℕ) (table : Table) (x : Control) (op : FreezeOp) (old new : Pass
             at = record {
               bits = s.is_link;
               present = val;
-              now = found.1;
+              now = now_is ∙ ap (λ (z : Control). z.generation) is.control;
               known = subst (λ z. last_known (drop n (caller table new).made) (index table.start.layout (head z)) ≡ Some (link_word l)) (place ∙ ap (λ j. old_head x j op.passed) (sym part.works.stays.number)) (loaded_known n table old new q l is.counted s);
             };
           },

@@ -61,8 +61,11 @@ module _ (n : ℕ) (table : Table) (x : Control) (op : HelpOp) (old new : Pass) 
 
   -- A step of a part before it
   module _ (part : HelpPart) (is : op.part ≡ part) (s : PartStepped n table (part_exchanges part) (part_kind part) old new) where
+    part_answers : (op' : HelpOp) (answer : Progress PartEnd) → HelpAnswers n table x (at_part op part) op' old new answer → HelpStepped n table x op op' old new answer
+    part_answers op' answer a = at_its_part part op' answer is record { is = s.is; works = s.works; kind_is = s.kind_is; turns = s.turns; number = s.number; settle = ap (λ d. d.settle) s.debts; own = s.own; answers = a }
+
     part_stepped : (op' : HelpOp) → HelpAnswers n table x (at_part op part) op' old new More → HelpStepped n table x op op' old new More
-    part_stepped op' a = at_its_part part op' More is record { is = s.is; works = s.works; kind_is = s.kind_is; turns = s.turns; number = s.number; settle = ap (λ d. d.settle) s.debts; own = s.own; answers = a }
+    part_stepped op' a = part_answers op' More a
 
     -- the caller still has no row that it cut, and owes no copy
     free_on : IsPassOf table old → IsFree (caller table old) → IsFree (caller table new)
@@ -105,11 +108,13 @@ module _ (n : ℕ) (table : Table) (x : Control) (op : HelpOp) (old new : Pass) 
       freeze_goes s = let a = s.answers in part_stepped (Freeze e) is s.step (at_part op (Freeze e'))
           (record { control = i.control; at = (a.0, free_on (Freeze e) is s.step of at_freeze.1) }, freeze_room s.step, ⊎_elim inl (λ low. inr (omega arith)) a.1)
 
+      -- or the move is over
+      pub freeze_passed : FreezeStepped n table x e e' old new (Done Passed) → HelpStepped n table x op op old new (Done Passed)
+      freeze_passed s = part_answers (Freeze e) is s.step op (Done Passed) (free_on (Freeze e) is s.step of at_freeze.1, s.answers)
+
       -- or the emptying begins
-      pub freeze_ends : (end : PartEnd) → FreezeStepped n table x e e' old new (Done end) → HelpStepped n table x op (at_part op (Empty (record { control = op.control; passed = 0; state = EmptyLoad }))) old new More
-      freeze_ends NeedRow s = absurd s.answers
-      freeze_ends Passed s = absurd s.answers
-      freeze_ends PartDone s = let a = s.answers in let known = at_freeze in
+      pub freeze_ends : FreezeStepped n table x e e' old new (Done PartDone) → HelpStepped n table x op (at_part op (Empty (record { control = op.control; passed = 0; state = EmptyLoad }))) old new More
+      freeze_ends s = let a = s.answers in let known = at_freeze in
           let counted = counted_on n (freeze_exchanges e) (caller table old) (caller table new) s.step.works known.0.counted in let low = banked x.log a.0.is_control.log in
           part_stepped (Freeze e) is s.step (at_part op (Empty (record { control = op.control; passed = 0; state = EmptyLoad }))) (subst
           (λ (z : Control). HelpAnswers n table x (at_part op (Freeze e)) (at_part op (Empty (record { control = z; passed = 0; state = EmptyLoad }))) old new More) (sym i.control)

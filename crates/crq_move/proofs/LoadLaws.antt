@@ -36,6 +36,7 @@ use Rattle.crq_move.specs.declared.parts.PartEnd.TheVariants.{Done as PartDone, 
 use Rattle.crq_move.specs.declared.empty.MoveState.TheVariants.{Load, First}
 use Rattle.crq_move.specs.declared.empty.MoveOp.{MoveOp}
 use Rattle.crq_move.specs.Names.{unfronted_names}
+use Rattle.crq_move.specs.Helpers.{FoundLater}
 use Rattle.crq_move.specs.Emptying.{IsAt, IsFree, IsEmptying, HasPassed, state_exchanges, state_kind, state_rank, empty_left, EmptyAnswers, EmptyStepped}
 use Rattle.crq_move.proofs.Orders.{head_low, old_in}
 use Rattle.crq_move.proofs.HelperLaws.{help_fits, passed_stays, loaded_known, loaded_help}
@@ -84,8 +85,20 @@ module _ (n : ℕ) (table : Table) (x : Control) (op : MoveOp) (old : Pass) (q :
   pub next_low : IsHead q
   next_low = head_low x.generation (shape_of x) q is.helper.is_control.log next_in
 
+  -- that head was loaded, and was of a later table
+  pub load_later : (new : Pass) (l : Link) → op.state ≡ Load → Saw table old new (at_head q) no_take l → l.generation ≢ op.control.generation → EmptyStepped n table x op op old new (Done Passed)
+  load_later new l state s other = let p : Caller = caller table old in let made : Made = load_made WalkKind (index table.start.layout (head q)) (link_word l) in
+      let free_old : IsFree p = subst (λ z. IsAt n table x op.passed z p) state is.at in
+      let free : IsFree (caller table new) = (ap (λ (c : Caller). c.cut) s.part ∙ free_old.0, ap (λ (c : Caller). c.debts.copy) s.part ∙ free_old.1) in
+      let low = (s.marked.1 x is.helper.control next_in).generation in let same = ap (λ (z : Control). z.generation) is.control in
+      let later : FoundLater table x (caller table new) = record { at = q; link = l; before = p.made; bits = s.is_link; opened = next_in; made = ap (λ (c : Caller). c.made) s.part; later = omega arith } in
+      empty_stepped n table x op old new is s.is made (walks (at_head q) no_take l s.event p) s.part (walk_aside q l s.event p) op (Done Passed) (sym (ap state_kind state)) (sym (ap state_exchanges state)) refl
+      (λ yes. absurd (false≢true (sym (ap state_exchanges state) ∙ yes)))
+      (subst (λ b. new.turns ≡ turns_after b old.turns) (sym (ap state_exchanges state)) (ap (λ (m : Pass). m.turns) s.same)) (ap (λ (m : Pass). m.number) s.same) (ap (λ (m : Pass). m.debts.settle) s.same)
+      (free, subst (λ z. HasPassed table x z new) (sym state) (inl later))
+
   -- that head was loaded, and other fronts of it left out of what the pass names at run time
-  module _ (mid : Pass) (debts : Debts) (l : Link) (state : op.state ≡ Load) (s : Saw table old mid (at_head q) no_take l) (names : debts ≡ renamed mid.debts (unfronted_names q l.row (names_of mid.debts))) where
+  module _ (mid : Pass) (debts : Debts) (l : Link) (state : op.state ≡ Load) (s : Saw table old mid (at_head q) no_take l) (now : l.generation ≡ op.control.generation) (names : debts ≡ renamed mid.debts (unfronted_names q l.row (names_of mid.debts))) where
     abbrev new : Pass
     new = record mid { debts = debts }
 
@@ -101,9 +114,12 @@ module _ (n : ℕ) (table : Table) (x : Control) (op : MoveOp) (old : Pass) (q :
     aside : Aside p walked
     aside = walk_aside q l s.event p
 
+    now_is : l.generation ≡ x.generation
+    now_is = now ∙ ap (λ (z : Control). z.generation) is.control
+
     -- the head is frozen, as all are
     mov : l.mark ≡ Mov
-    mov = s.frozen x is.frozen.0 is.helper.control is.frozen.1 is.frozen.2 next_in
+    mov = s.frozen x is.frozen.0 is.helper.control is.frozen.1 is.frozen.2 next_in now_is
 
     named : debts ≡ renamed old.debts (unfronted_names q l.row (names_of old.debts))
     named = names ∙ ap (λ (m : Pass). renamed m.debts (unfronted_names q l.row (names_of m.debts))) s.same
@@ -126,7 +142,7 @@ module _ (n : ℕ) (table : Table) (x : Control) (op : MoveOp) (old : Pass) (q :
 
     -- where there still is a second name, the emptying is given up
     pub load_over : (d : CutDebt) → debts.second_cut ≡ Some d → EmptyStepped n table x op op old new (Done Passed)
-    load_over d is_two = stepped op (Done Passed) (free, subst (λ z. HasPassed table z new) (sym state) (d, is_two))
+    load_over d is_two = stepped op (Done Passed) (free, subst (λ z. HasPassed table x z new) (sym state) (inr (d, is_two)))
 
     -- the list is empty, and its head passed
     pub load_passed : l.row ≡ 0 → debts.second_cut ≡ None → EmptyStepped n table x op (record op { passed = op.passed + 1; state = Load }) old new (cond (op.passed + 1 == 2 ^ op.control.log) (Done PartDone) More)
@@ -160,7 +176,7 @@ module _ (n : ℕ) (table : Table) (x : Control) (op : MoveOp) (old : Pass) (q :
           record {
             on = ap (λ (c : Caller). stand_on l.row c.position.rows) s.part ∙ front_stand q p.sight p.walk l s.event p.position.rows some;
             front = ap (λ m. cond (is_mov m) (Some q) None) mov ∙ ap (λ z. Some z) (next_is ∙ ap (λ j. old_head x j op.passed) (sym (ap (λ (c : Caller). c.number) s.part)));
-            now = ((s.marked x is.helper.control).0 next_in).1;
+            now = now_is;
           },
         ),
       ),

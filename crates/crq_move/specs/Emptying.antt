@@ -40,7 +40,7 @@ use Rattle.crq_move.specs.declared.parts.PartEnd.TheVariants.{Done as PartDone, 
 use Rattle.crq_move.specs.declared.empty.MoveState.{MoveState}
 use Rattle.crq_move.specs.declared.empty.MoveState.TheVariants.{Load, First, Freeze, Front, Discard, Twin, Read, Copy, Owed, Bind, CopyLink, Drop, Cut, TwinLink, Validate, Pop, Tag, Retire}
 use Rattle.crq_move.specs.declared.empty.MoveOp.{MoveOp}
-use Rattle.crq_move.specs.Helpers.{IsHelper, AllPrepared, AllFrozen, AllEmptied}
+use Rattle.crq_move.specs.Helpers.{IsHelper, AllPrepared, AllFrozen, AllEmptied, FoundLater}
 use Rattle.crq_move.specs.Reads.{IsRead, unread}
 
 -- What is known of words and rows
@@ -259,19 +259,19 @@ abbrev pub NeedsRow : MoveState → Pass → Type 0
 NeedsRow (Read row last read place) new = new.free.items ≡ []
 NeedsRow _ new = ⊥
 
--- why the emptying is given up: the list of the new table was found frozen, into which a copy was to go or out of which a lost one was to be cut; or the pass still names two dead rows where a head was loaded
-abbrev pub HasPassed : Table → MoveState → Pass → Type 0
-HasPassed table (Copy op) new = MetFrozen table.start.layout op.list (caller table new)
-HasPassed table (Cut op) new = MetFrozen table.start.layout op.sought.list (caller table new)
-HasPassed table Load new = (d : CutDebt) × (new.debts.second_cut ≡ Some d)
-HasPassed table _ new = ⊥
+-- why the emptying is given up: the list of the new table was found frozen, into which a copy was to go or out of which a lost one was to be cut; or a head was loaded, and found of a later table, or the pass still names two dead rows
+abbrev pub HasPassed : Table → Control → MoveState → Pass → Type 0
+HasPassed table x (Copy op) new = MetFrozen table.start.layout op.list (caller table new)
+HasPassed table x (Cut op) new = MetFrozen table.start.layout op.sought.list (caller table new)
+HasPassed table x Load new = FoundLater table x (caller table new) ⊎ ((d : CutDebt) × (new.debts.second_cut ≡ Some d))
+HasPassed table x _ new = ⊥
 
 -- In the end all heads were found frozen and empty, and the pass names no second dead row. Where the pass has no free row for a copy, the emptying may go on once it has one
 abbrev pub EmptyAnswers : ℕ → Table → Control → MoveOp → MoveOp → Pass → Pass → Progress PartEnd → Type 0
 EmptyAnswers n table x op op' old new More = IsEmptying n table x op' (caller table new) × NamesAt op'.state new.debts × ((empty_exchanges op ≡ true) ⊎ (empty_left op' (caller table new) < empty_left op (caller table old)))
 EmptyAnswers n table x op op' old new (Done PartDone) = IsHelper x (caller table new) × AllPrepared x (caller table new) × AllFrozen x (caller table new) × AllEmptied x (caller table new) × IsFree (caller table new) × (new.debts.second_cut ≡ None)
 EmptyAnswers n table x op op' old new (Done NeedRow) = IsEmptying n table x op' (caller table new) × (op'.state ≡ Load) × (new.debts.second_cut ≡ None) × NeedsRow op.state new
-EmptyAnswers n table x op op' old new (Done Passed) = IsFree (caller table new) × HasPassed table op.state new
+EmptyAnswers n table x op op' old new (Done Passed) = IsFree (caller table new) × HasPassed table x op.state new
 
 -- one step of it was made. The event that the pass owes stays
 pub record EmptyStepped (n : ℕ) (table : Table) (x : Control) (op op' : MoveOp) (old new : Pass) (answer : Progress PartEnd) : Type 0 where

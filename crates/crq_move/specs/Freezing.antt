@@ -22,7 +22,7 @@ use Rattle.crq_move.specs.declared.parts.PartEnd.TheVariants.{Done as PartDone, 
 use Rattle.crq_move.specs.declared.freeze.FreezeState.{FreezeState}
 use Rattle.crq_move.specs.declared.freeze.FreezeState.TheVariants.{Load, Freeze}
 use Rattle.crq_move.specs.declared.freeze.FreezeOp.{FreezeOp}
-use Rattle.crq_move.specs.Helpers.{IsHelper, AllPrepared, AllFrozen, PartStepped}
+use Rattle.crq_move.specs.Helpers.{IsHelper, AllPrepared, AllFrozen, FoundLater, PartStepped}
 
 -- the next head, where it is to be frozen: it was last known to have this link, which is present in the table that moves
 pub record IsFreezingHead (n : ℕ) (table : Table) (x : Control) (passed : ℕ) (l : Link) (p : Caller) : Type 0 where
@@ -67,12 +67,12 @@ state_left (Freeze l) = 0
 abbrev pub freeze_left : FreezeOp → ℕ
 freeze_left op = 2 * (2 ^ op.control.log - op.passed) + state_left op.state
 
--- in the end all heads were found frozen; it ends in no other way
+-- in the end all heads were found frozen; or one was found of a later table
 abbrev pub FreezeAnswers : ℕ → Table → Control → FreezeOp → FreezeOp → Caller → Progress PartEnd → Type 0
 FreezeAnswers n table x op op' q More = IsFreezing n table x op' q × ((freeze_exchanges op ≡ true) ⊎ (freeze_left op' < freeze_left op))
 FreezeAnswers n table x op op' q (Done PartDone) = IsHelper x q × AllPrepared x q × AllFrozen x q
 FreezeAnswers n table x op op' q (Done NeedRow) = ⊥
-FreezeAnswers n table x op op' q (Done Passed) = ⊥
+FreezeAnswers n table x op op' q (Done Passed) = FoundLater table x q
 
 -- one step of it was made
 pub record FreezeStepped (n : ℕ) (table : Table) (x : Control) (op op' : FreezeOp) (old new : Pass) (answer : Progress PartEnd) : Type 0 where

@@ -1,16 +1,21 @@
 -- What a caller knows that helps a move, and what each step of a part of it tells.
-use Rattle.std.specs.Prelude.{◌≡◌, ℕ, ◌^◌, Bool, true, Some}
+use Rattle.std.specs.Prelude.{◌≡◌, ℕ, ◌^◌, ◌<◌, Bool, true, List, [], ◌∷◌, ◌++◌, Some}
 use Rattle.crq_base.specs.declared.kinds.StepKind.{StepKind}
+use Rattle.crq_base.specs.declared.kinds.StepKind.TheVariants.{Walk}
+use Rattle.crq_base.specs.declared.words.Link.{Link}
 use Rattle.crq_base.specs.declared.words.Control.{Control}
-use Rattle.crq_base.specs.Words.{IsControl}
+use Rattle.crq_base.specs.Words.{IsLink, IsControl, link_word}
 use Rattle.crq_rule.specs.declared.debts.CutDebt.{CutDebt}
 use Rattle.crq_rule.specs.declared.pass.Pass.{Pass}
 use Rattle.crq_rule.specs.declared.pass.Table.{Table}
 use Rattle.crq_rule.specs.declared.view.Help.{Help}
+use Rattle.crq_rule.specs.declared.view.Made.{Made}
 use Rattle.crq_rule.specs.declared.view.Caller.{Caller}
 use Rattle.crq_rule.specs.Core.{HasName, names_of}
 use Rattle.crq_rule.specs.Parts.{IsOn}
-use Rattle.crq_rows.specs.Passes.{caller, IsPassOf}
+use Rattle.crq_rule.specs.Places.{index, head}
+use Rattle.crq_rule.specs.Ranks.{IsOpen}
+use Rattle.crq_rows.specs.Passes.{caller, IsPassOf, load_made}
 use Rattle.crq_list.specs.Known.{Works, turns_after}
 
 -- under its guard, the caller helps the move that the control word x tells, and found that word. The new table has a generation
@@ -32,6 +37,16 @@ AllFrozen x p = (h : Help) × (p.help ≡ Some h) × (h.frozen ≡ 2 ^ x.log)
 -- and their lists empty
 abbrev pub AllEmptied : Control → Caller → Type 0
 AllEmptied x p = (h : Help) × (p.help ≡ Some h) × (h.emptied ≡ 2 ^ x.log)
+
+-- the last step loaded a head of the table that moved, and found it of a later table: the move is over
+pub record FoundLater (table : Table) (x : Control) (p : Caller) : Type 0 where
+  pub at : ℕ
+  pub link : Link
+  pub before : List Made
+  pub bits : IsLink link
+  pub opened : IsOpen x at
+  pub made : p.made ≡ before ++ load_made Walk (index table.start.layout (head at)) (link_word link) ∷ []
+  pub later : x.generation < link.generation
 
 -- one step of a part of a move was made, of this kind. What the pass owes at run time stays, and of the dead rows that are to be cut some may turn out not to be owed any more
 pub record PartStepped (n : ℕ) (table : Table) (exchanges : Bool) (kind : StepKind) (old new : Pass) : Type 0 where

@@ -17,7 +17,7 @@ use Rattle.crq_move.specs.declared.empty.MoveState.TheVariants.{Load}
 use Rattle.crq_move.specs.declared.help.HelpPart.{HelpPart}
 use Rattle.crq_move.specs.declared.help.HelpPart.TheVariants.{Prepare, Freeze, Empty}
 use Rattle.crq_move.specs.declared.help.HelpOp.{HelpOp}
-use Rattle.crq_move.specs.Helpers.{IsHelper, AllPrepared, AllFrozen, AllEmptied}
+use Rattle.crq_move.specs.Helpers.{IsHelper, AllPrepared, AllFrozen, AllEmptied, FoundLater}
 use Rattle.crq_move.specs.Preparing.{IsPreparing, prepare_exchanges, prepare_kind, prepare_left}
 use Rattle.crq_move.specs.Freezing.{IsFreezing, freeze_exchanges, freeze_kind, freeze_left}
 use Rattle.crq_move.specs.Emptying.{IsEmptying, IsFree, NamesAt, NeedsRow, HasPassed, empty_exchanges, empty_kind, empty_left}
@@ -64,23 +64,23 @@ part_left (Empty op) p = empty_left op p
 abbrev pub help_left : HelpOp → Caller → ℕ
 help_left op p = part_left op.part p
 
--- where the pass has no free row, and why the help is given up: as in an emptying, and in no other part
+-- where the pass has no free row, which comes in an emptying alone; and why the help is given up: as in a freezing or an emptying
 abbrev pub PartNeedsRow : HelpPart → Pass → Type 0
 PartNeedsRow (Prepare op) new = ⊥
 PartNeedsRow (Freeze op) new = ⊥
 PartNeedsRow (Empty op) new = NeedsRow op.state new
 
-abbrev pub PartPassed : Table → HelpPart → Pass → Type 0
-PartPassed table (Prepare op) new = ⊥
-PartPassed table (Freeze op) new = ⊥
-PartPassed table (Empty op) new = HasPassed table op.state new
+abbrev pub PartPassed : Table → Control → HelpPart → Pass → Type 0
+PartPassed table x (Prepare op) new = ⊥
+PartPassed table x (Freeze op) new = FoundLater table x (caller table new)
+PartPassed table x (Empty op) new = HasPassed table x op.state new
 
 -- In the end all heads were found frozen and empty, and the pass names no second dead row. Where the pass has no free row for a copy, the help may go on once it has one
 abbrev pub HelpAnswers : ℕ → Table → Control → HelpOp → HelpOp → Pass → Pass → Progress PartEnd → Type 0
 HelpAnswers n table x op op' old new More = IsHelping n table x op' (caller table new) × RoomAt op'.part new.debts × ((help_exchanges op ≡ true) ⊎ (help_left op' (caller table new) < help_left op (caller table old)))
 HelpAnswers n table x op op' old new (Done PartDone) = IsHelper x (caller table new) × AllPrepared x (caller table new) × AllFrozen x (caller table new) × AllEmptied x (caller table new) × IsFree (caller table new) × (new.debts.second_cut ≡ None)
 HelpAnswers n table x op op' old new (Done NeedRow) = IsHelping n table x op' (caller table new) × RoomAt op'.part new.debts × PartNeedsRow op.part new
-HelpAnswers n table x op op' old new (Done Passed) = IsFree (caller table new) × PartPassed table op.part new
+HelpAnswers n table x op op' old new (Done Passed) = IsFree (caller table new) × PartPassed table x op.part new
 
 -- one step of it was made. The event that the pass owes stays
 pub record HelpStepped (n : ℕ) (table : Table) (x : Control) (op op' : HelpOp) (old new : Pass) (answer : Progress PartEnd) : Type 0 where

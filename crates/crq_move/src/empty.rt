@@ -132,7 +132,7 @@ impl MoveOp {
         }
     }
 
-    /// Loads the link of the next head. It is passed where its list is empty.
+    /// Loads the link of the next head. It is passed where its list is empty. Where it is of a later table, the move is over.
     fn load(&mut self, table: &Table, pass: &mut Pass) -> Progress<PartEnd>
         requires of { IsPassOf table.now pass.old }
         requires op { IsUnderWay the_emptying table.now (self.old, pass.old) }
@@ -141,6 +141,9 @@ impl MoveOp {
     {
         let head = old_head(&self.control, pass.number, self.passed);
         let link = head_step(table, pass, head);
+        if link.generation != self.control.generation {
+            return Progress::Done(PartEnd::Passed);
+        }
         forget_front(&mut pass.debts, head, link.row);
         if pass.debts.second_cut.is_some() {
             return Progress::Done(PartEnd::Passed);

@@ -24,7 +24,7 @@ pub enum FreezeState {
 }
 
 /// Freezes the heads of the table that moves, one atomic step at a time. Those that another helper froze are passed. It
-/// begins once all heads of the new table were passed.
+/// begins once all heads of the new table were passed, and is given up where a head is of a later table.
 #[derive(Clone, Copy, Debug, PartialEq, Eq)]
 pub struct FreezeOp {
     /// The control word of the move.
@@ -70,7 +70,7 @@ impl FreezeOp {
         }
     }
 
-    /// Loads the link of the next head. It is passed where it is frozen already.
+    /// Loads the link of the next head. It is passed where it is frozen already. Where it is of a later table, the move is over.
     fn load(&mut self, table: &Table, pass: &mut Pass) -> Progress<PartEnd>
         requires of { IsPassOf table.now pass.old }
         requires op { IsUnderWay the_freezing table.now (self.old, pass.old) }
@@ -79,6 +79,9 @@ impl FreezeOp {
     {
         let head = old_head(&self.control, pass.number, self.passed);
         let link = head_step(table, pass, head);
+        if link.generation != self.control.generation {
+            return Progress::Done(PartEnd::Passed);
+        }
         match link.mark {
             Mark::Mov => self.pass_head(),
             _ => {

@@ -73,7 +73,7 @@ impl HelpOp {
         Progress::More
     }
 
-    /// Makes a step of the freezing. The emptying follows on it.
+    /// Makes a step of the freezing. The emptying follows on it, unless the move is over.
     fn freeze(&mut self, table: &Table, pass: &mut Pass, freezing: FreezeOp) -> Progress<PartEnd>
         requires of { IsPassOf table.now pass.old }
         requires op { IsUnderWay the_help table.now (self.old, pass.old) }
@@ -84,7 +84,11 @@ impl HelpOp {
         let mut op = freezing;
         match op.step(table, pass) {
             Progress::More => self.part = HelpPart::Freeze(op),
-            Progress::Done(_) => self.part = HelpPart::Empty(MoveOp::new(&self.control)),
+            Progress::Done(PartEnd::Done) => {
+                self.part = HelpPart::Empty(MoveOp::new(&self.control));
+            }
+            Progress::Done(PartEnd::NeedRow) => unreachable!(),
+            Progress::Done(PartEnd::Passed) => return Progress::Done(PartEnd::Passed),
         }
         Progress::More
     }

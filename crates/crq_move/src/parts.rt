@@ -7,6 +7,7 @@ pub enum PartEnd {
     Done,
     /// The copy of an event wants a row, and the pass has none free. Only the emptying of lists ends so.
     NeedRow,
-    /// Control was found to have moved on: the move is over.
+    /// A head of the table that moved was found of a later table, a list of the new one was found frozen, or two dead rows
+    /// are still owed: control has to be loaded again.
     Passed,
 }

@@ -52,6 +52,8 @@ lawful_spanned n p l = record {
   permitted = l.permitted;
   controlled = l.controlled;
   helping = l.helping;
+  loaded = l.loaded;
+  pinned = l.pinned;
 }
 
 spanned_rests : (table : Table) (history : List Entry) (span k : ℕ) (p : Caller) (rest : Rest) → Rests table history k p rest → Rests table history k (spanned_part span p) rest

@@ -118,6 +118,8 @@ lawful_settled h p l = record {
   permitted = l.permitted;
   controlled = l.controlled;
   helping = l.helping;
+  loaded = l.loaded;
+  pinned = l.pinned;
 }
 
 settled_rests : (table : Table) (history h : List Entry) (k : ℕ) (pass : Pass) → h ≡ history → pass.number ≡ k → MayGather table pass → Rests table history k (settled_part h (caller table pass)) (rest_of pass)

@@ -96,6 +96,8 @@ lawful_made m q l = record {
   sighted = l.sighted;
   controlled = l.controlled;
   helping = l.helping;
+  loaded = l.loaded;
+  pinned = l.pinned;
   permitted = l.permitted;
 }
 

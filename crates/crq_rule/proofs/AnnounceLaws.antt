@@ -1,5 +1,5 @@
 -- A move that is announced keeps the invariant.
-use Rattle.std.proofs.Common.{◌≡◌, ◌≢◌, ⊎_elim, inl, inr, true, false, Bool, ℕ, ◌+◌, ◌-◌, ◌^◌, ◌<◌, ◌≤◌, List, [], ◌∷◌, ◌++◌, Option, Some, None, sym, refl, ap, ◌∙◌, subst, arith}
+use Rattle.std.proofs.Common.{◌≡◌, ◌≢◌, ⊎_elim, inl, inr, true, false, Bool, ℕ, ◌+◌, ◌-◌, ◌^◌, ◌<◌, ◌≤◌, List, [], ◌∷◌, ◌++◌, Option, Some, None, sym, refl, ap, ◌∙◌, subst, le_refl, arith}
 use Rattle.std.proofs.lemmas.Bool.{false≢true}
 use Rattle.std.specs.List.{Contains}
 use Rattle.crq_base.specs.declared.event.Event.{Event}
@@ -9,6 +9,7 @@ use Rattle.crq_base.specs.declared.words.Link.{Link}
 use Rattle.crq_base.specs.declared.words.Mark.TheVariants.{Val, Mov}
 use Rattle.crq_base.specs.declared.words.Control.{Control}
 use Rattle.crq_base.specs.declared.words.Current.{Current}
+use Rattle.crq_base.specs.declared.words.Pin.{Pin}
 use Rattle.crq_base.specs.Histories.{is_table, is_raising}
 use Rattle.crq_base.specs.Words.{flag_number, IsControl}
 use Rattle.crq_base.specs.Lists.{In}
@@ -27,12 +28,13 @@ use Rattle.crq_rule.specs.ListParts.{Sizes, Dues, IsOldMark, IsOldHead, IsNewHea
 use Rattle.crq_rule.specs.Bounds.{Bounds}
 use Rattle.crq_rule.specs.MoveKinds.{moving_to, table_announced, MayAnnounce}
 use Rattle.crq_rule.specs.Copies.{Bare}
-use Rattle.crq_rule.specs.Invariant.{present_of, takes_of, Inv}
+use Rattle.crq_rule.specs.Ending.{IsSealed, Ends}
+use Rattle.crq_rule.specs.Invariant.{present_of, takes_of, ending_of, Inv}
 use Rattle.crq_rule.proofs.SteadyLaws.{steady_moves}
 use Rattle.crq_rule.proofs.CopyLaws.{unlinked_grown}
 use Rattle.crq_rule.proofs.Puts.{put_here, put_else, put_all}
 use Rattle.crq_rule.proofs.HistoryLaws.{told_other, settling_more}
-use Rattle.crq_rule.proofs.BoundLaws.{permits_drop, count_more, numbers_grown}
+use Rattle.crq_rule.proofs.BoundLaws.{permits_drop, coming_low, coming_steady, count_more, numbers_grown}
 use Rattle.crq_rule.proofs.WalkerLaws.{silent, walkers_grown}
 use Rattle.crq_rule.proofs.AheadLaws.{ahead_grown}
 use Rattle.crq_rule.proofs.ScarceLaws.{scarce_grown, refusals_grown}
@@ -183,13 +185,13 @@ module _ (x : Control) (log shift : ℕ) (shape : ℕ → Shape) (steady : x.mov
   }
 
   -- one permit less, and one rise of the epoch more that is still to come, and that stands in the history
-  bounds_announced : (start : Start) (current : Current) (history : List Entry) (settling : ℕ → Option SettleDebt) (permit : ℕ → Bool) (j : ℕ) → j < start.layout.workers → permit j ≡ true → settling j ≡ None → x.generation < 2 ^ 30 - 2
-      → Bounds start x current history settling permit → Bounds start moves current (history ++ Table j log shift ∷ []) settling (put permit j false)
-  bounds_announced start current history settling permit j b has none room old = record {
+  bounds_announced : (start : Start) (current : Current) (pin : Pin) (history : List Entry) (settling : ℕ → Option SettleDebt) (permit : ℕ → Bool) (j : ℕ) → j < start.layout.workers → permit j ≡ true → settling j ≡ None → x.generation < 2 ^ 30 - 2
+      → Bounds start x current pin history settling permit → Bounds start moves current pin (history ++ Table j log shift ∷ []) settling (put permit j false)
+  bounds_announced start current pin history settling permit j b has none room old = record {
     tables = omega arith;
     opened = (let was = old.opened in let is = newest_before in let parts = count_more is_table history (Table j log shift ∷ []) in omega arith);
-    left = (let low = old.left in let still = ap flag_number steady in let one = permits_drop permit j start.layout.workers b has in omega arith);
-    entries = (let low = old.entries in let still = ap flag_number steady in let parts = count_more is_raising history (Table j log shift ∷ []) in omega arith);
+    left = (let low = old.left in let still = coming_steady x current pin steady in let few = coming_low moves current pin in let one = permits_drop permit j start.layout.workers b has in omega arith);
+    entries = (let low = old.entries in let still = coming_steady x current pin steady in let few = coming_low moves current pin in let parts = count_more is_raising history (Table j log shift ∷ []) in omega arith);
     owed = λ k d c is. put_all permit j false (λ k a. settling k ≡ Some d → (permit k ≡ true) → a ≡ true) (λ owes _. absurd (none_debt d (sym none ∙ owes))) (λ _ _ _ p. p) k is (old.owed k d c is);
   }
 
@@ -215,6 +217,30 @@ module _ (c : Core) (j log shift : ℕ) (b : j < c.start.layout.workers) (may : 
         empty_from (c.chain p) (λ r at. (inv.holders.in_chain p r k at).0.0) (subst (λ z. Leads c.words.link z (c.chain p)) shut.empty (inv.chains.leads p k));
   }
 
+  -- the open table is that of before
+  shape_now : (g : ℕ) → g ≤ now.generation → put c.shape (now.generation + 1) (record { log = log; shift = shift }) g ≡ c.shape g
+  shape_now g low = put_else c.shape (now.generation + 1) (record { log = log; shift = shift }) g (λ is. absurd (omega arith))
+
+  ends_announced : Ends (record (ending_of c) { control = moving_to now log shift; shape = put c.shape (now.generation + 1) (record { log = log; shift = shift }) })
+  ends_announced = record {
+    opened = λ g q b from upto is. inv.ends.opened g q b from upto (subst (λ s. IsHeadIn g s q) (shape_now g upto) is);
+    loaded = inv.ends.loaded;
+    sealed = λ k h n b is loads same. still_sealed n (inv.ends.sealed k h n b is loads same);
+    low = let most = inv.ends.low in let none = ap flag_number may.steady in omega arith;
+    high = inv.ends.high;
+    pinned = λ is. still_sealed c.words.pin.epoch (inv.ends.pinned is);
+    past = inv.ends.past;
+    pins = λ k h p b is has. let was = inv.ends.pins k h p b is has in record { next = was.next; now = was.now; past = was.past };
+    older = inv.ends.older;
+  }
+    where
+      still_sealed : (n : ℕ) → IsSealed (ending_of c) n → IsSealed (record (ending_of c) { control = moving_to now log shift; shape = put c.shape (now.generation + 1) (record { log = log; shift = shift }) }) n
+      still_sealed n was = record {
+        frozen = λ q b o. was.frozen q b (subst (λ s. IsHeadIn now.generation s q) (shape_now now.generation (le_refl _)) o);
+        walks = was.walks;
+        low = was.low;
+      }
+
   announce_inv : Inv (table_announced c j now log shift)
   announce_inv = record {
     spelled = record {
@@ -236,7 +262,7 @@ module _ (c : Core) (j log shift : ℕ) (b : j < c.start.layout.workers) (may : 
     cover = inv.cover;
     sizes = sizes_announced now log shift c.shape may.steady _ _ _ _ may.log_fits may.shift_fits inv.sizes;
     dues = dues_announced now log shift c.shape may.steady _ _ _ _ inv.dues;
-    steady = steady_moves _ _ _ _ _ (moving_to now log shift) may.moves may.steady refl inv.steady;
+    steady = steady_moves _ (moving_to now log shift) _ _ _ may.moves;
     heads = heads_announced now log shift c.shape may.steady c.start _ may.log_fits inv.sizes.now inv.heads;
     sorted = sorted_announced now log shift c.shape may.steady _ _ _ _ inv.sizes.heads inv.sorted;
     marks = marks_announced now log shift c.shape may.steady _ _ _ _ _ inv.marks;
@@ -251,7 +277,7 @@ module _ (c : Core) (j log shift : ℕ) (b : j < c.start.layout.workers) (may : 
     settling = settling_more _ _ _ (Table j log shift ∷ []) (λ _ n. absurd (nothing n)) (λ _ _ _ _ n. nothing n) inv.settling;
     walkers = walkers_grown (present_of c) (takes_of c) _ _ (Table j log shift ∷ []) (silent c.history (Table j log shift ∷ []) refl refl) inv.walkers;
     ahead = ahead_grown c.history (Table j log shift ∷ []) c.words.current refl inv.ahead;
-    bounds = bounds_announced now log shift c.shape may.steady _ _ _ _ _ j b may.permit may.settled may.room inv.bounds;
+    bounds = bounds_announced now log shift c.shape may.steady _ _ _ _ _ _ j b may.permit may.settled may.room inv.bounds;
     scarce = scarce_grown _ _ _ _ _ _ _ (no_begin j log shift) inv.scarce;
     refusals = refusals_grown _ _ _ _ (no_begin j log shift) inv.refusals;
     swept = swept_grown _ _ _ _ _ _ _ (no_begin j log shift) inv.swept;
@@ -259,6 +285,7 @@ module _ (c : Core) (j log shift : ℕ) (b : j < c.start.layout.workers) (may : 
     rooms = inv.rooms;
     bare = bare_announced;
     unlinked = unlinked_grown _ _ _ (Table j log shift ∷ []) (no_begin j log shift) inv.unlinked;
+    ends = ends_announced;
     helps = helps_announced c.start now c.shape c.words.current c.found c.sight inv.sizes.now inv.finds c.help c.words.head log shift may.steady inv.helps;
   }
 

@@ -347,6 +347,7 @@ module _ (c : Core) (inv : Inv c) (j : ℕ) (d : CopyDebt) (b : j < c.start.layo
     rooms = record { ordered = inv.rooms.ordered; room = λ k e bk is. inv.rooms.room k e bk (debt_was k e is).1 };
     bare = inv.bare;
     unlinked = inv.unlinked;
+    ends = inv.ends;
   }
 
 -- Bind

@@ -23,6 +23,7 @@ use Rattle.crq_rule.specs.HistoryParts.{Carriers}
 use Rattle.crq_rule.specs.Ranks.{Shape}
 use Rattle.crq_rule.specs.Invariant.{present_of, takes_of, Inv}
 use Rattle.crq_rule.specs.ListKinds.{EndedWalk, MayMiss, begun_by, control_loaded, missed}
+use Rattle.crq_rule.proofs.EndLaws.{ends_callers, same_walks, walks_end, walks_anew, helps_told}
 use Rattle.crq_rule.proofs.Puts.{put_here, put_all}
 use Rattle.crq_rule.proofs.CoverLaws.{cover_less, less_old}
 use Rattle.crq_rule.proofs.StandLaws.{lanes_less, copying_nowhere}
@@ -79,7 +80,7 @@ carriers_same l history x link twin event holding none kept old = record {
 
 -- the control word was loaded
 pub control_keeps : (c : Core) (j : ℕ) → j < c.start.layout.workers → Inv c → Inv (control_loaded c j)
-control_keeps c j b inv = frame_found c (control_loaded c j) inv (finds_control _ _ _ _ _ _ j inv.sizes.now inv.finds) inv.numbers inv.walkers inv.bounds (helps_loaded _ _ _ _ _ _ inv.finds _ _ j inv.helps)
+control_keeps c j b inv = frame_found c (control_loaded c j) inv (finds_control _ _ _ _ _ _ j inv.sizes.now inv.finds) inv.numbers inv.walkers inv.bounds (helps_loaded _ _ _ _ _ _ inv.finds _ _ j inv.helps) (ends_callers c inv _ _ _ (same_walks c inv) (helps_told c inv j))
 
 -- a caller that begins anew has read no table
 finds_begun : (start : Start) (control : Control) (shape : ℕ → Shape) (current : Current) (found : ℕ → Found) (sight : ℕ → Option Sight) (j : ℕ)
@@ -104,6 +105,7 @@ unlinks c j inv = frame_guards c c.words.epoch c.words.announced c.epochs c.guar
     inv.walkers inv.scarce
     (copies_less _ _ _ (less_old c.rows c.old c.copying j) inv.copies)
     (unlinked_less _ _ _ j inv.unlinked)
+    inv.ends
 
 pub begin_keeps : (c : Core) (j : ℕ) → j < c.start.layout.workers → Inv c → Inv (begun_by c j)
 begin_keeps c j b inv = frame_entry (record c { old = put c.old j None }) (begun_by c j) (unlinks c j inv)
@@ -119,9 +121,10 @@ begin_keeps c j b inv = frame_entry (record c { old = put c.old j None }) (begun
     (scarce_drop _ _ _ _ _ _ _ _ j (λ k x _ ne. base_grown _ _ _ _ _ _ k x (other_begin j k ne)) inv.scarce)
     (refusals_put _ _ _ _ j [] (λ _. none_counted (c.history ++ Begin j ∷ []) j) (λ k ne. counted_grown _ _ k (c.refused k) (other_begin j k ne)) inv.refusals)
     (swept_begun _ _ _ _ _ _ j (λ k ne. other_begin j k ne) inv.swept)
-    (bounds_grown _ _ _ _ _ _ (Begin j ∷ []) refl inv.bounds)
+    (bounds_grown _ _ _ _ _ _ _ (Begin j ∷ []) refl inv.bounds)
     (helps_loaded _ _ _ _ _ _ inv.finds _ _ j inv.helps)
     (unlinked_more _ _ _ (Begin j ∷ []) (λ k s _ is. other_begin j k (λ same. none_stand s (sym (ap (put c.old j None) same ∙ put_here c.old j None) ∙ is))) (unlinked_less _ _ _ j inv.unlinked))
+    (ends_callers c inv _ _ _ (walks_anew c inv j None) (helps_told c inv j))
 
 -- what was settled before the Begin and is below the limit is taken
 miss_legal : (c : Core) (j limit : ℕ) → j < c.start.layout.workers → MayMiss limit (caller_of c j) → Inv c → MayFollow c.history (Miss j limit)
@@ -148,6 +151,7 @@ miss_keeps c j limit b may inv = frame_entry c (missed c j limit) inv
     (scarce_grown _ _ _ _ _ _ _ (λ k. no_begin j limit k) inv.scarce)
     (refusals_grown _ _ _ _ (λ k. no_begin j limit k) inv.refusals)
     (swept_grown _ _ _ _ _ _ _ (λ k. no_begin j limit k) inv.swept)
-    (bounds_grown _ _ _ _ _ _ (Miss j limit ∷ []) refl inv.bounds)
+    (bounds_grown _ _ _ _ _ _ _ (Miss j limit ∷ []) refl inv.bounds)
     (helps_loaded _ _ _ _ _ _ inv.finds _ _ j inv.helps)
     (unlinked_grown _ _ _ (Miss j limit ∷ []) (λ k. no_begin j limit k) inv.unlinked)
+    (ends_callers c inv _ _ _ (walks_end c inv j) (helps_told c inv j))

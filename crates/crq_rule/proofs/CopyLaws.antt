@@ -9,17 +9,14 @@ use Rattle.crq_rule.specs.declared.debts.CopyDebt.{CopyDebt}
 use Rattle.crq_rule.specs.declared.view.Guard.{Guard}
 use Rattle.crq_rule.specs.declared.view.Stand.{Stand}
 use Rattle.crq_rule.specs.Lists.{put}
-use Rattle.crq_rule.specs.Places.{IsRow}
 use Rattle.crq_rule.specs.Core.{Core, Holding, in_hand, listed, cut_by, retired, IsOutside}
 use Rattle.crq_rule.specs.Parts.{Ground, ground_of, IsGuarded}
-use Rattle.crq_rule.specs.Ranks.{IsTold}
 use Rattle.crq_rule.specs.Copies.{IsListed, Rows, IsBound, IsCopying, Copies, Unlinked}
 use Rattle.crq_rule.specs.ScarceParts.{WasOut}
 use Rattle.crq_rule.specs.Invariant.{Inv}
 use Rattle.crq_rule.proofs.Puts.{put_else, put_all}
 use Rattle.crq_rule.proofs.CoverLaws.{names_covered, copy_footing, footing_covered, covered_guard, covered_less}
 use Rattle.crq_rule.proofs.Pendings.{split_entry}
-use Rattle.crq_rule.proofs.SteadyLaws.{outside_told}
 
 listed_hand : (q j : ℕ) → listed q ≡ in_hand j → ⊥
 listed_hand q j e = cc
@@ -48,10 +45,6 @@ debt_guarded c inv k d b is = let at = copy_footing c.rows c.old c.copying k d i
 -- and so is the twin of a covered row
 pub twin_guarded : (ground : Ground) (r : ℕ) → IsGuarded ground r → 0 < ground.twin r → IsGuarded ground (ground.twin r)
 twin_guarded ground r v some = (v.0, v.1, names_covered ground v.0 v.1 r (ground.twin r) v.2 (some, inr refl))
-
--- a listed row is of the open table, or of the one that it moves into
-pub listed_age : (c : Core) → Inv c → (r q : ℕ) → IsRow c.start.layout r → c.holding r ≡ listed q → IsTold c.words.control (c.words.link r).generation
-listed_age c inv r q row is = outside_told c inv r row (listed_out c.holding r (q, is))
 
 cut_listed : (j q : ℕ) → cut_by j ≡ listed q → ⊥
 cut_listed j q e = cc

@@ -19,7 +19,8 @@ use Rattle.crq_rule.specs.HistoryParts.{IsCarrying, IsLive, Carriers}
 use Rattle.crq_rule.specs.Copies.{Rows, IsListed, IsBound, IsCopying, CopyFits, Copies}
 use Rattle.crq_rule.specs.Invariant.{rows_of_core, Inv}
 use Rattle.crq_rule.proofs.Puts.{put_here, put_else, put_all}
-use Rattle.crq_rule.proofs.CopyLaws.{listed_out, listed_age, debt_guarded}
+use Rattle.crq_rule.proofs.SteadyLaws.{held_told}
+use Rattle.crq_rule.proofs.CopyLaws.{listed_out, debt_guarded}
 
 -- Marks
 
@@ -264,7 +265,7 @@ module _ (c : Core) (inv : Inv c) where
   -- no row of the open table is a copy of a listed row
   pub no_bound : (o r : ℕ) → (c.words.link r).generation ≡ c.words.control.generation → IsBound rows o r → ⊥
   no_bound o r age b = let next = (inv.copies.bound o r b).generation in
-      ⊎_elim (λ (low : (c.words.link o).generation ≡ c.words.control.generation). absurd (omega arith)) (λ h. let high = h.1 in absurd (omega arith)) (listed_age c inv o b.listed_is.0 b.row b.listed_is.1)
+      ⊎_elim (λ (low : (c.words.link o).generation ≡ c.words.control.generation). absurd (omega arith)) (λ h. let high = h.1 in absurd (omega arith)) (held_told c inv b.listed_is.0 o b.row b.listed_is.1)
 
   -- a present row is no copy that is owed
   pub not_owed : (r : ℕ) → (c.words.link r).mark ≡ Val → (k : ℕ) (d : CopyDebt) → k < c.start.layout.workers → c.copying k ≡ Some d → d.copy ≡ r → ⊥
@@ -303,7 +304,7 @@ module _ (c : Core) (inv : Inv c) where
   old_twin k d b is age none = let f = inv.copies.debt k d b is in let at = (f.open_is none).0 in
       let g : (c.words.link d.old).generation + 1 ≡ (c.words.link d.copy).generation = ap (λ (z : Link). z.generation + 1) f.last ∙ (f.next ∙ sym f.generation) in
       ⊎_elim (λ (low : (c.words.link d.old).generation ≡ c.words.control.generation). absurd (omega arith)) (λ h. let high = h.1 in absurd (omega arith))
-      (listed_age c inv d.old at.0 (old_row k d b is) at.1)
+      (held_told c inv at.0 d.old (old_row k d b is) at.1)
     where
       old_row : (k : ℕ) (d : CopyDebt) → k < c.start.layout.workers → c.copying k ≡ Some d → IsRow c.start.layout d.old
       old_row k d b is = inv.lanes.is_row d.old (debt_guarded c inv k d b is).0

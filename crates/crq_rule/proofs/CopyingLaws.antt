@@ -1,5 +1,5 @@
 -- A copy of a frozen row that comes into a list of the next table keeps the invariant.
-use Rattle.std.proofs.Common.{◌≡◌, ◌≢◌, ◌⊎◌, ⊎_elim, inl, inr, true, ℕ, ◌+◌, ◌^◌, ◌<◌, ◌≤◌, List, [], ◌∷◌, ◌++◌, Option, Some, None, le_refl, sym, refl, ap, ◌∙◌, subst, arith}
+use Rattle.std.proofs.Common.{◌≡◌, ◌≢◌, ◌⊎◌, ⊎_elim, inl, inr, ℕ, ◌+◌, ◌^◌, ◌<◌, ◌≤◌, List, [], ◌∷◌, ◌++◌, Option, Some, None, le_refl, sym, refl, ap, ◌∙◌, subst, arith}
 use Rattle.std.proofs.lemmas.Option.{same_Some, none-some}
 use mathlib.Core.Logic.{dite}
 use native.Mathlib.Decide.{ℕ_discrete}
@@ -18,9 +18,10 @@ use Rattle.crq_rule.specs.Parts.{newest, Ground, ground_of, footings, Covers, Is
 use Rattle.crq_rule.specs.ListParts.{IsOldHead, Dues, Copying, StandFits}
 use Rattle.crq_rule.specs.HistoryParts.{IsCarrying, IsLive, Carriers}
 use Rattle.crq_rule.specs.ScarceParts.{WasOut, Swept}
-use Rattle.crq_rule.specs.Ranks.{Shape, first_head_of, head_in, list_in, next_list, Cell, link_at, after_cell}
+use Rattle.crq_rule.specs.Ranks.{Shape, IsTold, first_head_of, head_in, list_in, next_list, Cell, link_at, after_cell}
 use Rattle.crq_rule.specs.Copies.{Copies, Rooms, Bare, Unlinked}
 use Rattle.crq_rule.specs.Invariant.{present_of, takes_of, rows_of_core, Inv}
+use Rattle.crq_rule.specs.ListKinds.{is_cell}
 use Rattle.crq_rule.specs.CopyKinds.{copy_debt, copied, MayCopy}
 use Rattle.crq_rule.proofs.Puts.{put_here, put_else, put_all}
 use Rattle.crq_rule.proofs.PartLaws.{one_home}
@@ -35,22 +36,27 @@ use Rattle.crq_rule.proofs.SweepLaws.{swept_chains}
 use Rattle.crq_rule.proofs.ChainLaws.{in_cell}
 use Rattle.crq_rule.proofs.CopyLaws.{twin_guarded, debt_guarded}
 use Rattle.crq_rule.proofs.CopyRows.{copies_relinked, copies_copied, new_fits}
-use Rattle.crq_rule.proofs.LinkLaws.{Linking, known_by, told_low, head', link', chain', holding', same_generation, link_here, covered_from, spelled_after, holders_after, stamps_after, own_mark, marks_after, chains_after, heads_after, helps_after, sorted_after, cover_after, lanes_after, standing_after, copying_after, writing_after, naming_after, sizes_after, steady_after, relinked_after, bare_after, live_after, live_before, from_after}
+use Rattle.crq_rule.proofs.LinkLaws.{Linking, known_by, cell_high, no_new, told_low, head', link', chain', holding', same_generation, link_here, covered_from, spelled_after, holders_after, stamps_after, own_mark, marks_after, chains_after, heads_after, helps_after, sorted_after, cover_after, lanes_after, standing_after, copying_after, writing_after, naming_after, sizes_after, steady_after, relinked_after, bare_after, live_after, live_before, from_after, ends_after}
 
 val_mov : Val ≡ Mov → ⊥
 val_mov e = cc
 
 module _ (c : Core) (j : ℕ) (cell : Cell) (l : Link) (r : ℕ) (s : Stand) (last : Link) (b : j < c.start.layout.workers) (x : Control) (may : MayCopy x cell l r s last (caller_of c j)) (is : link_at c.words.head c.words.link cell ≡ l) (inv : Inv c) where
-  -- The word of the move that was found is the present one
+  -- The copy comes into the table behind the one that the caller found to move. Either that moves still, or the move is over and the next one is open
 
-  moves : x ≡ c.words.control
-  moves = found_moving c inv j x b may.control may.moving
+  now_or_over : (x.generation ≡ c.words.control.generation) ⊎ (x.generation + 1 ≡ c.words.control.generation)
+  now_or_over = let of = may.expected.2 in let same = ap (λ (y : Link). y.generation) is in let low = (inv.finds.controls j x b may.control).low in
+      let high = cell_high c j (next_list x) cell r s.event b (ap (λ (y : Link). is_cell y.mark) is ∙ may.expected.1) may.after inv in
+      dite (ℕ_discrete x.generation c.words.control.generation) inl (λ past. inr (omega arith))
 
-  moving : c.words.control.moving ≡ true
-  moving = ap (λ (y : Control). y.moving) (sym moves) ∙ may.moving
+  told_by : (x.generation ≡ c.words.control.generation) ⊎ (x.generation + 1 ≡ c.words.control.generation) → IsTold c.words.control l.generation
+  told_by when = ⊎_elim
+      (λ (now : x.generation ≡ c.words.control.generation). let same = found_moving c inv j x b may.control may.moving now in
+      inr (ap (λ (y : Control). y.moving) (sym same) ∙ may.moving, may.expected.2 ∙ ap (λ (y : Control). y.generation + 1) same))
+      (λ over. inl (may.expected.2 ∙ over)) when
 
-  generation : l.generation ≡ c.words.control.generation + 1
-  generation = may.expected.2 ∙ ap (λ (y : Control). y.generation + 1) moves
+  told : IsTold c.words.control l.generation
+  told = told_by now_or_over
 
   lists : (f : Event) → list_in c.shape l.generation f ≡ next_list x f
   lists f = ap (λ g. list_in c.shape g f) may.expected.2 ∙ ap (λ (sh : Shape). head_in (x.generation + 1) sh f) ((inv.finds.controls j x b may.control).next may.moving)
@@ -60,7 +66,7 @@ module _ (c : Core) (j : ℕ) (cell : Cell) (l : Link) (r : ℕ) (s : Stand) (la
   q = list_in c.shape l.generation s.event
 
   f : Linking c j cell l r q s.event Invalid
-  f = known_by c j (next_list x) cell l r s.event Invalid b may.on may.in_hand_is may.event may.expected.0 may.expected.1 (inr (moving, generation)) lists refl may.written may.after may.before is inv
+  f = known_by c j (next_list x) cell l r s.event Invalid b may.on may.in_hand_is may.event may.expected.0 may.expected.1 told lists refl may.written may.after may.before is inv
 
   abbrev links : ℕ → Link
   links = link' c j cell l r s.event Invalid
@@ -150,7 +156,7 @@ module _ (c : Core) (j : ℕ) (cell : Cell) (l : Link) (r : ℕ) (s : Stand) (la
   dues_part = record {
     settles = inv.dues.settles;
     copies = λ k d. put_all c.copying j (Some debt) (λ k o. k < c.start.layout.workers → o ≡ Some d → (d.generation ≤ newest c.words.control) × (d.head ≡ list_in c.shape d.generation d.event))
-        (λ _ e. subst (λ (d : CopyDebt). (d.generation ≤ newest c.words.control) × (d.head ≡ list_in c.shape d.generation d.event)) (same_Some debt d e) (told_low c.words.control l.generation (inr (moving, generation)), refl))
+        (λ _ e. subst (λ (d : CopyDebt). (d.generation ≤ newest c.words.control) × (d.head ≡ list_in c.shape d.generation d.event)) (same_Some debt d e) (told_low c.words.control l.generation told, refl))
         (λ k _. inv.dues.copies k d) k;
     named = inv.dues.named;
   }
@@ -161,9 +167,9 @@ module _ (c : Core) (j : ℕ) (cell : Cell) (l : Link) (r : ℕ) (s : Stand) (la
     room = λ k d. put_all c.copying j (Some debt) (λ k o. k < c.start.layout.workers → o ≡ Some d → (c.named k).second ≡ None) (λ _ _. may.room) (λ k _. inv.rooms.room k d) k;
   }
 
-  -- all heads of the table that moves are frozen
-  frozen_all : (p : ℕ) → IsOldHead c.words.control c.shape p → (c.words.head p).mark ≡ Mov
-  frozen_all p o = let h = may.helps.0 in let of = inv.helps.finds j h b may.helps.1 in
+  -- while it moves all heads of the open table are frozen
+  frozen_all : x ≡ c.words.control → (p : ℕ) → IsOldHead c.words.control c.shape p → (c.words.head p).mark ≡ Mov
+  frozen_all moves p o = let h = may.helps.0 in let of = inv.helps.finds j h b may.helps.1 in
       let at : x ≡ of.0 = same_Some x of.0 (sym may.control ∙ of.1) in
       let same : h.generation ≡ c.words.control.generation = of.2.same ∙ ap (λ (y : Control). y.generation) (sym at ∙ moves) in
       let passed = inv.helps.passed j h b may.helps.1 same in
@@ -176,7 +182,9 @@ module _ (c : Core) (j : ℕ) (cell : Cell) (l : Link) (r : ℕ) (s : Stand) (la
       first_of = first_head_of c.words.control.generation
 
   bare_part : Bare c.words.control c.shape heads (chain' c j cell l r s.event Invalid)
-  bare_part = bare_after c j cell l r s.event Invalid f inv (λ _ p _ o val _. val_mov (sym val ∙ frozen_all p o))
+  bare_part = bare_after c j cell l r s.event Invalid f inv (λ _ p _ o val new. ⊎_elim
+      (λ now. val_mov (sym val ∙ frozen_all (found_moving c inv j x b may.control may.moving now) p o))
+      (λ over. no_new c j cell l r s.event Invalid f inv (may.expected.2 ∙ over) new) now_or_over)
 
   unlinked_part : Unlinked c.start.layout.workers c.history old
   unlinked_part = record {
@@ -245,6 +253,7 @@ module _ (c : Core) (j : ℕ) (cell : Cell) (l : Link) (r : ℕ) (s : Stand) (la
     rooms = rooms_part;
     bare = bare_part;
     unlinked = unlinked_part;
+    ends = ends_after c j cell l r s.event Invalid f inv;
   }
 
 -- Copy keeps the invariant

@@ -17,6 +17,7 @@ use Rattle.crq_rule.proofs.HelpLaws.{helps_current}
 use Rattle.crq_rule.proofs.Puts.{put_here, put_else, put_all}
 use Rattle.crq_rule.proofs.Prefixes.{of_take, drop_none}
 use Rattle.crq_rule.proofs.BoundLaws.{numbers_loaded, bounds_loaded}
+use Rattle.crq_rule.proofs.EndLaws.{ends_callers, walks_anew, same_helps}
 use Rattle.crq_rule.proofs.Frames.{frame_found}
 use Rattle.crq_rule.proofs.WalkerLaws.{walkers_at}
 use Rattle.crq_rule.proofs.WalkLaws.{read_now, put_before}
@@ -69,9 +70,10 @@ module _ (c : Core) (j : ℕ) (b : j < c.start.layout.workers) (inv : Inv c) whe
 
   pub current_keeps : (walks : Bool) → MayView (c.own j) (c.found j).control walks → Inv (current_loaded c j walks)
   current_keeps walks may = let sight : Option Sight = sight_on walks (c.found j).control c.words.current in let read : ℕ = cond walks (length c.history) (c.read j) in
-      frame_found c (current_loaded c j walks) inv (finds_loaded walks may) (numbers_loaded _ _ _ _ _ _ j c.told inv.bounds inv.numbers) (walkers_at _ _ _ _ j (takes_of (current_loaded c j walks))
+      frame_found c (current_loaded c j walks) inv (finds_loaded walks may) (numbers_loaded _ _ _ _ _ _ _ j c.told inv.bounds inv.numbers) (walkers_at _ _ _ _ j (takes_of (current_loaded c j walks))
       (λ k ne i. (c.begun k, put_else c.read j read k ne i, put_else c.sight j sight k ne i, put_else c.walk j None k ne i, c.rows k))
       (λ s _ is. subst (λ r. Sees (present_of c) (c.begun j) r s) (sym (put_here c.read j read)) (sees_since walks may s (sym (put_here c.sight j sight) ∙ is)))
       (λ w _ is. absurd (none_walk w (sym (put_here c.walk j None) ∙ is))) inv.walkers)
-      (bounds_loaded _ _ _ _ _ _ j inv.bounds)
+      (bounds_loaded _ _ _ _ _ _ _ j inv.bounds)
       (helps_current _ _ _ _ _ _ inv.finds _ _ j (Some c.words.current) inv.helps)
+      (ends_callers c inv _ _ c.help (walks_anew c inv j sight) (same_helps c inv))

@@ -26,6 +26,7 @@ use Rattle.crq_rule.specs.Invariant.{present_of, takes_of, rows_of_core, Inv}
 use Rattle.crq_rule.specs.Ranks.{Shape, list_in, Rises, Cell, at_head, at_row, link_at, heads_set, links_set, without_row}
 use Rattle.crq_rule.specs.ListKinds.{is_cell, cut_from, without_stand, unnamed, StandsOn, MayWalk, MayCut, unnamed_row}
 use Rattle.crq_rule.specs.MoveKinds.{MayPop}
+use Rattle.crq_rule.proofs.EndLaws.{ends_heads, walks_end}
 use Rattle.crq_rule.proofs.Puts.{put_here, put_else, put_all}
 use Rattle.crq_rule.proofs.PartLaws.{sort, of_whom, read_cut, cutting_cut}
 use Rattle.crq_rule.proofs.HolderLaws.{none_some, some_some}
@@ -576,6 +577,7 @@ module _ (c : Core) (j : ℕ) (cell : Cell) (x : ℕ) (l : Link) (b : j < c.star
     rooms = rooms_part;
     bare = bare_part;
     unlinked = inv.unlinked;
+    ends = ends_heads c inv heads (put c.walk j None) (λ h. (head_generation c.words.head c.words.link l.row cell h, head_mark c.words.head c.words.link l.row cell h)) (walks_end c inv j);
     helps = helps_heads _ _ _ _ _ _ inv.sizes.now inv.finds _ _ _ (λ h. (head_generation c.words.head c.words.link l.row cell h, head_mark c.words.head c.words.link l.row cell h))
         (λ h _ empty. ap (λ (z : Link). z.row) (head_kept h (λ to. let some = row_x.0 in omega arith)) ∙ empty) inv.helps;
   }

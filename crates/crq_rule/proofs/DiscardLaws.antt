@@ -15,7 +15,7 @@ use Rattle.crq_rule.specs.Core.{Core, DeadNames, HasName, IsOutside, caller_of}
 use Rattle.crq_rule.specs.Parts.{newest, ground_of, IsGuarded, IsEvent, rows_of, rows_of_copy}
 use Rattle.crq_rule.specs.ListParts.{StandFits, IsFinal, IsNamed, IsOldHead}
 use Rattle.crq_rule.specs.HistoryParts.{Carriers}
-use Rattle.crq_rule.specs.Ranks.{IsTold, list_in}
+use Rattle.crq_rule.specs.Ranks.{list_in}
 use Rattle.crq_rule.specs.Copies.{IsListed, IsBound, Copies, Rooms}
 use Rattle.crq_rule.specs.Invariant.{rows_of_core, Inv}
 use Rattle.crq_rule.specs.ListKinds.{is_cell}
@@ -24,7 +24,7 @@ use Rattle.crq_rule.proofs.Puts.{put_here, put_else, put_all}
 use Rattle.crq_rule.proofs.CoverLaws.{guarded_by, stand_row}
 use Rattle.crq_rule.proofs.HeadLaws.{cell_listed, dead_carries}
 use Rattle.crq_rule.proofs.SearchLaws.{stand_covered}
-use Rattle.crq_rule.proofs.SteadyLaws.{steady_names, outside_told, guarded_out, still_mark}
+use Rattle.crq_rule.proofs.SteadyLaws.{steady_names, still_row, guarded_out, still_mark}
 use Rattle.crq_rule.proofs.CopyLaws.{debt_guarded}
 use Rattle.crq_rule.proofs.CopyMarks.{put_same, inv_open, marked_as, mark_here, inv_dead, live_stays, live_was, carriers_same, Marking, to_dead, no_bound, old_twin, copies_marked, copies_dropped}
 use Rattle.crq_rule.proofs.MarkLaws.{naming_dead}
@@ -125,7 +125,7 @@ module _ (c : Core) (inv : Inv c) (j r : ℕ) (n : CutDebt) (copying' : ℕ → 
         copies = λ k d b is. inv.dues.copies k d b (kept k d is).1;
         named = λ k e b has. ⊎_elim (inv.dues.named k e b) (λ same. subst (λ (e : CutDebt). (e.generation ≤ newest c.words.control) × (e.head ≡ list_in c.shape e.generation e.event)) same (low, list)) (more_before j n c.named k e has);
       })
-      (steady_names _ _ _ _ _ named' (λ k e _ has. ⊎_elim inl (λ same. inr (subst (λ (e : CutDebt). IsTold c.words.control e.generation) same told)) (more_before j n c.named k e has))
+      (steady_names _ _ _ _ _ named' (λ k e _ has. ⊎_elim inl (λ same. inr (λ no_move. ap (λ (e : CutDebt). e.generation) (sym same) ∙ (of ∙ still_row c inv no_move r row out))) (more_before j n c.named k e has))
       (λ still _ _ _. absurd (⊎_elim (λ val. inv_val (sym invalid ∙ val)) (λ del. inv_del (sym invalid ∙ del)) (still_mark c inv still r row out))) inv.steady)
       (naming_dead c.start.layout c.words.head c.words.link c.words.event c.holding r j n c.named named' b (more_here j n c.named) (more_stays j n c.named room) (more_before j n c.named) is
       (record { row = subst (IsRow c.start.layout) (sym is.row) row; event = subst IsEvent (sym is.event) (inv.spelled.events r row) }) inv.naming)
@@ -136,9 +136,6 @@ module _ (c : Core) (inv : Inv c) (j r : ℕ) (n : CutDebt) (copying' : ℕ → 
 
       low : n.generation ≤ newest c.words.control
       low = subst (λ g. g ≤ newest c.words.control) (sym of) (inv.sizes.rows r row out)
-
-      told : IsTold c.words.control n.generation
-      told = subst (IsTold c.words.control) (sym of) (outside_told c inv r row out)
 
 -- Discard, of a copy that the caller owes
 

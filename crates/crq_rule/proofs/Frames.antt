@@ -19,7 +19,8 @@ use Rattle.crq_rule.specs.Helping.{Helps}
 use Rattle.crq_rule.specs.ScarceParts.{Scarce, Refusals, Swept}
 use Rattle.crq_rule.specs.Ahead.{Ahead}
 use Rattle.crq_rule.specs.Copies.{Copies, Unlinked}
-use Rattle.crq_rule.specs.Invariant.{present_of, takes_of, rows_of_core, Inv}
+use Rattle.crq_rule.specs.Ending.{Ends}
+use Rattle.crq_rule.specs.Invariant.{present_of, takes_of, rows_of_core, ending_of, Inv}
 use Rattle.crq_rule.specs.Kinds.{after_made}
 
 -- the epoch word, announcements, guards, ticks, epochs read, tags, bases, positions and walks
@@ -37,8 +38,9 @@ pub frame_guards : (c : Core) (e : ℕ) (announced : ℕ → ℕ) (epochs : ℕ 
     → Scarce c.start.layout e c.history base guard c.holding
     → Copies (rows_of_core c) (record (ground_of c) { guard = guard; footing = footings rows old c.copying })
     → Unlinked c.start.layout.workers c.history old
+    → Ends (record (ending_of c) { walk = walk })
     → Inv (record c { words = record c.words { epoch = e; announced = announced }; epochs = epochs; guard = guard; tick = tick; cut = cut; base = base; rows = rows; old = old; walk = walk })
-frame_guards c e announced epochs guard tick cut base rows old walk inv reading guards holders cutting stamps cover standing copying lanes walkers scarce copies unlinked = record {
+frame_guards c e announced epochs guard tick cut base rows old walk inv reading guards holders cutting stamps cover standing copying lanes walkers scarce copies unlinked ends = record {
   spelled = inv.spelled;
   reading = reading;
   finds = inv.finds;
@@ -74,6 +76,7 @@ frame_guards c e announced epochs guard tick cut base rows old walk inv reading 
   rooms = inv.rooms;
   bare = inv.bare;
   unlinked = unlinked;
+  ends = ends;
 }
 
 -- stamps, rows in hand, rows looked at, cut rows, bases, refusals and holders
@@ -129,6 +132,7 @@ frame_rows c stamp hand ripening cut base refused holding inv reading holders cu
   rooms = inv.rooms;
   bare = inv.bare;
   unlinked = inv.unlinked;
+  ends = inv.ends;
 }
 
 -- the state c, with the history, what each caller owes to settle, and what it found and knows of it, as in d
@@ -167,11 +171,12 @@ pub frame_moved : (c d : Core) (current : Current) → Inv c
     → Scarce c.start.layout c.words.epoch d.history d.base c.guard c.holding
     → Refusals c.start.layout.workers d.history d.refused
     → Swept c.start.layout d.history c.words.event c.chain d.sweep d.clean
-    → Bounds c.start c.words.control current d.history d.settling d.permit
+    → Bounds c.start c.words.control current c.words.pin d.history d.settling d.permit
     → Helps c.start.layout.workers c.words.control c.words.head d.found d.help
     → Unlinked c.start.layout.workers d.history c.old
+    → Ends (record (ending_of (with_entries c d)) { current = current })
     → Inv (with_entries (record c { words = record c.words { current = current } }) d)
-frame_moved c d current inv spelled finds dues steady carriers told numbers settling walkers ahead scarce refusals swept bounds helps unlinked = record {
+frame_moved c d current inv spelled finds dues steady carriers told numbers settling walkers ahead scarce refusals swept bounds helps unlinked ends = record {
   spelled = spelled;
   reading = inv.reading;
   finds = finds;
@@ -207,6 +212,7 @@ frame_moved c d current inv spelled finds dues steady carriers told numbers sett
   rooms = inv.rooms;
   bare = inv.bare;
   unlinked = unlinked;
+  ends = ends;
 }
 
 -- current stays
@@ -223,11 +229,12 @@ pub frame_entry : (c d : Core) → Inv c
     → Scarce c.start.layout c.words.epoch d.history d.base c.guard c.holding
     → Refusals c.start.layout.workers d.history d.refused
     → Swept c.start.layout d.history c.words.event c.chain d.sweep d.clean
-    → Bounds c.start c.words.control c.words.current d.history d.settling d.permit
+    → Bounds c.start c.words.control c.words.current c.words.pin d.history d.settling d.permit
     → Helps c.start.layout.workers c.words.control c.words.head d.found d.help
     → Unlinked c.start.layout.workers d.history c.old
+    → Ends (ending_of (with_entries c d))
     → Inv (with_entries c d)
-frame_entry c d inv finds dues steady carriers told numbers settling walkers ahead scarce refusals swept bounds helps unlinked = frame_moved c d c.words.current inv inv.spelled finds dues steady carriers told numbers settling walkers ahead scarce refusals swept bounds helps unlinked
+frame_entry c d inv finds dues steady carriers told numbers settling walkers ahead scarce refusals swept bounds helps unlinked ends = frame_moved c d c.words.current inv inv.spelled finds dues steady carriers told numbers settling walkers ahead scarce refusals swept bounds helps unlinked ends
 
 -- the state c, with what each caller found, and the takes that walk, as in d
 abbrev with_found : Core → Core → Core
@@ -238,10 +245,11 @@ pub frame_found : (c d : Core) → Inv c
     → Finds c.start c.words.control c.shape c.words.current d.found d.sight
     → Numbers c.start.layout.workers c.history d.told
     → Walkers (present_of c) (takes_of (with_found c d)) c.words.link c.words.event
-    → Bounds c.start c.words.control c.words.current c.history c.settling d.permit
+    → Bounds c.start c.words.control c.words.current c.words.pin c.history c.settling d.permit
     → Helps c.start.layout.workers c.words.control c.words.head d.found d.help
+    → Ends (ending_of (with_found c d))
     → Inv (with_found c d)
-frame_found c d inv finds numbers walkers bounds helps = frame_entry c (with_found c d) inv finds inv.dues inv.steady inv.carriers inv.told numbers inv.settling walkers inv.ahead inv.scarce inv.refusals inv.swept bounds helps inv.unlinked
+frame_found c d inv finds numbers walkers bounds helps ends = frame_entry c (with_found c d) inv finds inv.dues inv.steady inv.carriers inv.told numbers inv.settling walkers inv.ahead inv.scarce inv.refusals inv.swept bounds helps inv.unlinked ends
 
 -- current, permits, and the walks of takes
 pub frame_current : (c : Core) (current : Current) (permit : ℕ → Bool) (walk : ℕ → Option Walk) → Inv c
@@ -249,9 +257,10 @@ pub frame_current : (c : Core) (current : Current) (permit : ℕ → Bool) (walk
     → Finds c.start c.words.control c.shape current c.found c.sight
     → Walkers (record (present_of c) { current = current }) (record (takes_of c) { walk = walk }) c.words.link c.words.event
     → Ahead c.history current
-    → Bounds c.start c.words.control current c.history c.settling permit
+    → Bounds c.start c.words.control current c.words.pin c.history c.settling permit
+    → Ends (record (ending_of c) { current = current; walk = walk })
     → Inv (record c { words = record c.words { current = current }; permit = permit; walk = walk })
-frame_current c current permit walk inv spelled finds walkers ahead bounds = record {
+frame_current c current permit walk inv spelled finds walkers ahead bounds ends = record {
   spelled = spelled;
   reading = inv.reading;
   finds = finds;
@@ -287,6 +296,7 @@ frame_current c current permit walk inv spelled finds walkers ahead bounds = rec
   rooms = inv.rooms;
   bare = inv.bare;
   unlinked = inv.unlinked;
+  ends = ends;
 }
 
 -- the list of steps made, which no part reads
@@ -327,4 +337,5 @@ frame_made c j m inv = record {
   rooms = inv.rooms;
   bare = inv.bare;
   unlinked = inv.unlinked;
+  ends = inv.ends;
 }

@@ -34,7 +34,7 @@ abbrev redealt : Core → Deal → (ℕ → List Entry) → (ℕ → ViewTold) �
 redealt c deal own known = record c { deal = deal; own = own; told = known }
 
 redealt_keeps : (c : Core) (deal : Deal) (own : ℕ → List Entry) (known : ℕ → ViewTold) → Told c.start.layout.workers c.history deal own c.begun → Numbers c.start.layout.workers c.history known → Inv c → Inv (redealt c deal own known)
-redealt_keeps c deal own known told numbers inv = frame_entry c (redealt c deal own known) inv inv.finds inv.dues inv.steady inv.carriers told numbers inv.settling inv.walkers inv.ahead inv.scarce inv.refusals inv.swept inv.bounds inv.helps inv.unlinked
+redealt_keeps c deal own known told numbers inv = frame_entry c (redealt c deal own known) inv inv.finds inv.dues inv.steady inv.carriers told numbers inv.settling inv.walkers inv.ahead inv.scarce inv.refusals inv.swept inv.bounds inv.helps inv.unlinked inv.ends
 
 -- entries don't end in a Begin where there are none
 no_begin : (front : List Entry) (j : ℕ) → [] ≡ front ++ Begin j ∷ [] → ⊥

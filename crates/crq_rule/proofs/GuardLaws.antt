@@ -13,6 +13,7 @@ use Rattle.crq_rule.specs.ScarceParts.{pending, IsBase}
 use Rattle.crq_rule.specs.Parts.{Cutting, Reading, Stamps, Guards, GuardIs, OnSince, IsOn, LetsRise, footings, ground_of}
 use Rattle.crq_rule.specs.Invariant.{present_of, takes_of, Inv}
 use Rattle.crq_rule.specs.Kinds.{epoch_loaded, recovery_begun, new_base, entered, confirmed, left, scanned, ticked, tick_failed, tagged, new_tick, HasScanned}
+use Rattle.crq_rule.proofs.EndLaws.{ends_walk, walks_end}
 use Rattle.crq_rule.proofs.Puts.{put_here, put_else}
 use Rattle.crq_rule.proofs.PartLaws.{read_epoch, read_tick, read_cut, read_risen, tagged_some, guard_set, tick_set, guards_risen, found_at, announced_low, cutting_guard, cutting_cut, stamps_risen}
 use Rattle.crq_rule.proofs.HolderLaws.{holders_tagged, none_some}
@@ -48,7 +49,7 @@ load_keeps c j b inv = let e = c.words.epoch in let t = new_tick e in let o = ta
     (cutting_tagged c j inv)
     inv.stamps
     (cover_tagged _ _ _ j e (λ k g b' is. (on_low c inv k g b' is).0) inv.cover)
-    inv.standing inv.copying inv.lanes inv.walkers inv.scarce inv.copies inv.unlinked
+    inv.standing inv.copying inv.lanes inv.walkers inv.scarce inv.copies inv.unlinked inv.ends
   where
     low : (t : ℕ) (x : CutRow) → j < c.start.layout.workers → tagged c.words.epoch (c.cut j) ≡ Some x → In t x.tags → t ≤ c.words.epoch
     low t x b' is i = let y = tagged_some c.words.epoch (c.cut j) x is in ⊎_elim (λ (q : t ≡ c.words.epoch). omega arith) (inv.reading.tags j t y.0 b' y.1) (y.3 t i)
@@ -56,7 +57,7 @@ load_keeps c j b inv = let e = c.words.epoch in let t = new_tick e in let o = ta
 -- the first load of a recovery
 pub recovery_keeps : (c : Core) (j : ℕ) → j < c.start.layout.workers → Inv c → Inv (recovery_begun c j)
 recovery_keeps c j b inv = let loaded = load_keeps c j b inv in frame_guards c _ _ _ _ _ _ _ _ _ _ inv loaded.reading loaded.guards loaded.holders loaded.cutting loaded.stamps loaded.cover loaded.standing loaded.copying loaded.lanes loaded.walkers
-    (scarce_put _ _ _ _ _ _ _ _ _ _ j (Some (new_base (length c.history) (pending c.history) c.words.epoch)) (λ x _ is. subst (IsBase c.start.layout c.words.epoch c.history c.guard c.holding j) (some_base _ x is) (base_begun c j b inv)) (λ k x _ _ old. old) inv.scarce) inv.copies inv.unlinked
+    (scarce_put _ _ _ _ _ _ _ _ _ _ j (Some (new_base (length c.history) (pending c.history) c.words.epoch)) (λ x _ is. subst (IsBase c.start.layout c.words.epoch c.history c.guard c.holding j) (some_base _ x is) (base_begun c j b inv)) (λ k x _ _ old. old) inv.scarce) inv.copies inv.unlinked inv.ends
 
 off_not_on : (g : Guard) → g ≡ Off → IsOn g → ⊥
 off_not_on g is on = subst IsOn is on
@@ -78,6 +79,7 @@ enter_keeps c j e b off read inv = frame_guards c _ _ _ _ _ _ _ _ _ _ inv inv.re
     (scarce_lasts _ _ _ _ _ _ _ _ _ (le_refl _) (λ k inside. lasts_guard _ _ _ _ j (Entering e) k inside (λ r g _ _ _. subst (OnSince (g + 1)) (sym off) tt) (λ _ _ _. tt)) inv.scarce)
     (copies_guard _ _ j (Entering e) (not_on c inv j (off_not_on (c.guard j) off)) inv.copies)
     inv.unlinked
+    inv.ends
 
 pub confirm_keeps : (c : Core) (j x : ℕ) → j < c.start.layout.workers → c.guard j ≡ Entering x → Inv c → Inv (confirmed c j)
 confirm_keeps c j x b is inv = let old : GuardIs c.words.epoch (c.words.announced j) (Entering x) = subst (GuardIs c.words.epoch (c.words.announced j)) is (inv.guards.each j b) in
@@ -95,6 +97,7 @@ confirm_keeps c j x b is inv = let old : GuardIs c.words.epoch (c.words.announce
     (scarce_lasts _ _ _ _ _ _ _ _ _ (le_refl _) (λ k inside. lasts_guard _ _ _ _ j (On e) k inside (λ r g _ _ _. subst (OnSince (g + 1)) (sym is) tt) (λ g low _. omega arith)) inv.scarce)
     (copies_guard _ _ j (On e) (not_on c inv j (entering_not_on (c.guard j) x is)) inv.copies)
     inv.unlinked
+    inv.ends
 
 pub leave_keeps : (c : Core) (j : ℕ) → j < c.start.layout.workers → c.cut j ≡ None → c.copying j ≡ None → Inv c → Inv (left c j)
 leave_keeps c j b uncut none inv = frame_guards c _ _ _ _ _ _ _ _ _ _ inv inv.reading
@@ -111,6 +114,7 @@ leave_keeps c j b uncut none inv = frame_guards c _ _ _ _ _ _ _ _ _ _ inv inv.re
     (λ r g row held _. absurd (let o = inv.holders.of_cut j r row held in none_some o.1.0 (sym uncut ∙ o.1.1))) (λ _ _ _. tt)) inv.scarce)
     (copies_guard _ _ j Off (λ _. nowhere_now c.rows c.old c.copying j none) (copies_less _ _ _ less inv.copies))
     (unlinked_less _ _ _ j inv.unlinked)
+    (ends_walk c inv (put c.walk j None) (walks_end c inv j))
   where
     less : (k a : ℕ) → In a (footings (put c.rows j []) (put c.old j None) c.copying k) → In a (footings c.rows c.old c.copying k)
     less = less_nowhere c.rows c.old c.copying j none
@@ -119,7 +123,7 @@ pub scan_keeps : (c : Core) (j k : ℕ) → j < c.start.layout.workers → k < c
 scan_keeps c j k b d inv = let t = c.tick j in let t' : Tick = record { loaded = t.loaded; found = (k, c.words.announced k) ∷ t.found } in frame_guards c _ _ _ _ _ _ _ _ _ _ inv
     (read_tick _ _ _ _ _ j t' (inv.reading.loaded j b) low inv.reading)
     (tick_set _ _ _ _ _ j t' new inv.guards)
-    inv.holders inv.cutting inv.stamps inv.cover inv.standing inv.copying inv.lanes inv.walkers inv.scarce inv.copies inv.unlinked
+    inv.holders inv.cutting inv.stamps inv.cover inv.standing inv.copying inv.lanes inv.walkers inv.scarce inv.copies inv.unlinked inv.ends
   where
     low : (i a : ℕ) → In {A = ℕ × ℕ} (i, a) ((k, c.words.announced k) ∷ (c.tick j).found) → a ≤ c.words.epoch + 1
     low i a h = ⊎_elim (λ (is : (i, a) ≡ (k, c.words.announced k)). subst (λ (z : ℕ). z ≤ c.words.epoch + 1) (sym (ap (λ (z : ℕ × ℕ). z.1) is)) (announced_low c.words.epoch (c.words.announced k) (c.guard k) (inv.guards.each k d)))
@@ -140,7 +144,7 @@ tick_keeps c j x b now limit is off all inv = let n = c.start.layout.workers in 
     (stamps_risen _ _ _ _ _ (subst (λ z. Stamps c.start.layout z c.words.stamp c.ripening c.holding) now inv.stamps))
     inv.cover inv.standing inv.copying inv.lanes inv.walkers
     (scarce_lasts _ _ _ _ _ _ _ _ _ (omega arith) (λ k _. record { shrinks = λ _ _ _ is. is; stays = λ _ _ _ _ is. is }) inv.scarce)
-    inv.copies inv.unlinked
+    inv.copies inv.unlinked inv.ends
   where
     low : (k : ℕ) → k < c.start.layout.workers → OnSince x (c.guard k)
     low k l = dite (ℕ_discrete k j) (λ e. subst (OnSince x) (sym (ap c.guard e ∙ off)) tt)
@@ -151,4 +155,4 @@ pub tick_fails_keeps : (c : Core) (j : ℕ) → j < c.start.layout.workers → I
 tick_fails_keeps c j b inv = let t = new_tick 0 in let e = c.words.epoch in frame_guards c _ _ _ _ _ _ _ _ _ _ inv
     (read_epoch _ _ _ _ _ j e (le_refl e) (read_tick _ _ _ _ _ j t (omega arith) (λ k a h. absurd h) inv.reading))
     (tick_set _ _ _ _ _ j t (λ i a _ h l. no_scan 0 c.guard i a h l) inv.guards)
-    inv.holders inv.cutting inv.stamps inv.cover inv.standing inv.copying inv.lanes inv.walkers inv.scarce inv.copies inv.unlinked
+    inv.holders inv.cutting inv.stamps inv.cover inv.standing inv.copying inv.lanes inv.walkers inv.scarce inv.copies inv.unlinked inv.ends

@@ -1,5 +1,5 @@
 -- A head that is prepared, and one that is frozen, keep the invariant.
-use Rattle.std.proofs.Common.{◌≡◌, ◌⊎◌, ⊎_elim, inl, inr, true, ℕ, ◌+◌, ◌^◌, ◌<◌, ◌≤◌, List, [], ◌∷◌, Some, sym, refl, ap, ◌∙◌, subst, arith}
+use Rattle.std.proofs.Common.{◌≡◌, ◌⊎◌, ⊎_elim, inl, inr, true, ℕ, ◌+◌, ◌^◌, ◌<◌, ◌≤◌, le_refl, List, [], ◌∷◌, Some, sym, refl, ap, ◌∙◌, subst, arith}
 use Rattle.crq_base.specs.declared.event.Event.{Event}
 use Rattle.crq_base.specs.declared.words.Link.{Link}
 use Rattle.crq_base.specs.declared.words.Mark.TheVariants.{Val, Mov}
@@ -19,6 +19,8 @@ use Rattle.crq_rule.specs.Helping.{helped_by, Helps}
 use Rattle.crq_rule.specs.MoveKinds.{prepared_link, frozen_link, head_left, MayPrepare, MayFreezeHead}
 use Rattle.crq_rule.specs.Copies.{Bare}
 use Rattle.crq_rule.specs.Invariant.{Inv}
+use Rattle.crq_rule.proofs.EndLaws.{ends_left, helps_passing}
+use Rattle.crq_rule.proofs.HeadLaws.{below_or_not, present_head, live_generation}
 use Rattle.crq_rule.proofs.SteadyLaws.{found_moving}
 use Rattle.crq_rule.proofs.Puts.{put_all}
 use Rattle.crq_rule.proofs.CoverLaws.{guarded_by, stand_row, row_footing, old_footing, footing_covered}
@@ -53,7 +55,8 @@ module _ (c : Core) (inv : Inv c) where
 
   -- The head q becomes l, with the same first row. It is of its rows' generation, and stays frozen where it has a first row
   module _ (j q : ℕ) (l : Link) (link : IsLink l) (row : l.row ≡ (c.words.head q).row) (low : l.generation ≤ newest now)
-      (generation : (r : ℕ) → In r (c.chain q) → l.generation ≡ (c.words.head q).generation) (frozen : 0 < (c.words.head q).row → (c.words.head q).mark ≡ Mov → l.mark ≡ Mov) where
+      (generation : (r : ℕ) → In r (c.chain q) → l.generation ≡ (c.words.head q).generation) (frozen : 0 < (c.words.head q).row → (c.words.head q).mark ≡ Mov → l.mark ≡ Mov)
+      (risen : (c.words.head q).generation ≤ l.generation) (still : IsOldHead now c.shape q → (c.words.head q).mark ≡ Mov → l.mark ≡ Mov) where
     abbrev heads : ℕ → Link
     heads = put c.words.head q l
 
@@ -103,21 +106,31 @@ module _ (c : Core) (inv : Inv c) where
         })
         helps_part
         bare_part
+        (ends_left c inv heads (put c.help j (helped_by (c.found j).control j (at_head q) l (c.help j)))
+        (λ p _. put_all c.words.head q l (λ p m. (c.words.head p).generation ≤ m.generation) risen (λ p _. le_refl _) p)
+        (λ p _. put_all c.words.head q l (λ p m. IsOldHead now c.shape p → (c.words.head p).mark ≡ Mov → m.mark ≡ Mov) still (λ p _ _ m. m) p)
+        (helps_passing c inv j (at_head q) l))
 
 -- Prepare
 
 module _ (c : Core) (j : ℕ) (x : Control) (q : ℕ) (l : Link) (b : j < c.start.layout.workers) (may : MayPrepare x q l (caller_of c j)) (found : c.words.head q ≡ l) (inv : Inv c) where
+  prepare_head : IsHead q
+  prepare_head = head_in_bank (x.generation + 1) (next_of x) q (inv.finds.controls j x b may.control).spelled.new_log may.head
+
+  -- the move goes on: its heads would be opened else
   prepare_is : x ≡ c.words.control
-  prepare_is = found_moving c inv j x b may.control may.moving
+  prepare_is = let fits = inv.finds.controls j x b may.control in ⊎_elim
+      (λ (past : x.generation < c.words.control.generation).
+      let low = fits.first in let older = may.older in let same = ap (λ (z : Link). z.generation) found in
+      let high = inv.ends.opened (x.generation + 1) q prepare_head (omega arith) (omega arith) (subst (λ s. IsHeadIn (x.generation + 1) s q) (sym (fits.next may.moving)) may.head) in absurd (omega arith))
+      (λ (now : c.words.control.generation ≤ x.generation). let low = fits.low in found_moving c inv j x b may.control may.moving (omega arith))
+      (below_or_not x.generation c.words.control.generation)
 
   prepare_moves : c.words.control.moving ≡ true
   prepare_moves = ap (λ (z : Control). z.moving) (sym prepare_is) ∙ may.moving
 
   prepare_new : IsNewHead c.words.control c.shape q
   prepare_new = (prepare_moves, subst (λ s. IsHeadIn (c.words.control.generation + 1) s q) (sym (inv.sizes.now.next prepare_moves)) (subst (λ (z : Control). IsHeadIn (z.generation + 1) (next_of z) q) prepare_is may.head))
-
-  prepare_head : IsHead q
-  prepare_head = head_in_bank (x.generation + 1) (next_of x) q (inv.finds.controls j x b may.control).spelled.new_log may.head
 
   -- the head was shut
   prepare_shut : IsShut c.words.control.generation q (c.words.head q)
@@ -165,6 +178,8 @@ module _ (c : Core) (j : ℕ) (x : Control) (q : ℕ) (l : Link) (b : j < c.star
       (let is = prepare_newest in let g = prepare_generation in omega arith)
       (λ r i. absurd (prepare_empty r i))
       (λ some _. absurd (let none = prepare_shut.empty in omega arith))
+      (let older = prepare_shut.older in let g = prepare_generation in omega arith)
+      (λ o _. absurd (heads_apart c inv q o prepare_new))
       prepare_heads
       (helps_prepared c.start c.words.control c.shape c.words.current c.found c.sight inv.sizes.now inv.finds c.help c.words.head j q (prepared_link x) prepare_shut prepare_new (prepare_generation, refl) (λ o. heads_apart c inv q o prepare_new) inv.helps)
       prepare_bare
@@ -172,20 +187,22 @@ module _ (c : Core) (j : ℕ) (x : Control) (q : ℕ) (l : Link) (b : j < c.star
 -- FreezeHead
 
 module _ (c : Core) (j : ℕ) (x : Control) (q : ℕ) (l : Link) (b : j < c.start.layout.workers) (may : MayFreezeHead x q l (caller_of c j)) (found : c.words.head q ≡ l) (inv : Inv c) where
+  freeze_head : IsHead q
+  freeze_head = head_in_bank x.generation (shape_of x) q (inv.finds.controls j x b may.control).spelled.log may.head
+
+  freeze_val : (c.words.head q).mark ≡ Val
+  freeze_val = ap (λ (z : Link). z.mark) found ∙ may.present
+
+  -- the move goes on, since the head is present
   freeze_is : x ≡ c.words.control
-  freeze_is = found_moving c inv j x b may.control may.moving
+  freeze_is = let heads = inv.heads in let live = live_generation c.words.control c.shape c.words.head heads q freeze_head (present_head c.words.control c.shape c.words.head heads q freeze_head freeze_val) in
+      let same = ap (λ (z : Link). z.generation) found in let of = may.now in let low = (inv.finds.controls j x b may.control).low in found_moving c inv j x b may.control may.moving (omega arith)
 
   freeze_moves : c.words.control.moving ≡ true
   freeze_moves = ap (λ (z : Control). z.moving) (sym freeze_is) ∙ may.moving
 
   freeze_old : IsOldHead c.words.control c.shape q
   freeze_old = subst (λ s. IsHeadIn c.words.control.generation s q) (sym inv.sizes.now.size) (subst (λ (z : Control). IsHeadIn z.generation (shape_of z) q) freeze_is may.head)
-
-  freeze_head : IsHead q
-  freeze_head = head_in_bank x.generation (shape_of x) q (inv.finds.controls j x b may.control).spelled.log may.head
-
-  freeze_val : (c.words.head q).mark ≡ Val
-  freeze_val = ap (λ (z : Link). z.mark) found ∙ may.present
 
   freeze_generation : l.generation ≡ c.words.control.generation
   freeze_generation = may.now ∙ ap (λ (z : Control). z.generation) freeze_is
@@ -226,6 +243,8 @@ module _ (c : Core) (j : ℕ) (x : Control) (q : ℕ) (l : Link) (b : j < c.star
       (ap (λ (z : Link). z.row) (sym found))
       (subst (λ (z : Link). z.generation ≤ newest c.words.control) found (inv.sizes.heads q freeze_head))
       (λ _ _. ap (λ (z : Link). z.generation) (sym found))
+      (λ _ _. refl)
+      (let same = ap (λ (z : Link). z.generation) found in omega arith)
       (λ _ _. refl)
       freeze_heads
       (helps_frozen c.start c.words.control c.shape c.words.current c.found c.sight inv.sizes.now inv.finds c.help c.words.head j q (frozen_link l) freeze_val (λ n. heads_apart c inv q freeze_old n) refl inv.helps)

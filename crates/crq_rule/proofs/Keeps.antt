@@ -12,14 +12,14 @@ use Rattle.crq_rule.specs.declared.view.Sweep.{Sweep}
 use Rattle.crq_rule.specs.declared.view.Help.{Help}
 use Rattle.crq_rule.specs.declared.view.Caller.{Caller}
 use Rattle.crq_rule.specs.Lists.{put, without}
-use Rattle.crq_rule.specs.Places.{Words, Place, epoch, announced, control, current, head, link as link_place, stamp, twin, time, source, sequence, load, word_of}
+use Rattle.crq_rule.specs.Places.{Words, Place, epoch, announced, control, current, pin as pin_place, head, link as link_place, stamp, twin, time, source, sequence, load, word_of}
 use Rattle.crq_rule.specs.Core.{Core, DeadNames, caller_of, owed_by}
 use Rattle.crq_rule.specs.Invariant.{Inv}
 use Rattle.crq_rule.specs.ScarceParts.{pending}
 use Rattle.crq_rule.specs.Kinds.{tagged, new_base, new_tick, seen_stamp, base_looked, refused_after}
 use Rattle.crq_rule.specs.Ranks.{Cell, at_head, at_row, cell_place, link_at, list_in, heads_set, links_set}
 use Rattle.crq_rule.specs.ListKinds.{Aim, Content, new_link, no_twin, new_time, new_source, new_sequence, new_load, content_number, content_word, row_place, wrote, link_after, twin_after, event_after, owed_event, name_in, unhanded, forgotten, without_stand, stands_after, walk_after, taken_on, sweep_on, clean_on, relieved_names, unnamed_row, noted, control_loaded, cut_from}
-use Rattle.crq_rule.specs.Steps.{Kind, split, join, epoch_load, recovery_load, enter, confirm, leave, scan, tick, tick_fails, retire, look, claim, write, read, walk, link, link_fails, control_load, current_load, raise, raise_fails, settle_now, settle_later, settle, settle_fails, begin, mark, mark_fails, cut, cut_fails, miss, announce, announce_fails, prepare, prepare_fails, freeze_head, freeze_head_fails, freeze_row, freeze_row_fails, pop, pop_fails, twin_load, twin_reload, copy, copy_fails, copy_load, bind, bind_fails, validate, validate_fails, discard_copy, discard_front, discard_fails, May, After, place_of, entries_of}
+use Rattle.crq_rule.specs.Steps.{Kind, split, join, epoch_load, recovery_load, enter, confirm, leave, scan, tick, tick_fails, retire, look, claim, write, read, walk, link, link_fails, control_load, current_load, raise, raise_fails, settle_now, settle_later, settle, settle_fails, begin, mark, mark_fails, cut, cut_fails, miss, announce, announce_fails, prepare, prepare_fails, freeze_head, freeze_head_fails, freeze_row, freeze_row_fails, pop, pop_fails, twin_load, twin_reload, copy, copy_fails, copy_load, bind, bind_fails, validate, validate_fails, discard_copy, discard_front, discard_fails, load_for_pin, pin_load, pin, pin_fails, pass, pass_fails, finish, finish_fails, May, After, place_of, entries_of}
 use Rattle.crq_rule.proofs.Puts.{put_else, put_through}
 use Rattle.crq_rule.proofs.GuardLaws.{load_keeps, recovery_keeps, enter_keeps, confirm_keeps, leave_keeps, scan_keeps, tick_keeps, tick_fails_keeps}
 use Rattle.crq_rule.proofs.RowLaws.{retire_keeps, look_keeps, claim_keeps}
@@ -46,6 +46,9 @@ use Rattle.crq_rule.proofs.CopyingLaws.{copy_keeps}
 use Rattle.crq_rule.proofs.BindLaws.{bind_keeps}
 use Rattle.crq_rule.proofs.ValidateLaws.{validate_keeps}
 use Rattle.crq_rule.proofs.DiscardLaws.{drop_keeps, discard_keeps}
+use Rattle.crq_rule.specs.PinKinds.{epoch_known, pin_known}
+use Rattle.crq_rule.proofs.PinLaws.{for_pin_keeps, pin_load_keeps, pin_keeps, pass_keeps}
+use Rattle.crq_rule.proofs.FinishLaws.{finish_keeps}
 
 pub keeps : (k : Kind) (c : Core) (j : ℕ) → j < c.start.layout.workers → May k c j → Inv c → Inv (After k c j)
 keeps split c j b may inv = inv
@@ -102,6 +105,14 @@ keeps (validate_fails t) c j b may inv = inv
 keeps (discard_copy d l) c j b may inv = drop_keeps c j d l b may.0 may.1 inv
 keeps (discard_front q r e l) c j b may inv = discard_keeps c j q r e l b may.0 may.1 inv
 keeps (discard_fails r) c j b may inv = inv
+keeps (load_for_pin x h) c j b may inv = for_pin_keeps c j x h b may inv
+keeps pin_load c j b may inv = pin_load_keeps c j b inv
+keeps (pin x h m n) c j b may inv = pin_keeps c j x h m n b may.0 may.1 inv
+keeps pin_fails c j b may inv = inv
+keeps (pass x h n y) c j b may inv = pass_keeps c j x h n y b may.0 may.1 inv
+keeps pass_fails c j b may inv = inv
+keeps (finish x h n y) c j b may inv = finish_keeps c j x h n y b may.0 may.1 inv
+keeps finish_fails c j b may inv = inv
 
 -- what a walk changes
 abbrev new_walk : Core → ℕ → Cell → Aim → Option Walk
@@ -279,6 +290,21 @@ others_stay (validate_fails t) c j i ne = refl
 others_stay (discard_copy d l) c j i ne = others_discarded c j d.copy l (lost_name d) None i ne
 others_stay (discard_front q r e l) c j i ne = others_discarded c j r l (front_name q r e l) (c.copying j) i ne
 others_stay (discard_fails r) c j i ne = refl
+others_stay (load_for_pin x h) c j i ne = (λ y. record (caller_of c i) {
+  found = put_else c.found j (record (c.found j) { current = Some c.words.current }) i ne y;
+  permit = put_else c.permit j (permit_after c.words.current (c.permit j)) i ne y;
+  told = put_else c.told j (told_after c.start c.words.current (c.told j)) i ne y;
+  sight = put_else c.sight j None i ne y;
+  walk = put_else c.walk j None i ne y;
+  help = put_else c.help j (epoch_known c.words.current (c.help j)) i ne y;
+})
+others_stay pin_load c j i ne = λ y. record (caller_of c i) { help = put_else c.help j (pin_known c.words.pin (c.help j)) i ne y }
+others_stay (pin x h m n) c j i ne = refl
+others_stay pin_fails c j i ne = refl
+others_stay (pass x h n y) c j i ne = refl
+others_stay pass_fails c j i ne = refl
+others_stay (finish x h n y) c j i ne = refl
+others_stay finish_fails c j i ne = refl
 
 -- a link that is set at a cell stands at no other place
 cell_stays : (w : Words) (cell : Cell) (l : Link) (p : Place) → p ≢ cell_place cell → word_of (record w { head = heads_set w.head cell l; link = links_set w.link cell l }) p ≡ word_of w p
@@ -369,6 +395,9 @@ words_stay (bind d) c j (twin s) ne = put_else c.words.twin d.old d.copy s (λ q
 words_stay (validate t l) c j (link_place s) ne = ap link_word (put_else c.words.link t (valid_link l) s (λ q. ne (ap link_place q)))
 words_stay (discard_copy d l) c j (link_place s) ne = ap link_word (put_else c.words.link d.copy (dead_link l) s (λ q. ne (ap link_place q)))
 words_stay (discard_front q r e l) c j (link_place s) ne = ap link_word (put_else c.words.link r (dead_link l) s (λ q. ne (ap link_place q)))
+words_stay (pin x h m n) c j pin_place ne = absurd (ne refl)
+words_stay (pass x h n y) c j current ne = absurd (ne refl)
+words_stay (finish x h n y) c j control ne = absurd (ne refl)
 words_stay k c j p ne = refl
 
 -- the history grows by the step's entries

@@ -1,7 +1,7 @@
 -- What the invariant says of what one caller knows alone.
-use Rattle.std.proofs.Common.{⊎_elim, ◌≡◌, ◌∙◌, true, ℕ, ◌+◌, ◌^◌, ◌<◌, Some, sym, refl, ap, subst, arith}
-use Rattle.std.proofs.lemmas.Bool.{false≢true}
+use Rattle.std.proofs.Common.{◌≤◌, ⊎_elim, ◌≡◌, ◌∙◌, true, ℕ, ◌+◌, ◌^◌, ◌<◌, Some, sym, refl, ap, subst, arith}
 use Rattle.crq_base.specs.declared.words.Control.{Control}
+use Rattle.crq_base.specs.declared.words.Pin.{Pin}
 use mathlib.Core.Logic.{dite}
 use native.Mathlib.Decide.{ℕ_discrete}
 use Rattle.crq_base.specs.Words.{IsLink, flag_number}
@@ -15,9 +15,10 @@ use Rattle.crq_rule.specs.Parts.{newest, ground_of, Covers, IsEvent, IsOn}
 use Rattle.crq_rule.specs.Invariant.{Inv}
 use Rattle.crq_rule.specs.declared.debts.CopyDebt.{CopyDebt}
 use Rattle.crq_rule.specs.Moves.{CopyKnown, Lawful}
+use Rattle.crq_rule.proofs.HeadLaws.{below_or_not}
 use Rattle.crq_rule.proofs.BoundLaws.{permitted}
 use Rattle.crq_rule.proofs.CoverLaws.{guarded_by, stand_row, row_footing, copy_footing, footing_covered}
-use Rattle.crq_rule.proofs.SteadyLaws.{steady_still, found_generation, found_told, found_still, named_told, one_named}
+use Rattle.crq_rule.proofs.SteadyLaws.{found_now, found_told, found_still, still_name, one_named}
 use Rattle.crq_rule.proofs.CopyLaws.{debt_guarded}
 use Rattle.crq_rule.proofs.ScarceLaws.{rows_counted}
 
@@ -58,8 +59,7 @@ lawful c j b inv = record {
   owed_at = λ d x has is told. (inv.dues.named j d b has).1 ∙ found_told c inv j x b is d.generation told d.event;
   owed_fits = λ d has. let n = inv.naming.place j d b has in (n.row, n.event);
   ordered = inv.rooms.ordered j b;
-  owed_now = λ d x no_move has is. ⊎_elim (λ now. now ∙ sym (found_generation c inv j x b is))
-      (λ (h : (c.words.control.moving ≡ true) × (d.generation ≡ c.words.control.generation + 1)). absurd (false≢true (sym (steady_still c inv no_move) ∙ h.0))) (named_told c inv j d b has);
+  owed_now = λ d x no_move has is. still_name c inv no_move j d b has ∙ sym (found_now c inv no_move j x b is);
   one_name = λ no_move. one_named c inv no_move j b;
   copying = copy_known;
   owing = λ d owes. let fits = inv.dues.settles j d b owes in (fits.event, fits.width, inv.bounds.owed j d b owes);
@@ -67,7 +67,14 @@ lawful c j b inv = record {
   sighted = λ s is. let f = inv.finds.sights j s b is in (f.0.spelled, f.1);
   controlled = λ x is. ((inv.finds.controls j x b is).spelled, found_still c inv j x b is);
   helping = λ h is. let f = inv.helps.finds j h b is in (f.0, f.1, f.2, moving_room c j f.0 inv b f.1 f.2.moving);
-  permitted = λ x has found. let left = permitted _ _ _ _ _ _ j b has inv.bounds in ⊎_elim (λ low. omega arith) (λ same. let e = same.0 in omega arith) (inv.finds.currents j x b found);
+  loaded = λ h n is loads. let low = inv.ends.loaded j h n b is loads in let top = inv.spelled.is_current.epoch in omega arith;
+  pinned = λ h n is has. let known = inv.ends.pins j h n b is has in let f = inv.helps.finds j h b is in let fits = inv.finds.controls j f.0 b f.1 in let low = fits.low in let of = f.2.same in let left = inv.bounds.left in ⊎_elim
+      (λ (less : h.generation < c.words.control.generation). let past = known.past less in omega arith)
+      (λ (top : c.words.control.generation ≤ h.generation). let here : h.generation ≡ c.words.control.generation = omega arith in let now = known.now here in
+      let named : c.words.pin.generation ≡ c.words.control.generation + 1 = ap (λ (z : Pin). z.generation) (sym now) ∙ (known.next ∙ ap (λ a. a + 1) here) in
+      let sealed = (inv.ends.pinned named).low in let e = ap (λ (z : Pin). z.epoch) now in omega arith)
+      (below_or_not h.generation c.words.control.generation);
+  permitted = λ x has found. let left = permitted _ _ _ _ _ _ _ j b has inv.bounds in ⊎_elim (λ low. omega arith) (λ same. let e = same.0 in omega arith) (inv.finds.currents j x b found);
 }
   where
     row_of : (s : Stand) → In s (c.rows j) → IsRow c.start.layout s.row

@@ -6,6 +6,7 @@ pub mod CoverLaws
 pub mod StandLaws
 pub mod HeadLaws
 pub mod HelpLaws
+pub mod EndLaws
 pub mod NameLaws
 pub mod Prefixes
 pub mod WalkerLaws
@@ -43,6 +44,8 @@ pub mod MoveFrames
 pub mod BucketLaws
 pub mod BoundLaws
 pub mod CurrentLaws
+pub mod PinLaws
+pub mod FinishLaws
 pub mod RaiseLaws
 pub mod SettleLaws
 pub mod AheadLaws
@@ -60,12 +63,14 @@ pub mod ListSteps
 pub mod CopySteps
 pub mod CurrentSteps
 pub mod MoveSteps
+pub mod EndSteps
 pub mod Openings
 pub mod Stating
 pub mod StatingLists
 pub mod StatingScarcity
 pub mod StatingHelpers
 pub mod StatingCopies
+pub mod StatingEnd
 pub mod Witnessing
 pub mod RaiseWitness
 pub mod MoveWitness

@@ -14,6 +14,7 @@ use Rattle.crq_base.specs.Words.{IsLink, flag_number}
 use Rattle.crq_base.specs.Histories.{puts}
 use Rattle.crq_base.proofs.WordLaws.{link_one}
 use Rattle.crq_base.specs.Lists.{In, IsOnce}
+use Rattle.crq_rule.specs.Ending.{Ends}
 use Rattle.crq_rule.specs.declared.view.Guard.{Guard}
 use Rattle.crq_rule.specs.declared.view.Guard.TheVariants.{Off, Entering, On}
 use Rattle.crq_rule.specs.declared.view.CutRow.{CutRow}
@@ -27,9 +28,10 @@ use Rattle.crq_rule.specs.Parts.{Spelled, IsEvent, Holders, Stamps, stamp_of, Ch
 use Rattle.crq_rule.specs.ListParts.{ranks, DueFits, Dues, IsShut, IsPrepared, IsOldHead, IsNewHead, Heads, Sizes, Sorted, MarkFits, Marks, IsFinal, StandFits, Standing, Copying, Lanes, row_word, Writing, IsNamed, Naming}
 use Rattle.crq_rule.specs.HistoryParts.{IsCarrying, IsLive, Carriers, StandsFrom, Walkers}
 use Rattle.crq_rule.specs.Ranks.{rank, Shape, list_in, head_of, IsTold, Cell, at_head, at_row, link_at, heads_set, links_set, Rises, after_cell}
-use Rattle.crq_rule.specs.Invariant.{present_of, takes_of, rows_of_core, Inv}
+use Rattle.crq_rule.specs.Invariant.{present_of, takes_of, rows_of_core, Inv, ending_of}
 use Rattle.crq_rule.specs.Steady.{Steady}
 use Rattle.crq_rule.specs.Copies.{Bare}
+use Rattle.crq_rule.proofs.EndLaws.{ends_heads, same_walks}
 use Rattle.crq_rule.proofs.CopyRows.{Relinked, copies_relinked, copies_in, bare_put}
 use Rattle.crq_rule.specs.ListKinds.{is_cell, unhanded, forgotten, owed_event, linked, StandsOn, IsWritten, ComesAfter, ComesBefore, MayLink}
 use Rattle.crq_rule.proofs.Puts.{put_here, put_else, put_all}
@@ -37,12 +39,12 @@ use Rattle.crq_rule.proofs.PartLaws.{home_is_row, one_home, sort, of_whom, apart
 use Rattle.crq_rule.specs.declared.debts.CutDebt.{CutDebt}
 use Rattle.crq_rule.specs.declared.debts.SettleDebt.{SettleDebt}
 use Rattle.std.proofs.lemmas.Option.{same_Some}
-use Rattle.crq_rule.proofs.HeadLaws.{cell_final, cell_frozen, cell_dead, cell_listed, val_carries, heads_rows}
+use Rattle.crq_rule.proofs.HeadLaws.{cell_final, cell_frozen, cell_dead, cell_listed, val_carries, heads_rows, head_mark, present_head, live_generation}
 use Rattle.crq_rule.proofs.SizeLaws.{fitting_list, sizes_rows}
 use Rattle.crq_rule.specs.Helping.{Helps}
 use Rattle.crq_rule.proofs.HelpLaws.{helps_heads}
-use Rattle.crq_rule.proofs.SteadyLaws.{found_generation, steady_rows}
-use Rattle.crq_rule.proofs.CoverLaws.{stand_row, row_footing}
+use Rattle.crq_rule.proofs.SteadyLaws.{steady_rows, told_high, held_told, still_told}
+use Rattle.crq_rule.proofs.CoverLaws.{stand_row, row_footing, footing_covered}
 use Rattle.crq_rule.proofs.HistoryLaws.{fresh_put, told_put, settling_put, settled_put, pending_put, put_pending, not_out}
 use Rattle.crq_rule.proofs.BoundLaws.{numbers_grown, bounds_grown, bounds_owed}
 use Rattle.crq_rule.proofs.WalkerLaws.{new_put, walkers_grown, walkers_owing, walkers_links}
@@ -235,13 +237,26 @@ known_by c j list cell l r e m b on hand fits spelled open_is told lists own w a
           inr (subst (λ (z : Event × Event). rank z.0 r < rank z.1 l.row) (λ i. (sym event i, sym holds i)) h.2)) before;
     }
 
+-- a cell that may be followed by another row is a present head or a listed row, and so it is of no earlier table than the open one
+pub cell_high : (c : Core) (j : ℕ) (list : Event → ℕ) (cell : Cell) (r : ℕ) (e : Event) → j < c.start.layout.workers → is_cell (link_at c.words.head c.words.link cell).mark ≡ true → ComesAfter list (c.rows j) cell r e → Inv c
+    → c.words.control.generation ≤ (link_at c.words.head c.words.link cell).generation
+cell_high c j list (at_head h) r e b mark after inv = live_generation c.words.control c.shape c.words.head inv.heads h after.0 (present_head c.words.control c.shape c.words.head inv.heads h after.0
+    (⊎_elim (λ val. val) (λ frozen. absurd (cell_frozen (c.words.head h).mark mark frozen)) (head_mark c.words.control c.shape c.words.head inv.heads h after.0)))
+cell_high c j list (at_row p) r e b mark after inv = let s = after.1 in
+    let v = footing_covered (ground_of c) c.cut c.holding inv.cover j p b (subst (λ z. In z (footings c.rows c.old c.copying j)) s.2 (row_footing c.rows c.old c.copying j s.0.row (stand_row (c.rows j) s.0 s.1))) in
+    let row = inv.lanes.is_row p (j, v.0, v.1) in
+    let lists = cell_listed (c.holding p) (c.words.link p).mark mark (λ k h. inv.cover.free j v.0 p k v.1 h) (inv.marks.mark p row) in
+    told_high c.words.control (c.words.link p).generation (held_told c inv lists.0 p row lists.1)
+
 -- a link that was expected is of the open table
-open_now : (c : Core) (j : ℕ) (x : Control) (cell : Cell) (l : Link) (r : ℕ) (e : Event) → j < c.start.layout.workers → MayLink c.start.layout.workers x cell l r e (caller_of c j) → Inv c → l.generation ≡ c.words.control.generation
-open_now c j x cell l r e b may inv = may.expected.2 ∙ found_generation c inv j x b may.control
+open_now : (c : Core) (j : ℕ) (x : Control) (cell : Cell) (l : Link) (r : ℕ) (e : Event) → j < c.start.layout.workers → MayLink c.start.layout.workers x cell l r e (caller_of c j) → link_at c.words.head c.words.link cell ≡ l → Inv c
+    → l.generation ≡ c.words.control.generation
+open_now c j x cell l r e b may is inv = let low = (inv.finds.controls j x b may.control).low in let same = may.expected.2 in let of = ap (λ (y : Link). y.generation) is in
+    let high = cell_high c j (head_of x) cell r e b (ap (λ (y : Link). is_cell y.mark) is ∙ may.expected.1) may.after inv in omega arith
 
 known : (c : Core) (j : ℕ) (x : Control) (cell : Cell) (l : Link) (r : ℕ) (e : Event) → j < c.start.layout.workers → MayLink c.start.layout.workers x cell l r e (caller_of c j) → link_at c.words.head c.words.link cell ≡ l → Inv c
     → Linking c j cell l r (list_in c.shape l.generation e) e Val
-known c j x cell l r e b may is inv = known_by c j (head_of x) cell l r e Val b may.on may.in_hand_is may.event may.expected.0 may.expected.1 (inl (open_now c j x cell l r e b may inv))
+known c j x cell l r e b may is inv = known_by c j (head_of x) cell l r e Val b may.on may.in_hand_is may.event may.expected.0 may.expected.1 (inl (open_now c j x cell l r e b may is inv))
     (λ f. ap (λ g. list_in c.shape g f) may.expected.2 ∙ fitting_list c.start c.words.control c.shape x (inv.finds.controls j x b may.control) f) refl may.written may.after may.before is inv
 
 -- the debt of the event is of the open table
@@ -430,6 +445,9 @@ module _ (c : Core) (j : ℕ) (cell : Cell) (l : Link) (r : ℕ) (e : Event) (m 
     pub helps_after : Helps c.start.layout.workers c.words.control head' c.found c.help
     helps_after = helps_heads _ _ _ _ _ _ inv.sizes.now inv.finds _ _ head' (λ h. (same_head h, heads_same (λ (y : Link). y.mark) cell c.words.head c.words.link new h (ap (λ (y : Link). y.mark) (sym f.cell_is)))) (λ h frozen empty. ap (λ (y : Link). y.row) (frozen_stays cell f.cell_is h frozen) ∙ empty) inv.helps
 
+    pub ends_after : Ends (record (ending_of c) { head = head' })
+    ends_after = ends_heads c inv head' c.walk (λ h. (same_head h, heads_same (λ (y : Link). y.mark) cell c.words.head c.words.link new h (ap (λ (y : Link). y.mark) (sym f.cell_is)))) (same_walks c inv)
+
     -- the link found is of the list's generation
     pub generation_is : (cell : Cell) → link_at c.words.head c.words.link cell ≡ l → IsOf cell q (c.chain q) → l.generation ≡ (c.words.head q).generation
     generation_is (at_head h) is of = ap (λ (y : Link). y.generation) (sym is ∙ ap c.words.head of)
@@ -583,14 +601,14 @@ module _ (c : Core) (j : ℕ) (cell : Cell) (l : Link) (r : ℕ) (e : Event) (m 
         (λ h. inl (h, same_generation s)) (was_outside s out)) inv.sizes
 
     pub steady_after : Steady c.start c.words.control link' holding' c.named
-    steady_after = steady_rows _ _ _ _ _ _ _ (λ s b out. ⊎_elim (λ (z : s ≡ r). inr (subst (λ y. IsTold c.words.control (link' y).generation) (sym z) new_told)) (λ h. inl (h, same_generation s)) (was_outside s out)) inv.steady
+    steady_after = steady_rows _ _ _ _ _ _ _ (λ s b out. ⊎_elim (λ (z : s ≡ r). inr (λ no_move. still_told c inv no_move (link' s).generation (subst (λ y. IsTold c.words.control (link' y).generation) (sym z) new_told))) (λ h. inl (h, same_generation s)) (was_outside s out)) inv.steady
 
     -- links change in the rows that they name
     pub relinked_after : Relinked c.words.link link'
     relinked_after = record { mark = same_mark; generation = same_generation; final = link_last cell f.cell_is }
 
     -- the list q is none of the table that control moves into, if the link found is of the open one
-    no_new : l.generation ≡ c.words.control.generation → IsNewHead c.words.control c.shape q → ⊥
+    pub no_new : l.generation ≡ c.words.control.generation → IsNewHead c.words.control c.shape q → ⊥
     no_new now new = let same : (c.words.head q).generation ≡ c.words.control.generation = sym (generation_is cell f.cell_is f.of) ∙ now in
         ⊎_elim (λ (p : IsPrepared (c.words.control.generation + 1) (c.words.head q)). let g = p.0 in omega arith) (λ (s : IsShut c.words.control.generation q (c.words.head q)). let g = s.older in omega arith) (inv.heads.new q f.is_head new)
 
@@ -665,7 +683,7 @@ no_begin j e k i = ⊎_elim (λ (q : Begin k ≡ Put j e). cc) (λ n. n) i
 
 -- Link keeps the invariant
 pub link_keeps : (c : Core) (j : ℕ) (cell : Cell) (l : Link) (r : ℕ) (e : Event) → j < c.start.layout.workers → ((x : Control) × MayLink c.start.layout.workers x cell l r e (caller_of c j)) → link_at c.words.head c.words.link cell ≡ l → Inv c → Inv (linked c j cell l r e)
-link_keeps c j cell l r e b (x, may) is inv = let f = known c j x cell l r e b may is inv in let now = open_now c j x cell l r e b may inv in record {
+link_keeps c j cell l r e b (x, may) is inv = let f = known c j x cell l r e b may is inv in let now = open_now c j x cell l r e b may is inv in record {
   spelled = spelled_after c j cell l r e Val f inv;
   reading = inv.reading;
   finds = inv.finds;
@@ -690,7 +708,7 @@ link_keeps c j cell l r e b (x, may) is inv = let f = known c j x cell l r e b m
   carriers = carriers_after c j cell l r e Val f inv refl (fresh_put c.start.layout.workers c.history c.deal c.own c.begun j e b may.fresh inv.told);
   told = told_put c.start.layout.workers c.history c.deal c.own c.begun j e b may.fresh inv.told;
   numbers = numbers_grown _ _ _ (Put j e ∷ []) inv.numbers;
-  bounds = bounds_owed _ _ _ _ _ _ j (due c j cell l r e Val) may.permit (bounds_grown _ _ _ _ _ _ (Put j e ∷ []) refl inv.bounds);
+  bounds = bounds_owed _ _ _ _ _ _ _ j (due c j cell l r e Val) may.permit (bounds_grown _ _ _ _ _ _ _ (Put j e ∷ []) refl inv.bounds);
   settling = let new = fresh_put c.start.layout.workers c.history c.deal c.own c.begun j e b may.fresh inv.told in settling_put _ _ _ j (due c j cell l r e Val) b may.settled new inv.settling (λ s. new (settled_put c.history inv.told.legal e s));
   walkers = walkers_after c j cell l r e Val f inv now (fresh_put c.start.layout.workers c.history c.deal c.own c.begun j e b may.fresh inv.told);
   ahead = ahead_grown c.history (Put j e ∷ []) c.words.current refl inv.ahead;
@@ -706,4 +724,5 @@ link_keeps c j cell l r e b (x, may) is inv = let f = known c j x cell l r e b m
   rooms = inv.rooms;
   bare = bare_after c j cell l r e Val f inv (λ _ _ _ _ _ new. no_new c j cell l r e Val f inv now new);
   unlinked = record { each = λ k s b is w. inv.unlinked.each k s b is (was_before c.history (Put j e ∷ []) k s.event (no_begin j e k) w) };
+  ends = ends_after c j cell l r e Val f inv;
 }

@@ -15,15 +15,17 @@ use Rattle.crq_rule.specs.declared.view.Guard.TheVariants.{Off, On}
 use Rattle.crq_rule.specs.declared.view.Stand.{Stand}
 use Rattle.crq_rule.specs.declared.view.Sight.{Sight}
 use Rattle.crq_rule.specs.declared.view.Walk.{Walk}
+use Rattle.crq_rule.specs.declared.view.Help.{Help}
 use Rattle.crq_rule.specs.Core.{in_hand, listed}
-use Rattle.crq_rule.specs.Ranks.{first_head_of, IsOpen}
+use Rattle.crq_rule.specs.Ranks.{first_head_of, shape_of, IsHeadIn, IsOpen}
 use Rattle.crq_rule.specs.Parts.{ground_of, Fits}
 use Rattle.crq_rule.specs.Steady.{Steady}
 use Rattle.crq_rule.specs.ListParts.{Sizes, Dues, Heads, Sorted, Marks, Standing, Copying, Lanes, Writing, Naming, IsShut}
 use Rattle.crq_rule.specs.HistoryParts.{Carriers, Told, Settling, Walkers, IsLive}
 use Rattle.crq_rule.specs.Ahead.{Ahead}
 use Rattle.crq_rule.specs.Copies.{Copies, Rooms, Bare, Unlinked}
-use Rattle.crq_rule.specs.Invariant.{present_of, takes_of, rows_of_core}
+use Rattle.crq_rule.specs.Ending.{Ends}
+use Rattle.crq_rule.specs.Invariant.{present_of, takes_of, rows_of_core, ending_of}
 use Rattle.crq_rule.specs.Opening.{home_of, opening_log, opening_core, opening_head, open_head, shut_head}
 use Rattle.crq_rule.proofs.PartLaws.{sort}
 
@@ -32,6 +34,9 @@ hand_listed j q e = let z : ◌≡◌ {A = ℕ} 0 1 = ap sort e in absurd (omega
 
 pub off_on : (g : ℕ) → Off ≡ On g → ⊥
 off_on g e = cc
+
+no_helper : (h : Help) → None ≡ Some h → ⊥
+no_helper h e = cc
 
 pub no_walk : (w : Walk) → None ≡ Some w → ⊥
 no_walk w e = cc
@@ -123,7 +128,7 @@ module _ (s : Start) (first : IsFirst s.first) where
   opening_dues = record { settles = λ k d _ is. absurd (no_settle d is); copies = λ k d _ is. absurd (no_copy d is); named = λ k d _ has. absurd (no_name d has) }
 
   pub opening_steady : Steady s (opening_core s).words.control (opening_core s).words.link (opening_core s).holding (opening_core s).named
-  opening_steady = record { still = λ _. refl; first = refl; rows = λ r _ out. absurd (out (home_of s.layout r) refl); named = λ k d _ has. absurd (no_name d has); single = λ _ _ _. refl }
+  opening_steady = record { still = λ _. refl; first = λ _. refl; rows = λ r _ _ out. absurd (out (home_of s.layout r) refl); named = λ k d _ _ has. absurd (no_name d has); single = λ _ _ _. refl }
 
   pub opening_copies : Copies (rows_of_core (opening_core s)) (ground_of (opening_core s))
   opening_copies = record {
@@ -144,6 +149,19 @@ module _ (s : Start) (first : IsFirst s.first) where
 
   pub opening_unlinked : Unlinked s.layout.workers (opening_core s).history (opening_core s).old
   opening_unlinked = record { each = λ k t _ is. absurd (no_old t is) }
+
+  pub opening_ends : Ends (ending_of (opening_core s))
+  opening_ends = record {
+    opened = λ g q _ low high is. let same : g ≡ s.first.generation = omega arith in let here = ap (λ (l : Link). l.generation) (opened q (subst (λ n. IsHeadIn n (shape_of (opening_core s).words.control) q) same is)) in omega arith;
+    loaded = λ k h n _ is. absurd (no_helper h is);
+    sealed = λ k h n _ is. absurd (no_helper h is);
+    low = omega arith;
+    high = λ later. absurd (omega arith);
+    pinned = λ is. absurd (omega arith);
+    past = λ some. absurd (omega arith);
+    pins = λ k h p _ is. absurd (no_helper h is);
+    older = λ k w x _ is. absurd (no_walk w is);
+  }
 
   none_live : (r : ℕ) → IsLive s.layout (opening_core s).words.link (opening_core s).words.twin (opening_core s).holding r → ⊥
   none_live r live = hand_listed _ live.1.0 live.1.1

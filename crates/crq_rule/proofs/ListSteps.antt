@@ -13,7 +13,6 @@ use Rattle.crq_base.specs.declared.words.Mark.TheVariants.{Val, Mov, Del}
 use Rattle.crq_base.specs.declared.words.Control.{Control}
 use Rattle.crq_base.specs.Words.{link_word, IsLink}
 use Rattle.crq_rule.specs.declared.layout.Start.{Start}
-use Rattle.crq_rule.specs.declared.view.Help.{Help}
 use Rattle.crq_rule.specs.declared.view.Sight.{Sight}
 use Rattle.crq_rule.specs.declared.view.Stand.{Stand}
 use Rattle.crq_rule.specs.declared.view.Walk.{Walk}
@@ -21,15 +20,14 @@ use Rattle.crq_rule.specs.declared.view.Caller.{Caller}
 use Rattle.crq_rule.specs.Places.{index, control, link, IsPlace, IsRow, IsHead, word_of}
 use Rattle.crq_rule.specs.Core.{Core, caller_of, owed_by}
 use Rattle.crq_rule.specs.Parts.{ground_of, IsOn, Leads, IsGuarded}
-use Rattle.crq_rule.specs.ListParts.{row_word, IsShut, IsPrepared}
+use Rattle.crq_rule.specs.ListParts.{row_word, IsOldMark}
 use Rattle.crq_rule.specs.Invariant.{Inv}
-use Rattle.crq_rule.specs.Ranks.{rank, first_head_of, shape_of, list_in, head_of, Cell, at_head, at_row, cell_place, link_at, heads_set, links_set}
+use Rattle.crq_rule.specs.Ranks.{rank, first_head_of, shape_of, list_in, head_of, Cell, at_head, at_row, cell_place, link_at, heads_set, links_set, IsHeadIn, IsOpen}
 use Rattle.crq_rule.specs.ListKinds.{Aim, is_cell, stands_after, walk_after, taken_on, sweep_on, clean_on, Content, new_link, no_twin, new_time, new_source, new_sequence, new_load, IsContent, content_number, content_word, row_place, wrote, writes, links, event_word, loads_control, control_loaded, begins, marks, cuts, misses, MayWalk, MaySeek, MayLink, MayMark, MayCut, MayMiss, ComesAfter, owed_event, unhanded, forgotten, cut_debt, name_in, without_stand, relieved_names, unnamed_row, FoundFirst}
 use Rattle.crq_rule.specs.Steps.{Kind, write, walk, link as link_kind, link_fails, control_load, begin, mark, mark_fails, cut, cut_fails, miss, May, After, kind_of, place_of}
 use Rattle.crq_rule.specs.Rule.{IsWords}
-use Rattle.crq_rule.specs.Stated.{IsNext}
 use Rattle.crq_rule.specs.Helping.{help_after, helped_by, IsHelping, old_head}
-use Rattle.crq_rule.specs.Moves.{MovesBy, By, Walked, WalksOn, IsWalkable, IsStillFrozen, FoundControl, wins, quiet}
+use Rattle.crq_rule.specs.Moves.{MovesBy, By, Walked, WalksOn, IsHeadOf, IsWalkable, IsStillFrozen, FoundControl, wins, quiet}
 use Rattle.crq_base.proofs.WordLaws.{link_one}
 use Rattle.crq_base.specs.Lists.{In}
 use Rattle.crq_rule.proofs.Puts.{put_here}
@@ -38,7 +36,8 @@ use Rattle.crq_rule.proofs.CoverLaws.{guarded_by, names_covered}
 use Rattle.crq_rule.proofs.GuardSteps.{same_words}
 use Rattle.crq_rule.proofs.HelpLaws.{head_woven}
 use Rattle.crq_rule.proofs.SizeLaws.{fitting_list}
-use Rattle.crq_rule.proofs.SteadyLaws.{open_is, next_is, guarded_out, steady_still, still_mark, moves_so, found_generation, found_open, found_moving, found_told}
+use Rattle.crq_rule.proofs.SteadyLaws.{guarded_out, steady_still, still_mark, found_now, found_moving, found_told}
+use Rattle.crq_rule.proofs.HeadLaws.{head_mark, present_head, live_generation}
 use Rattle.crq_rule.proofs.Lawfuls.{stand_covered}
 use Rattle.crq_rule.proofs.SearchLaws.{own_walk, best_kept}
 use Rattle.crq_rule.proofs.Keeps.{words_stay, rest_stays}
@@ -136,9 +135,28 @@ module _ (key : Start) (p : Caller) where
         ),
       )
 
-  -- a head of the table that the open one moves into is prepared, where it isn't older
-  next_prepared : (c : Core) → Inv c → (q : ℕ) → IsHead q → IsNext c.words.control q → c.words.control.generation < (c.words.head q).generation → ((c.words.head q).mark ≡ Val) × ((c.words.head q).generation ≡ c.words.control.generation + 1)
-  next_prepared c inv q head is late = ⊎_elim (λ (h : IsPrepared (c.words.control.generation + 1) (c.words.head q)). (h.1, h.0)) (λ (shut : IsShut c.words.control.generation q (c.words.head q)). let low = shut.older in absurd (omega arith)) (next_is c inv q head is)
+  -- a head of a table that was found is present where the table may not move, since that is the open one
+  head_still : (c : Core) → Inv c → (q : ℕ) (x : Control) → j < c.start.layout.workers → IsHead q → (c.found j).control ≡ Some x → IsOpen x q → c.start.moves ≡ false
+      → ((c.words.head q).mark ≡ Val) × ((c.words.head q).generation ≡ x.generation)
+  head_still c inv q x b head is opened no_move = let fits = inv.finds.controls j x b is in let now = found_now c inv no_move j x b is in
+      let in_table : IsHeadIn x.generation (c.shape x.generation) q = subst (λ s. IsHeadIn x.generation s q) (sym fits.size) opened in
+      let at = inv.heads.old q head (subst (λ g. IsHeadIn g (c.shape g) q) now in_table) in
+      (subst (λ m. IsOldMark m (c.words.head q).mark) (steady_still c inv no_move) at.1, at.0 ∙ sym now)
+
+  -- it is of that or a later table
+  head_of_found : (c : Core) → Inv c → (q : ℕ) (x : Control) → j < c.start.layout.workers → IsHead q → (c.found j).control ≡ Some x → IsOpen x q → IsHeadOf x (c.words.head q) (caller_of c j)
+  head_of_found c inv q x b head is opened = let fits = inv.finds.controls j x b is in record {
+    frozen = may_move c.start.moves refl;
+    generation = inv.ends.opened x.generation q head fits.first fits.low (subst (λ s. IsHeadIn x.generation s q) (sym fits.size) opened);
+    still = λ no_move. (head_still c inv q x b head is opened no_move).1;
+  }
+    where
+      val_mov : Val ≡ Mov → ⊥
+      val_mov e = cc
+
+      may_move : (moves : Bool) → c.start.moves ≡ moves → (c.words.head q).mark ≡ Mov → c.start.moves ≡ true
+      may_move true at frozen = at
+      may_move false at frozen = absurd (val_mov (sym (head_still c inv q x b head is opened at).0 ∙ frozen))
 
   -- a covered row is present or dead, where the table may not move
   row_mark : (c : Core) → Inv c → (r : ℕ) → IsGuarded (ground_of c) r → (moves : Bool) → c.start.moves ≡ moves → (((c.words.link r).mark ≡ Val) ⊎ ((c.words.link r).mark ≡ Del)) ⊎ (c.start.moves ≡ true)
@@ -146,19 +164,17 @@ module _ (key : Start) (p : Caller) where
   row_mark c inv r v false is = inl (still_mark c inv is r (inv.lanes.is_row r v) (guarded_out c inv r v))
 
   walkable : (cell : Cell) (c : Core) → j < c.start.layout.workers → Inv c → MayWalk (c.rows j) cell → IsWalkable cell (link_at c.words.head c.words.link cell) (caller_of c j)
-  walkable (at_head q) c b inv may = λ x is. (
-    λ opened. let h = open_is c inv q may (found_open c inv j q x b is opened) in (⊎_elim inl (λ frozen. inr (frozen.1, moves_so c inv frozen.0)) h.0, h.1 ∙ sym (found_generation c inv j x b is)),
-    λ moves next late. let same = found_moving c inv j x b is moves in
-        subst (λ (y : Control). y.generation < (c.words.head q).generation → ((c.words.head q).mark ≡ Val) × ((c.words.head q).generation ≡ y.generation + 1)) (sym same) (next_prepared c inv q may (subst (λ y. IsNext y q) same (moves, next))) late,
-  )
+  walkable (at_head q) c b inv may = (head_mark c.words.control c.shape c.words.head inv.heads q may, λ x is opened. head_of_found c inv q x b may is opened)
   walkable (at_row r) c b inv may = let v : IsGuarded (ground_of c) r = subst (IsGuarded (ground_of c)) may.1.2 (guarded_by j (stand_covered c j may.1.0 b may.1.1 inv)) in
       (row_mark c inv r v c.start.moves refl, λ s i row. subst (λ r. (c.words.link r).generation ≡ s.generation) row (inv.standing.each j s b i).of)
 
-  still_frozen : (cell : Cell) (c : Core) → j < c.start.layout.workers → Inv c → IsStillFrozen cell (link_at c.words.head c.words.link cell) (caller_of c j)
-  still_frozen (at_head q) c b inv = λ x h is helps all opened. let w = inv.helps.finds j h b helps in let helping : IsHelping x h = subst (λ z. IsHelping z h) (same_Some w.0 x (sym w.1 ∙ is)) w.2 in
-      let same = found_moving c inv j x b is helping.moving in let passed = inv.helps.passed j h b helps (helping.same ∙ ap (λ (z : Control). z.generation) same) in let at = head_woven j x.log (first_head_of x.generation) q opened.0 opened.1 in
-      subst (λ z. (c.words.head z).mark ≡ Mov) (ap (λ z. old_head z j at.0) (sym same) ∙ at.2) (passed.frozen at.0 (subst (λ n. at.0 < n) (sym all) at.1))
-  still_frozen (at_row r) c b inv = tt
+  still_frozen : (cell : Cell) (c : Core) → j < c.start.layout.workers → Inv c → MayWalk (c.rows j) cell → IsStillFrozen cell (link_at c.words.head c.words.link cell) (caller_of c j)
+  still_frozen (at_head q) c b inv may = λ x h is helps all opened of. ⊎_elim (λ val. let w = inv.helps.finds j h b helps in let helping : IsHelping x h = subst (λ z. IsHelping z h) (same_Some w.0 x (sym w.1 ∙ is)) w.2 in
+      let live = live_generation c.words.control c.shape c.words.head inv.heads q may (present_head c.words.control c.shape c.words.head inv.heads q may val) in
+      let low = (inv.finds.controls j x b is).low in let same = found_moving c inv j x b is helping.moving (omega arith) in let passed = inv.helps.passed j h b helps (helping.same ∙ ap (λ (z : Control). z.generation) same) in let at = head_woven j x.log (first_head_of x.generation) q opened.0 opened.1 in
+      subst (λ z. (c.words.head z).mark ≡ Mov) (ap (λ z. old_head z j at.0) (sym same) ∙ at.2) (passed.frozen at.0 (subst (λ n. at.0 < n) (sym all) at.1)))
+      (λ frozen. frozen) (head_mark c.words.control c.shape c.words.head inv.heads q may)
+  still_frozen (at_row r) c b inv may = tt
 
   abbrev walk_now : Core → Cell → Aim → Option Walk
   walk_now c cell aim = walk_after cell aim (c.sight j) (link_at c.words.head c.words.link cell) (c.walk j) (c.rows j)
@@ -187,7 +203,7 @@ module _ (key : Start) (p : Caller) where
           row = λ some. let n = named cell c b inv may' some in (n.0, inv.spelled.events l.row n.0);
           next = next_of cell c b inv may';
           marked = walkable cell c b inv may';
-          frozen = still_frozen cell c b inv;
+          frozen = still_frozen cell c b inv may';
         },
       )
     where

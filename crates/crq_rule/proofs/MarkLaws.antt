@@ -30,10 +30,11 @@ use Rattle.crq_rule.specs.Core.{Core, IsOutside, DeadNames, HasName, Holding, in
 use Rattle.crq_rule.specs.Parts.{Ground, ground_of, newest, IsEvent, IsGuarded, Leads, Chains, IsPath, Reaches, Covers, Cover, rows_of}
 use Rattle.crq_rule.specs.ListParts.{ranks, Sorted, Marks, MarkFits, StandFits, Standing, Copying, IsFinal, Lanes, Writing, row_word, Naming, NameFits, IsNamed}
 use Rattle.crq_rule.specs.HistoryParts.{IsLive, Carriers, StandsFrom}
-use Rattle.crq_rule.specs.Ranks.{Shape, IsTold, list_in}
+use Rattle.crq_rule.specs.Ranks.{Shape, list_in}
 use Rattle.crq_rule.specs.Copies.{Rooms}
 use Rattle.crq_rule.specs.Invariant.{present_of, takes_of, rows_of_core, Inv}
 use Rattle.crq_rule.specs.ListKinds.{is_cell, FoundFirst, MayMark, name_in, marked}
+use Rattle.crq_rule.proofs.EndLaws.{ends_walk, walks_end}
 use Rattle.crq_rule.proofs.Puts.{put_here, put_else, put_all}
 use Rattle.crq_rule.proofs.PartLaws.{apart}
 use Rattle.crq_rule.proofs.CoverLaws.{guarded_by, stand_row}
@@ -47,7 +48,7 @@ use Rattle.crq_rule.proofs.HeadLaws.{cell_listed, val_carries, dead_carries}
 use Rattle.crq_rule.proofs.CopyLaws.{copies_before, unlinked_grown}
 use Rattle.crq_rule.proofs.CopyMarks.{marked_as, marked_row, marked_generation, mark_else, inv_was, mov_stays, live_stays, live_was, val_open, from_val, copies_marked}
 use Rattle.crq_rule.proofs.SizeLaws.{sizes_rows, dues_named}
-use Rattle.crq_rule.proofs.SteadyLaws.{steady_rows, steady_names, outside_told, seen_generation}
+use Rattle.crq_rule.proofs.SteadyLaws.{steady_rows, steady_names, told_high, held_told}
 use Rattle.crq_rule.proofs.SearchLaws.{stand_covered, settled_left, first_left, own_walk, best_kept}
 
 val_inv : Val ≡ Invalid → ⊥
@@ -329,6 +330,14 @@ first_generation c inv j b s w r e sees is some (Some u) of found = ⊎_elim (λ
 pub walk_generation : (c : Core) → Inv c → (j : ℕ) (x : Control) {r : ℕ} {e : Event} → j < c.start.layout.workers → 0 < r → MayMark x r e (caller_of c j) → (c.words.link r).generation ≡ x.generation
 walk_generation c inv j x {r} {e} b some may = let w = may.walks in first_generation c inv j b (record { table = x; current = may.sight.0 }) w.0 r e may.sight.1 w.1 some w.0.bucket refl w.2
 
+-- a present row that a take may mark is of the open table, and so is what the take saw
+pub mark_now : (c : Core) → Inv c → (j r : ℕ) (e : Event) → j < c.start.layout.workers → (may : (x : Control) × MayMark x r e (caller_of c j)) → (c.words.link r).mark ≡ Val → may.0.generation ≡ c.words.control.generation
+mark_now c inv j r e b may val = let at = may.1.on in let covered = stand_covered c inv j r b (subst (λ z. In z (rows_of (c.rows j))) at.2 (stand_row (c.rows j) at.0 at.1)) in
+    let row = inv.lanes.is_row r (guarded_by j covered) in
+    let held = cell_listed (c.holding r) (c.words.link r).mark (ap is_cell val) (λ i. inv.cover.free j covered.0 r i covered.1) (inv.marks.mark r row) in
+    let seen = walk_generation c inv j may.0 b row.0 may.1 in let low = (inv.finds.sights j (record { table = may.0; current = may.1.sight.0 }) b may.1.sight.1).0.low in
+    let high = told_high c.words.control (c.words.link r).generation (held_told c inv held.0 r row held.1) in omega arith
+
 pub mark_keeps : (c : Core) (j r : ℕ) (e : Event) → j < c.start.layout.workers → ((x : Control) × MayMark x r e (caller_of c j)) → (c.words.link r).mark ≡ Val → Inv c → Inv (marked c j r e)
 mark_keeps c j r e b may val inv = let l = c.start.layout in let x = c.shape in let k = c.words.link in let t = c.words.twin in let v = c.words.event in let h = c.holding in record {
   spelled = record {
@@ -350,7 +359,7 @@ mark_keeps c j r e b may val inv = let l = c.start.layout in let x = c.shape in 
   cover = cover_marked l x k t v h r Del _ _ _ inv.cover;
   sizes = sizes_rows _ _ _ _ _ _ _ _ _ (λ _ _. refl) (λ s _ out. inl (out, marked_generation k r Del s)) inv.sizes;
   dues = dues_named _ _ _ _ _ _ _ (λ i d _ has. ⊎_elim inl (λ same. inr (subst (λ (d : CutDebt). (d.generation ≤ newest c.words.control) × (d.head ≡ list_in c.shape d.generation d.event)) same (inv.sizes.rows r row outside, refl))) (names_before j name c.named i d has)) inv.dues;
-  steady = steady_names _ _ _ _ _ _ (λ i d _ has. ⊎_elim inl (λ same. inr (subst (λ (d : CutDebt). IsTold c.words.control d.generation) same (outside_told c inv r row outside))) (names_before j name c.named i d has)) (λ _ i _. single_stays j name c.named i)
+  steady = steady_names _ _ _ _ _ _ (λ i d _ has. ⊎_elim inl (λ same. inr (λ _. ap (λ (d : CutDebt). d.generation) (sym same) ∙ now)) (names_before j name c.named i d has)) (λ _ i _. single_stays j name c.named i)
       (steady_rows _ _ _ _ _ _ _ (λ s _ out. inl (out, marked_generation k r Del s)) inv.steady);
   heads = inv.heads;
   helps = inv.helps;
@@ -365,7 +374,7 @@ mark_keeps c j r e b may val inv = let l = c.start.layout in let x = c.shape in 
   carriers = carriers_dead l x k t v h r val _ j e is live inv.carriers;
   told = told_other _ _ _ _ _ j (Take j e) b (take_legal c j r e b may pending is inv) refl refl (λ k. take_begin j k e) inv.told;
   numbers = numbers_grown _ _ _ (Take j e ∷ []) inv.numbers;
-  bounds = bounds_grown _ _ _ _ _ _ (Take j e ∷ []) refl inv.bounds;
+  bounds = bounds_grown _ _ _ _ _ _ _ (Take j e ∷ []) refl inv.bounds;
   settling = settling_more _ _ _ (Take j e ∷ []) (λ _ n. absurd (nothing n)) (λ _ _ _ _ n. nothing n) inv.settling;
   walkers = let now = present_of (marked c j r e) in walkers_rest now (takes_of c) (dead k r) v j (walkers_links now (takes_of c) k v (dead k r) v (λ _ s _ _. marked_generation k r Del s) (λ _ g at f _ _. stands_dead l x k t v h r val c.history j e is g at f)
       (walkers_grown (present_of c) (takes_of c) k v (Take j e ∷ []) (silent c.history (Take j e ∷ []) refl refl) inv.walkers));
@@ -378,6 +387,7 @@ mark_keeps c j r e b may val inv = let l = c.start.layout in let x = c.shape in 
   rooms = rooms_named j name c.named _ _ inv.rooms;
   bare = inv.bare;
   unlinked = unlinked_grown _ _ _ (Take j e ∷ []) (λ k. no_begin j e k) inv.unlinked;
+  ends = ends_walk c inv (put c.walk j None) (walks_end c inv j);
 }
   where
     name : CutDebt
@@ -412,4 +422,4 @@ mark_keeps c j r e b may val inv = let l = c.start.layout in let x = c.shape in 
 
     -- it is of the open table
     now : (c.words.link r).generation ≡ c.words.control.generation
-    now = walk_generation c inv j may.0 b row.0 may.1 ∙ seen_generation c inv j (record { table = may.0; current = may.1.sight.0 }) b may.1.sight.1
+    now = walk_generation c inv j may.0 b row.0 may.1 ∙ mark_now c inv j r e b may val

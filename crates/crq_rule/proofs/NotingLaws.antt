@@ -171,6 +171,7 @@ module _ (c : Core) (j r : ℕ) (m : Mark) (copying' : ℕ → Option CopyDebt) 
       rooms = rooms;
       bare = inv.bare;
       unlinked = inv.unlinked;
+      ends = inv.ends;
     }
       where
         stays : (i : ℕ) (s : Stand) → i < c.start.layout.workers → In s (c.rows i) → StandFits c.words.head links c.words.twin c.words.event s

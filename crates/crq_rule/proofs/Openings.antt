@@ -40,7 +40,7 @@ use Rattle.crq_rule.proofs.Pendings.{none_counted}
 use Rattle.crq_rule.proofs.ScarceLaws.{none_base}
 use Rattle.crq_rule.proofs.SweepLaws.{none_sweep}
 use Rattle.crq_rule.proofs.BoundLaws.{permits_none}
-use Rattle.crq_rule.proofs.ListOpening.{off_on, opening_control, opening_sizes, opening_dues, opening_steady, opening_heads, opening_sorted, opening_marks, opening_standing, opening_copying, opening_lanes, opening_writing, opening_naming, opening_carriers, opening_told, opening_settling, opening_walkers, opening_ahead, opening_copies, opening_rooms, opening_bare, opening_unlinked, no_sight, no_settle}
+use Rattle.crq_rule.proofs.ListOpening.{off_on, opening_control, opening_sizes, opening_dues, opening_steady, opening_heads, opening_sorted, opening_marks, opening_standing, opening_copying, opening_lanes, opening_writing, opening_naming, opening_carriers, opening_told, opening_settling, opening_walkers, opening_ahead, opening_copies, opening_rooms, opening_bare, opening_unlinked, no_sight, no_settle, opening_ends}
 
 -- Words
 
@@ -189,6 +189,7 @@ opening_inv s first = let top = first.upto in let low = first.epoch in record {
   rooms = opening_rooms s first;
   bare = opening_bare s first;
   unlinked = opening_unlinked s first;
+  ends = opening_ends s first;
 }
   where
     heads_empty : (t : Bool) → (cond t (open_head s.first.generation) shut_head).row ≡ 0

@@ -1,5 +1,5 @@
 -- A take that moves current on to the next bucket keeps the invariant, and passes no settled event.
-use Rattle.std.proofs.Common.{◌≡◌, ⊎_elim, inl, inr, ℕ, ◌+◌, ◌<◌, ◌≤◌, take, drop, None, sym, ap, ◌∙◌, subst, arith}
+use Rattle.std.proofs.Common.{◌≡◌, ⊎_elim, inl, inr, ℕ, ◌+◌, ◌<◌, ◌≤◌, take, drop, None, sym, ap, ◌∙◌, subst, le_refl, arith}
 use Rattle.std.specs.List.{Contains}
 use Rattle.crq_base.specs.declared.event.Event.{Event}
 use Rattle.crq_base.specs.declared.words.Control.{Control}
@@ -16,11 +16,13 @@ use Rattle.crq_rule.specs.HistoryParts.{IsSought}
 use Rattle.crq_rule.specs.CurrentKinds.{next_position, raised, MayRaise}
 use Rattle.crq_rule.specs.Invariant.{present_of, takes_of, Inv}
 use Rattle.crq_rule.proofs.Prefixes.{take_or_drop}
+use Rattle.crq_rule.proofs.BoundLaws.{bounds_current}
+use Rattle.crq_rule.proofs.EndLaws.{ends_current, walks_end}
 use Rattle.crq_rule.proofs.BucketLaws.{tick_low, bucket_rises, next_tick}
 use Rattle.crq_rule.proofs.Frames.{frame_current}
+use Rattle.crq_rule.proofs.HeadLaws.{below_or_not}
 use Rattle.crq_rule.proofs.HistoryLaws.{settled_put}
 use Rattle.crq_rule.proofs.SearchLaws.{own_walk, walk_beyond, past_none}
-use Rattle.crq_rule.proofs.SteadyLaws.{seen_generation}
 use Rattle.crq_rule.proofs.WalkerLaws.{walkers_current, walkers_rest}
 
 -- what isn't after current isn't after the next bucket
@@ -39,11 +41,17 @@ none_left c inv j x y b may e read kept same = let w = may.walks.0 in let u = bu
     let beyond = walk_beyond c inv j s w e b may.sight may.walks.1 (ap (head_for x.generation (shape_of x)) same ∙ sym at.1) (subst (λ o. IsSought o (bucket (shape_of x) e.time)) (sym may.walks.2) high) read kept in
     past_none c inv j u (shape_of x) w e b may.walks.3 beyond high
 
+-- the table that the take saw is open, since current is what it was then
+seen_now : (c : Core) → Inv c → (j : ℕ) (x : Control) (y : Current) → j < c.start.layout.workers → MayRaise x y (caller_of c j) → c.words.current ≡ y → x.generation ≡ c.words.control.generation
+seen_now c inv j x y b may is = let s : Sight = record { table = x; current = y } in let low = (inv.finds.sights j s b may.sight).0.low in ⊎_elim
+    (λ (past : x.generation < c.words.control.generation). let before = inv.ends.older j may.walks.0 s b may.walks.1 may.sight past in let same = ap (λ (z : Current). z.epoch) is in absurd (omega arith))
+    (λ (now : c.words.control.generation ≤ x.generation). omega arith) (below_or_not x.generation c.words.control.generation)
+
 -- what was put since the take read its table, and is settled, is of a later bucket
 later_since : (c : Core) → Inv c → (j : ℕ) (x : Control) (y : Current) → j < c.start.layout.workers → MayRaise x y (caller_of c j) → c.words.current ≡ y → (e : Event) → Contains (puts (drop (c.read j) c.history)) e → Contains (settleds c.history) e
     → bucket (shape_of x) y.tick < bucket (shape_of x) e.time
 later_since c inv j x y b may is e put settled = let s : Sight = record { table = x; current = y } in
-    (inv.walkers.seen j s b may.sight).ahead (sym is) (seen_generation c inv j s b may.sight) e put settled
+    (inv.walkers.seen j s b may.sight).ahead (sym is) (seen_now c inv j x y b may is) e put settled
 
 raise_ahead : (c : Core) (j : ℕ) (x : Control) (y : Current) → Inv c → j < c.start.layout.workers → MayRaise x y (caller_of c j) → c.words.current ≡ y → Ahead c.history (next_position x y)
 raise_ahead c j x y inv b may is = record {
@@ -75,4 +83,5 @@ raise_keeps c j x y b may is inv = frame_current c (next_position x y) c.permit 
     (walkers_rest (record (present_of c) { current = next_position x y }) (takes_of c) _ _ j (walkers_current (present_of c) (takes_of c) _ _ c.words.control.generation (next_position x y)
     (λ k s b sees same. absurd (raised_new x s.current y (subst (NotAfter s.current) is (inv.finds.views k s b sees)) same)) inv.walkers))
     (raise_ahead c j x y inv b may is)
-    (subst (λ (z : Current). Bounds c.start c.words.control (next_position x z) c.history c.settling c.permit) is record { tables = inv.bounds.tables; opened = inv.bounds.opened; left = inv.bounds.left; entries = inv.bounds.entries; owed = inv.bounds.owed })
+    (subst (λ (z : Current). Bounds c.start c.words.control (next_position x z) c.words.pin c.history c.settling c.permit) is (bounds_current _ _ _ _ _ _ _ (next_position x c.words.current) (le_refl _) (le_refl _) inv.bounds))
+    (ends_current c inv (next_position x y) (put c.walk j None) (let same = ap (λ (z : Current). z.epoch) is in omega arith) (walks_end c inv j))

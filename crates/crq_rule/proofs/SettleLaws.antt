@@ -21,8 +21,9 @@ use Rattle.crq_rule.specs.Ranks.{Shape, bucket, shape_of}
 use Rattle.crq_rule.specs.Ahead.{Ahead}
 use Rattle.crq_rule.specs.HistoryParts.{Settling, Present, Walkers}
 use Rattle.crq_rule.specs.Bounds.{Bounds}
+use Rattle.crq_rule.specs.Ending.{Ends}
 use Rattle.crq_rule.specs.CurrentKinds.{owed_shape, lies_ahead, owed_position, event_settled, settled_back, MaySettle}
-use Rattle.crq_rule.specs.Invariant.{present_of, takes_of, Inv}
+use Rattle.crq_rule.specs.Invariant.{present_of, takes_of, ending_of, Inv}
 use Rattle.crq_rule.proofs.Puts.{put_else, put_all}
 use Rattle.crq_rule.proofs.Prefixes.{of_front, of_back, of_both, in_drop}
 use Rattle.crq_rule.proofs.Pendings.{puts_apart}
@@ -30,6 +31,7 @@ use Rattle.crq_rule.proofs.BoundLaws.{numbers_grown, bounds_grown, bounds_less, 
 use Rattle.crq_rule.proofs.BucketLaws.{tick_low, bucket_rises, same_bucket}
 use Rattle.crq_rule.proofs.CopyLaws.{unlinked_grown}
 use Rattle.crq_rule.proofs.Frames.{frame_moved}
+use Rattle.crq_rule.proofs.EndLaws.{ends_current, same_walks}
 use Rattle.crq_rule.proofs.AheadLaws.{ahead_more}
 use Rattle.crq_rule.proofs.CallLaws.{carriers_same}
 use Rattle.crq_rule.proofs.HistoryLaws.{only, told_other}
@@ -145,9 +147,10 @@ module _ (c : Core) (j : ℕ) (d : SettleDebt) (b : j < c.start.layout.workers) 
       → Finds c.start c.words.control c.shape current c.found c.sight
       → Walkers (record (present_of (event_settled c j d)) { current = current }) (takes_of c) c.words.link c.words.event
       → Ahead (c.history ++ Settled j d.event ∷ []) current
-      → Bounds c.start c.words.control current (c.history ++ Settled j d.event ∷ []) (put c.settling j None) permit
+      → Bounds c.start c.words.control current c.words.pin (c.history ++ Settled j d.event ∷ []) (put c.settling j None) permit
+      → Ends (record (ending_of c) { current = current })
       → Inv (record (event_settled c j d) { words = record c.words { current = current }; permit = permit })
-  settled_inv current permit spelled finds walkers ahead bounds = let x : Entry = Settled j d.event in frame_moved c (record (event_settled c j d) { permit = permit }) current inv spelled finds
+  settled_inv current permit spelled finds walkers ahead bounds ends = let x : Entry = Settled j d.event in frame_moved c (record (event_settled c j d) { permit = permit }) current inv spelled finds
       record { settles = λ k f b is. inv.dues.settles k f b (still_owed c.settling j k f is).0; copies = inv.dues.copies; named = inv.dues.named }
       inv.steady
       (carriers_same _ _ x _ _ _ _ refl refl inv.carriers)
@@ -162,12 +165,14 @@ module _ (c : Core) (j : ℕ) (d : SettleDebt) (b : j < c.start.layout.workers) 
       bounds
       inv.helps
       (unlinked_grown _ _ _ (x ∷ []) (λ k. no_begin j k d.event) inv.unlinked)
+      ends
 
 -- current isn't behind the event
 pub settled_keeps : (c : Core) (j : ℕ) (d : SettleDebt) → j < c.start.layout.workers → c.settling j ≡ Some d → lies_ahead d c.words.current ≡ true → Inv c → Inv (event_settled c j d)
 settled_keeps c j d b owes is inv = settled_inv c j d b owes inv c.words.current c.permit inv.spelled inv.finds (walkers_settled c j d b owes inv is)
     (ahead_more c.history (Settled j d.event ∷ []) c.words.current (λ e new. let low = ahead_time d c.words.current is in let same = ap (λ (z : Event). z.time) (only d.event e new) in omega arith) inv.ahead)
-    (bounds_less _ _ _ _ _ _ j (bounds_grown _ _ _ _ _ _ (Settled j d.event ∷ []) refl inv.bounds))
+    (bounds_less _ _ _ _ _ _ _ j (bounds_grown _ _ _ _ _ _ _ (Settled j d.event ∷ []) refl inv.bounds))
+    inv.ends
 
 -- the epoch rises, so what isn't after current isn't after that
 still_before : (d : SettleDebt) (a y : Current) → NotAfter a y → NotAfter a (owed_position d y)
@@ -178,7 +183,7 @@ pub settle_keeps : (c : Core) (j : ℕ) (d : SettleDebt) (y : Current) → j < c
 settle_keeps c j d y b may is inv = settled_inv c j d b may.owes inv (owed_position d y) (put c.permit j false)
     record {
       is_control = inv.spelled.is_control;
-      is_current = record { epoch = (let left = permitted _ _ _ _ _ _ j b may.permit inv.bounds in let same = ap (λ (z : Current). z.epoch) is in omega arith); tick = (let low = tick_low (owed_shape d) (bucket (owed_shape d) d.event.time) d.event.time (le_refl _) in let top = may.time in omega arith) };
+      is_current = record { epoch = (let left = permitted _ _ _ _ _ _ _ j b may.permit inv.bounds in let same = ap (λ (z : Current). z.epoch) is in omega arith); tick = (let low = tick_low (owed_shape d) (bucket (owed_shape d) d.event.time) d.event.time (le_refl _) in let top = may.time in omega arith) };
       is_pin = inv.spelled.is_pin;
       heads = inv.spelled.heads;
       links = inv.spelled.links;
@@ -193,4 +198,5 @@ settle_keeps c j d y b may is inv = settled_inv c j d b may.owes inv (owed_posit
     }
     (subst (λ z. Walkers (record (present_of (event_settled c j d)) { current = owed_position d z }) (takes_of c) c.words.link c.words.event) is (walkers_back c j d b may.owes inv))
     (settle_ahead c.history j d y c.words.current may.behind is inv.ahead)
-    (bounds_used _ _ _ _ _ _ j (owed_position d y) d.event b may.permit (ap (λ (z : Current). z.epoch + 1) (sym is)) inv.bounds)
+    (bounds_used _ _ _ _ _ _ _ j (owed_position d y) d.event b may.permit (ap (λ (z : Current). z.epoch + 1) (sym is)) inv.bounds)
+    (ends_current c inv (owed_position d y) c.walk (let same = ap (λ (z : Current). z.epoch) is in omega arith) (same_walks c inv))

@@ -1,5 +1,5 @@
--- What holds as long as no table follows on another. No other file opens the part that says so.
-use Rattle.std.proofs.Common.{◌≡◌, ◌⊎◌, ⊎_elim, inl, inr, true, false, Bool, ℕ, ◌≢◌, ◌+◌, ◌<◌, ◌==◌, ◌||◌, ◌&&◌, cond, Some, None, refl, sym, ap, ◌∙◌, arith, subst, eq-eqb, ne_eqb}
+-- What control words that were found say now, of which tables rows are, and what holds where the table may not move. No other file opens the part that says this last.
+use Rattle.std.proofs.Common.{◌≡◌, ◌⊎◌, ⊎_elim, inl, inr, true, false, Bool, ℕ, ◌≢◌, ◌+◌, ◌<◌, ◌≤◌, List, [], ◌∷◌, ◌==◌, ◌||◌, ◌&&◌, cond, Some, None, refl, sym, ap, ◌∙◌, arith, subst, eq-eqb, ne_eqb}
 use Rattle.std.proofs.lemmas.Bool.{false≢true, eqb-true}
 use Rattle.std.proofs.lemmas.Nat.{pow_pos}
 use Rattle.std.proofs.Math.Nat.{mod-lt}
@@ -13,10 +13,9 @@ use Rattle.crq_base.specs.Lists.{In}
 use Rattle.crq_base.specs.Words.{flag_number}
 use Rattle.crq_rule.specs.declared.debts.CutDebt.{CutDebt}
 use Rattle.crq_rule.specs.declared.layout.Start.{Start}
-use Rattle.crq_rule.specs.declared.view.Sight.{Sight}
 use Rattle.crq_rule.specs.Places.{IsRow, IsHead}
 use Rattle.crq_rule.specs.Core.{Core, Holding, in_hand, listed, IsOutside, DeadNames, HasName}
-use Rattle.crq_rule.specs.Parts.{newest, Fits, ground_of, IsGuarded}
+use Rattle.crq_rule.specs.Parts.{newest, Fits, Leads, ground_of, IsGuarded}
 use Rattle.crq_rule.specs.Ranks.{Shape, shape_of, next_of, bucket, head_for, head_in, list_in, list_by, head_of, IsHeadIn, IsOpen, tells_of, IsTold}
 use Rattle.crq_rule.specs.ListParts.{IsShut, IsPrepared, IsOldMark, IsOldHead, IsNewHead}
 use Rattle.crq_rule.specs.Steady.{Steady}
@@ -24,7 +23,7 @@ use Rattle.crq_rule.specs.Stated.{IsNext}
 use Rattle.crq_rule.specs.Copies.{IsBound, IsCopying}
 use Rattle.crq_rule.specs.Invariant.{rows_of_core, Inv}
 use Rattle.crq_rule.proofs.CoverLaws.{copy_footing, footing_covered}
-use Rattle.crq_rule.proofs.HeadLaws.{carries_kept}
+use Rattle.crq_rule.proofs.HeadLaws.{carries_kept, IsLiveHead, used_head, present_old}
 use Rattle.crq_rule.proofs.SizeLaws.{fitting_list}
 
 val_invalid : Val ≡ Invalid → ⊥
@@ -44,10 +43,6 @@ mark_sorts Del valid = inl (inr refl)
 moving_one : (b : Bool) → 0 < flag_number b → b ≡ true
 moving_one true some = refl
 moving_one false some = absurd (omega arith)
-
-not_false : (b : Bool) → (b ≡ false → ⊥) → b ≡ true
-not_false true n = refl
-not_false false n = absurd (n refl)
 
 old_mark : (b : Bool) (m : Mark) → IsOldMark b m → (m ≡ Val) ⊎ ((b ≡ true) × (m ≡ Mov))
 old_mark false m is = inl is
@@ -75,46 +70,51 @@ aged_now : (x : Control) (g : ℕ) → IsTold x g → g < newest x → (x.moving
 aged_now x g told low = ⊎_elim (λ (now : g ≡ x.generation). (moving_one x.moving (omega arith), now))
     (λ (h : (x.moving ≡ true) × (g ≡ x.generation + 1)). let high : newest x ≡ x.generation + 1 = ap (λ b. x.generation + flag_number b) h.0 in let is = h.1 in absurd (omega arith)) told
 
+-- a table that it tells of is no earlier one than the open one
+pub told_high : (x : Control) (g : ℕ) → IsTold x g → x.generation ≤ g
+told_high x g told = ⊎_elim (λ (now : g ≡ x.generation). omega arith) (λ (h : (x.moving ≡ true) × (g ≡ x.generation + 1)). let is = h.1 in omega arith) told
+
 -- the list of an event is one of the table
 in_table : (shape : ℕ → Shape) (g : ℕ) (e : Event) → IsHeadIn g (shape g) (list_in shape g e)
 unfolding head_for
 in_table shape g e = let low = mod-lt (bucket (shape g) e.time) (pow_pos (shape g).log) in (omega arith, omega arith)
 
 module _ (start : Start) (control : Control) (link : ℕ → Link) (holding : ℕ → Holding) (names : ℕ → DeadNames) where
-  -- each row that is outside hands was so, or is of a table that control tells of
-  pub steady_rows : (link' : ℕ → Link) (holding' : ℕ → Holding) → ((r : ℕ) → IsRow start.layout r → IsOutside holding' r → (IsOutside holding r × ((link' r).generation ≡ (link r).generation)) ⊎ IsTold control (link' r).generation)
+  -- each row that is outside hands was so, or is of the open table where that may not move
+  pub steady_rows : (link' : ℕ → Link) (holding' : ℕ → Holding)
+      → ((r : ℕ) → IsRow start.layout r → IsOutside holding' r → (IsOutside holding r × ((link' r).generation ≡ (link r).generation)) ⊎ (start.moves ≡ false → (link' r).generation ≡ control.generation))
       → Steady start control link holding names → Steady start control link' holding' names
   steady_rows link' holding' was old = record {
     still = old.still;
     first = old.first;
-    rows = λ r b out. ⊎_elim (λ (h : IsOutside holding r × ((link' r).generation ≡ (link r).generation)). subst (IsTold control) (sym h.1) (old.rows r b h.0)) (λ now. now) (was r b out);
+    rows = λ r no_move b out. ⊎_elim (λ (h : IsOutside holding r × ((link' r).generation ≡ (link r).generation)). h.1 ∙ old.rows r no_move b h.0) (λ now. now no_move) (was r b out);
     named = old.named;
     single = old.single;
   }
 
-  -- each name was there, or is of such a table
-  pub steady_names : (names' : ℕ → DeadNames) → ((k : ℕ) (d : CutDebt) → k < start.layout.workers → HasName (names' k) d → HasName (names k) d ⊎ IsTold control d.generation)
+  -- each name was there, or is of the open table where that may not move
+  pub steady_names : (names' : ℕ → DeadNames) → ((k : ℕ) (d : CutDebt) → k < start.layout.workers → HasName (names' k) d → HasName (names k) d ⊎ (start.moves ≡ false → d.generation ≡ control.generation))
       → (start.moves ≡ false → (k : ℕ) → k < start.layout.workers → (names k).second ≡ None → (names' k).second ≡ None) → Steady start control link holding names → Steady start control link holding names'
   steady_names names' was alone old = record {
     still = old.still;
     first = old.first;
     rows = old.rows;
-    named = λ k d b has. ⊎_elim (old.named k d b) (λ told. told) (was k d b has);
-    single = λ k still b. alone still k b (old.single k still b);
+    named = λ k d no_move b has. ⊎_elim (old.named k d no_move b) (λ now. now no_move) (was k d b has);
+    single = λ k no_move b. alone no_move k b (old.single k no_move b);
   }
 
-  -- control begins to move from its table
-  pub steady_moves : (next : Control) → start.moves ≡ true → control.moving ≡ false → next.generation ≡ control.generation → Steady start control link holding names → Steady start next link holding names
-  steady_moves next moves steady same old = record {
-    still = λ no_move. absurd (false≢true (sym no_move ∙ moves));
-    first = same ∙ old.first;
-    rows = λ r b out. told (link r).generation (old.rows r b out);
-    named = λ k d b has. told d.generation (old.named k d b has);
-    single = old.single;
-  }
-    where
-      told : (g : ℕ) → IsTold control g → IsTold next g
-      told g is = ⊎_elim (λ now. inl (now ∙ sym same)) (λ (h : (control.moving ≡ true) × (g ≡ control.generation + 1)). absurd (false≢true (sym steady ∙ h.0))) is
+-- control moves where it may
+pub steady_moves : (start : Start) (next : Control) (link : ℕ → Link) (holding : ℕ → Holding) (names : ℕ → DeadNames) → start.moves ≡ true → Steady start next link holding names
+steady_moves start next link holding names moves = record {
+  still = λ no_move. absurd (never no_move);
+  first = λ no_move. absurd (never no_move);
+  rows = λ _ no_move. absurd (never no_move);
+  named = λ _ _ no_move. absurd (never no_move);
+  single = λ _ no_move. absurd (never no_move);
+}
+  where
+    never : start.moves ≡ false → ⊥
+    never no_move = false≢true (sym no_move ∙ moves)
 
 module _ (c : Core) (inv : Inv c) where
   -- a table that may not move doesn't
@@ -122,38 +122,29 @@ module _ (c : Core) (inv : Inv c) where
   steady_still = inv.steady.still
 
   pub moves_so : c.words.control.moving ≡ true → c.start.moves ≡ true
-  moves_so moves = not_false c.start.moves (λ no_move. false≢true (sym (inv.steady.still no_move) ∙ moves))
+  moves_so moving = by_start c.start.moves refl
+    where
+      by_start : (b : Bool) → c.start.moves ≡ b → b ≡ true
+      by_start true is = refl
+      by_start false is = absurd (false≢true (sym (inv.steady.still is) ∙ moving))
 
-  -- a control word that was found is of the open table
-  fitting_now : (x : Control) → Fits c.start c.words.control c.shape x → x.generation ≡ c.words.control.generation
-  fitting_now x fits = let low = fits.first in let high = fits.low in let first = inv.steady.first in omega arith
+  -- a control word that was found is of the open table where that may not move
+  fitting_still : c.start.moves ≡ false → (x : Control) → Fits c.start c.words.control c.shape x → x.generation ≡ c.words.control.generation
+  fitting_still no_move x fits = let low = fits.first in let high = fits.low in let first = inv.steady.first no_move in omega arith
 
-  fitting_shape : (x : Control) → Fits c.start c.words.control c.shape x → shape_of x ≡ shape_of c.words.control
-  fitting_shape x fits = sym fits.size ∙ (ap c.shape (fitting_now x fits) ∙ inv.sizes.now.size)
+  pub found_now : c.start.moves ≡ false → (j : ℕ) (x : Control) → j < c.start.layout.workers → (c.found j).control ≡ Some x → x.generation ≡ c.words.control.generation
+  found_now no_move j x b is = fitting_still no_move x (inv.finds.controls j x b is)
 
-  pub found_generation : (j : ℕ) (x : Control) → j < c.start.layout.workers → (c.found j).control ≡ Some x → x.generation ≡ c.words.control.generation
-  found_generation j x b is = fitting_now x (inv.finds.controls j x b is)
-
-  pub found_list : (j : ℕ) (x : Control) → j < c.start.layout.workers → (c.found j).control ≡ Some x → (e : Event) → head_of x e ≡ head_of c.words.control e
-  found_list j x b is e = let fits = inv.finds.controls j x b is in λ i. head_in (fitting_now x fits i) (fitting_shape x fits i) e
-
-  pub found_open : (j q : ℕ) (x : Control) → j < c.start.layout.workers → (c.found j).control ≡ Some x → IsOpen x q → IsOpen c.words.control q
-  found_open j q x b is opened = let fits = inv.finds.controls j x b is in subst (λ (z : ℕ × Shape). IsHeadIn z.0 z.1 q) (λ i. (fitting_now x fits i, fitting_shape x fits i)) opened
-
-  -- one that moves is the present one
-  pub found_moving : (j : ℕ) (x : Control) → j < c.start.layout.workers → (c.found j).control ≡ Some x → x.moving ≡ true → x ≡ c.words.control
-  found_moving j x b is moves = let fits = inv.finds.controls j x b is in fits.same moves (fitting_now x fits)
+  -- one that moves is the present one, if it is of the open table
+  pub found_moving : (j : ℕ) (x : Control) → j < c.start.layout.workers → (c.found j).control ≡ Some x → x.moving ≡ true → x.generation ≡ c.words.control.generation → x ≡ c.words.control
+  found_moving j x b is moves now = (inv.finds.controls j x b is).same moves now
 
   pub found_still : (j : ℕ) (x : Control) → j < c.start.layout.workers → (c.found j).control ≡ Some x → c.start.moves ≡ false → x.moving ≡ false
   found_still j x b is no_move = go x.moving refl
     where
       go : (m : Bool) → x.moving ≡ m → m ≡ false
       go false at = refl
-      go true at = absurd (false≢true (sym (steady_still no_move) ∙ (ap (λ (y : Control). y.moving) (sym (found_moving j x b is at)) ∙ at)))
-
-  -- and a table that a take read is the open one
-  pub seen_generation : (j : ℕ) (s : Sight) → j < c.start.layout.workers → c.sight j ≡ Some s → s.table.generation ≡ c.words.control.generation
-  seen_generation j s b is = fitting_now s.table (inv.finds.sights j s b is).0
+      go true at = absurd (false≢true (sym (steady_still no_move) ∙ (ap (λ (y : Control). y.moving) (sym (found_moving j x b is at (found_now no_move j x b is))) ∙ at)))
 
   -- the list of an event in the open table
   pub open_list : (e : Event) → list_in c.shape c.words.control.generation e ≡ head_of c.words.control e
@@ -174,32 +165,37 @@ module _ (c : Core) (inv : Inv c) where
   pub found_told : (j : ℕ) (x : Control) → j < c.start.layout.workers → (c.found j).control ≡ Some x → (g : ℕ) → IsTold x g → (e : Event) → list_in c.shape g e ≡ list_by x g e
   found_told j x b is = fits_told x (inv.finds.controls j x b is)
 
-  -- what a control word that was found tells of, the present one tells of too
-  pub still_told : (j : ℕ) (x : Control) → j < c.start.layout.workers → (c.found j).control ≡ Some x → (g : ℕ) → IsTold x g → IsTold c.words.control g
-  still_told j x b is g told = ⊎_elim (λ (now : g ≡ x.generation). inl (now ∙ found_generation j x b is))
-      (λ (h : (x.moving ≡ true) × (g ≡ x.generation + 1)). subst (λ y. IsTold y g) (found_moving j x b is h.0) (inr h)) told
+  -- Of which tables rows are
 
-  -- a row that is in no hand is of the open table, or of the one that it moves into, and so is a covered one, and what a name names
-  pub outside_told : (r : ℕ) → IsRow c.start.layout r → IsOutside c.holding r → IsTold c.words.control (c.words.link r).generation
-  outside_told r row out = inv.steady.rows r row out
+  -- the head of a list that isn't empty is of the open table, or of the one that it moves into
+  listed_live : (q r : ℕ) → IsHead q → In r (c.chain q) → IsLiveHead c.words.control c.shape q (c.words.head q)
+  listed_live q r head i = used_head c.words.control c.shape c.words.head inv.heads q head (some (c.chain q) (λ s at. (inv.holders.in_chain q s head at).0.0) i (inv.chains.leads q head))
+    where
+      some : (rs : List ℕ) → ((s : ℕ) → In s rs → 0 < s) → In r rs → Leads c.words.link (c.words.head q).row rs → 0 < (c.words.head q).row
+      some [] above i leads = absurd i
+      some (s ∷ rs) above i leads = let low = above s (inl refl) in let is = leads.0 in omega arith
+
+  -- and so is each row of that list
+  listed_told : (q r : ℕ) → IsHead q → In r (c.chain q) → IsTold c.words.control (c.words.link r).generation
+  listed_told q r head i = let same = inv.sorted.generation q r head i in ⊎_elim (λ old. inl (same ∙ old.1)) (λ new. inr (new.0.0, same ∙ new.1.0)) (listed_live q r head i)
+
+  pub held_told : (q r : ℕ) → IsRow c.start.layout r → c.holding r ≡ listed q → IsTold c.words.control (c.words.link r).generation
+  held_told q r row held = let at = inv.holders.of_chain q r row held in listed_told q r at.0 at.1
 
   pub guarded_out : (r : ℕ) → IsGuarded (ground_of c) r → IsOutside c.holding r
   guarded_out r v j held = inv.cover.free v.0 v.1 r j v.2 held
 
-  pub guarded_told : (r : ℕ) → IsGuarded (ground_of c) r → IsTold c.words.control (c.words.link r).generation
-  guarded_told r v = outside_told r (inv.lanes.is_row r v) (guarded_out r v)
+  -- where the table may not move all rows that are in no hand are of the open one, and so is what a name names
+  pub still_row : c.start.moves ≡ false → (r : ℕ) → IsRow c.start.layout r → IsOutside c.holding r → (c.words.link r).generation ≡ c.words.control.generation
+  still_row no_move r row out = inv.steady.rows r no_move row out
 
-  pub named_told : (k : ℕ) (d : CutDebt) → k < c.start.layout.workers → HasName (c.named k) d → IsTold c.words.control d.generation
-  named_told k d b has = inv.steady.named k d b has
+  pub still_name : c.start.moves ≡ false → (k : ℕ) (d : CutDebt) → k < c.start.layout.workers → HasName (c.named k) d → d.generation ≡ c.words.control.generation
+  still_name no_move k d b has = inv.steady.named k d no_move b has
 
-  -- a row is frozen only where the table moves, and is of that
-  pub frozen_now : (r : ℕ) → IsRow c.start.layout r → IsOutside c.holding r → (c.words.link r).mark ≡ Mov → (c.words.control.moving ≡ true) × ((c.words.link r).generation ≡ c.words.control.generation)
-  frozen_now r row out frozen = aged_now c.words.control (c.words.link r).generation (outside_told r row out) (inv.marks.aged r row out frozen)
+  pub still_told : c.start.moves ≡ false → (g : ℕ) → IsTold c.words.control g → g ≡ c.words.control.generation
+  still_told no_move g told = ⊎_elim (λ now. now) (λ (h : (c.words.control.moving ≡ true) × (g ≡ c.words.control.generation + 1)). absurd (false≢true (sym (steady_still no_move) ∙ h.0))) told
 
-  pub frozen_moves : (r : ℕ) → IsRow c.start.layout r → IsOutside c.holding r → (c.words.link r).mark ≡ Mov → c.words.control.moving ≡ true
-  frozen_moves r row out frozen = (frozen_now r row out frozen).0
-
-  -- where the table may not move, a row that is in no hand is present or dead
+  -- and a row that is in no hand is present or dead
   pub still_mark : c.start.moves ≡ false → (r : ℕ) → IsRow c.start.layout r → IsOutside c.holding r → ((c.words.link r).mark ≡ Val) ⊎ ((c.words.link r).mark ≡ Del)
   still_mark no_move r row out = ⊎_elim (λ m. m) (λ frozen. absurd (unfrozen r row out frozen)) (mark_sorts (c.words.link r).mark (λ invalid. ⊎_elim
       (λ (h : (o : ℕ) × IsBound (rows_of_core c) o r). unfrozen h.0 h.1.row (λ j held. listed_hand h.1.listed_is.0 j (sym h.1.listed_is.1 ∙ held)) h.1.frozen)
@@ -209,7 +205,7 @@ module _ (c : Core) (inv : Inv c) where
       (inv.copies.owned r row out invalid)))
     where
       unfrozen : (o : ℕ) → IsRow c.start.layout o → IsOutside c.holding o → (c.words.link o).mark ≡ Mov → ⊥
-      unfrozen o row out frozen = false≢true (sym (steady_still no_move) ∙ frozen_moves o row out frozen)
+      unfrozen o row out frozen = let old = aged_now c.words.control (c.words.link o).generation (inl (still_row no_move o row out)) (inv.marks.aged o row out frozen) in false≢true (sym (steady_still no_move) ∙ old.0)
 
   -- the heads of the open table are present, or frozen where it moves; those of the next one are prepared, or shut still; and the others are shut
   open_now : (q : ℕ) → IsOpen c.words.control q → IsOldHead c.words.control c.shape q
@@ -233,20 +229,20 @@ module _ (c : Core) (inv : Inv c) where
 
   -- a listed row is of a head of the open table, or of the one that it moves into
   pub listed_head : (q r : ℕ) → IsHead q → In r (c.chain q) → (IsOldHead c.words.control c.shape q × ((c.words.link r).generation ≡ c.words.control.generation)) ⊎ (IsNewHead c.words.control c.shape q × ((c.words.link r).generation ≡ c.words.control.generation + 1))
-  listed_head q r head i = let held = inv.holders.in_chain q r head i in let g = (c.words.link r).generation in
+  listed_head q r head i = let g = (c.words.link r).generation in
       let here : list_in c.shape g (c.words.event r) ≡ q = ap (λ n. list_in c.shape n (c.words.event r)) (inv.sorted.generation q r head i) ∙ inv.sorted.belongs q r head i in
       let at : IsHeadIn g (c.shape g) q = subst (IsHeadIn g (c.shape g)) here (in_table c.shape g (c.words.event r)) in ⊎_elim
       (λ (now : g ≡ c.words.control.generation). inl (subst (λ n. IsHeadIn n (c.shape n) q) now at, now))
       (λ (h : (c.words.control.moving ≡ true) × (g ≡ c.words.control.generation + 1)). inr ((h.0, subst (λ n. IsHeadIn n (c.shape n) q) h.1 at), h.1))
-      (outside_told r held.0 (λ j hand. listed_hand q j (sym held.1 ∙ hand)))
+      (listed_told q r head i)
 
   -- An event that is pending stands in a row to which links lead from its head, where that is present and of the table of a control word that was found
   pub list_carries : (x : Control) (q : ℕ) (e : Event) → Fits c.start c.words.control c.shape x → IsHead q → (c.words.head q).mark ≡ Val → (c.words.head q).generation ≡ x.generation → IsPending c.history e → head_of x e ≡ q
       → (r : ℕ) × In r (c.chain q) × (c.words.event r ≡ e) × (((c.words.link r).mark ≡ Val) ⊎ ((c.words.link r).mark ≡ Mov))
   list_carries x q e fits head val same pending at = let y = inv.carriers.carried e pending in let p = y.1.1.0 in
       let in_list = inv.holders.of_chain p y.0 y.1.0 y.1.1.1 in
-      let list : list_in c.shape c.words.control.generation e ≡ q = ap (λ n. list_in c.shape n e) (sym (fitting_now x fits)) ∙ (fitting_list c.start c.words.control c.shape x fits e ∙ at) in
-      let opened : IsOldHead c.words.control c.shape q = subst (IsHeadIn c.words.control.generation (c.shape c.words.control.generation)) list (in_table c.shape c.words.control.generation e) in ⊎_elim
+      let here_now = present_old c.words.control c.shape c.words.head inv.heads q head val (let low = fits.low in omega arith) in let opened = here_now.0 in
+      let list : list_in c.shape c.words.control.generation e ≡ q = ap (λ n. list_in c.shape n e) (sym here_now.1 ∙ same) ∙ (fitting_list c.start c.words.control c.shape x fits e ∙ at) in ⊎_elim
       (λ (old : IsOldHead c.words.control c.shape p × ((c.words.link y.0).generation ≡ c.words.control.generation)).
       let now : (c.words.head p).generation ≡ c.words.control.generation = sym (inv.sorted.generation p y.0 in_list.0 in_list.1) ∙ old.1 in
       let here : p ≡ q = sym (inv.sorted.belongs p y.0 in_list.0 in_list.1) ∙ ((λ k. list_in c.shape (now k) (y.2 k)) ∙ list) in

@@ -116,6 +116,7 @@ module _ (c : Core) (inv : Inv c) (j : ℕ) (b : j < c.start.layout.workers) (ss
       inv.scarce
       (copies_from (ground_of c) footing from (rows_of_core c) inv.copies)
       (record { each = λ k s. put_all c.old j o (λ k o. k < c.start.layout.workers → o ≡ Some s → WasOut c.history k s.event → ⊥) (λ _ is. (old_fits s is).2) (λ k _. inv.unlinked.each k s) k })
+      inv.ends
     where
       footing : ℕ → List ℕ
       footing = footings rows olds c.copying
@@ -364,6 +365,7 @@ copying_keeps c copying' kept copies inv = record {
   rooms = record { ordered = inv.rooms.ordered; room = λ k e b is. inv.rooms.room k e b (kept k e is) };
   bare = inv.bare;
   unlinked = inv.unlinked;
+  ends = inv.ends;
 }
   where
     footing : ℕ → List ℕ

@@ -31,6 +31,7 @@ use Rattle.crq_rule.specs.Invariant.{Inv, present_of, takes_of, rows_of_core}
 use Rattle.crq_rule.specs.Ranks.{rank, list_in, IsTold, tells_of, list_by, Cell, at_head, at_row, link_at, first_head_of}
 use Rattle.crq_rule.specs.ListKinds.{Aim, no_take, in_bucket, in_search, is_take, is_final, is_passed, stands_after, walk_after, head_walk, new_walk as begun_walk, walked, begins_walk, is_cell, is_beyond, is_past, is_other_front, relieved, front_of, new_stand, noted_stand, is_inv, walked_from, MayWalk, MaySeek, read_after, read_from, relieved_names}
 use Rattle.crq_rule.specs.Helping.{is_mov}
+use Rattle.crq_rule.proofs.EndLaws.{ends_walked}
 use Rattle.crq_rule.proofs.SweepLaws.{swept_walked}
 use Rattle.crq_rule.proofs.HistoryLaws.{put_in}
 use Rattle.crq_rule.proofs.Prefixes.{take_all}
@@ -462,6 +463,7 @@ walk_keeps c j cell aim b is_on may seek inv = record {
   };
   bare = inv.bare;
   unlinked = inv.unlinked;
+  ends = ends_walked c j inv cell aim b may;
 }
   where
     on : (g : ℕ) × (c.guard j ≡ On g)

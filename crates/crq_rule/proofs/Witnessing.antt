@@ -24,7 +24,7 @@ use Rattle.crq_rule.specs.Lists.{put}
 use Rattle.crq_rule.specs.Places.{IsRow, IsHomeRow, IsHead}
 use Rattle.crq_rule.specs.Core.{Core, Holding, in_hand, listed, cut_by, retired}
 use Rattle.crq_rule.specs.Parts.{Holders, Stamps, Leads, IsPath, ground_of, rows_of, stamp_of}
-use Rattle.crq_rule.specs.Ranks.{rank, head_for, bucket, list_in, Rises}
+use Rattle.crq_rule.specs.Ranks.{rank, head_for, bucket, list_in, IsHeadIn, Rises}
 use Rattle.crq_rule.specs.ListParts.{Heads, Sorted, Marks, StandFits, Standing, Lanes, Naming, IsShut, IsOldHead, IsNewHead, MarkFits, IsFinal, ranks}
 use Rattle.crq_rule.specs.HistoryParts.{Carriers, Told, EndsInBegin}
 use Rattle.crq_rule.specs.Copies.{Copies}
@@ -374,7 +374,7 @@ core_inv = record {
     rows = λ r _ _. let g = generation r in omega arith;
   };
   dues = old.dues;
-  steady = record { still = λ _. refl; first = refl; rows = λ r _ _. inl (generation r); named = old.steady.named; single = old.steady.single };
+  steady = record { still = λ _. refl; first = λ _. refl; rows = λ r _ _ _. generation r; named = old.steady.named; single = old.steady.single };
   heads = next_head;
   sorted = sorted;
   marks = marks;
@@ -398,6 +398,17 @@ core_inv = record {
   rooms = old.rooms;
   bare = record { bare = λ moving. absurd (false≢true moving) };
   unlinked = record { each = λ _ s _ e. absurd (no_stand s e) };
+  ends = record {
+    opened = λ g p b from upto is. put_all (opening_head 1) q head_link (λ p (l : Link). IsHead p → IsHeadIn g (core.shape g) p → g ≤ l.generation) (λ _ _. omega arith) (λ p _ b is. old.ends.opened g p b from upto is) p b is;
+    loaded = λ k h n _ is. absurd (none_help h is);
+    sealed = λ k h n _ is. absurd (none_help h is);
+    low = omega arith;
+    high = λ later. absurd (omega arith);
+    pinned = λ is. absurd (omega arith);
+    past = λ some. absurd (omega arith);
+    pins = λ k h p _ is. absurd (none_help h is);
+    older = λ k w x _ is. absurd (no_walk w is);
+  };
 }
 
 pub witness : Witness core

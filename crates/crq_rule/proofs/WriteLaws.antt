@@ -368,6 +368,7 @@ module _ (c : Core) (j r : ℕ) (x : Content) (b : j < c.start.layout.workers) (
     rooms = inv.rooms;
     bare = inv.bare;
     unlinked = inv.unlinked;
+    ends = inv.ends;
     swept = swept_events _ _ _ _ _ _ event (λ q s d i. events_else s (chained_else q s d i)) inv.swept;
     numbers = inv.numbers;
     bounds = inv.bounds;

@@ -8,6 +8,7 @@ use Rattle.crq_rule.specs.Bounds.{Bounds}
 use Rattle.crq_rule.specs.Helping.{Helps}
 use Rattle.crq_rule.specs.Copies.{Rows, Copies, Rooms, Bare, Unlinked}
 use Rattle.crq_rule.specs.Ahead.{Ahead}
+use Rattle.crq_rule.specs.Ending.{Ending, Ends}
 use Rattle.crq_rule.specs.ScarceParts.{Scarce, Refusals, Swept}
 
 -- what the facts of takes are stated over
@@ -20,6 +21,10 @@ takes_of c = record { begun = c.begun; read = c.read; sight = c.sight; walk = c.
 -- what the facts of copies are stated over
 abbrev pub rows_of_core : Core → Rows
 rows_of_core c = record { layout = c.start.layout; link = c.words.link; twin = c.words.twin; event = c.words.event; holding = c.holding; copying = c.copying }
+
+-- what the facts of a move's end are stated over
+abbrev pub ending_of : Core → Ending
+ending_of c = record { start = c.start; control = c.words.control; shape = c.shape; head = c.words.head; current = c.words.current; pin = c.words.pin; sight = c.sight; walk = c.walk; help = c.help }
 
 pub record Inv (c : Core) : Type 0 where
   pub spelled : Spelled c.start.layout c.words.control c.words.current c.words.pin c.words.head c.words.link c.words.twin c.words.event
@@ -48,7 +53,7 @@ pub record Inv (c : Core) : Type 0 where
   pub settling : Settling c.start.layout.workers c.history c.settling
   pub walkers : Walkers (present_of c) (takes_of c) c.words.link c.words.event
   pub ahead : Ahead c.history c.words.current
-  pub bounds : Bounds c.start c.words.control c.words.current c.history c.settling c.permit
+  pub bounds : Bounds c.start c.words.control c.words.current c.words.pin c.history c.settling c.permit
   pub scarce : Scarce c.start.layout c.words.epoch c.history c.base c.guard c.holding
   pub refusals : Refusals c.start.layout.workers c.history c.refused
   pub swept : Swept c.start.layout c.history c.words.event c.chain c.sweep c.clean
@@ -57,3 +62,4 @@ pub record Inv (c : Core) : Type 0 where
   pub rooms : Rooms c.start.layout.workers c.copying c.named
   pub bare : Bare c.words.control c.shape c.words.head c.chain
   pub unlinked : Unlinked c.start.layout.workers c.history c.old
+  pub ends : Ends (ending_of c)

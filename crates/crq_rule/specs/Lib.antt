@@ -1,5 +1,5 @@
 -- What public contracts cite, directly or through other definitions. Whoever believes them has to read these first: where each word lies, what the core state is, what each kind of step does to it and when it may come, a new table, and a
--- deal. Of Kinds, ListKinds, CurrentKinds, MoveKinds and CopyKinds, what changes what a Caller knows is cited by the crates above alone (`scans`, `walks` and the like): the laws speak of the whole state after a step (`After`).
+-- deal. Of Kinds, ListKinds, CurrentKinds, MoveKinds, CopyKinds and PinKinds, what changes what a Caller knows is cited by the crates above alone (`scans`, `walks` and the like): the laws speak of the whole state after a step (`After`).
 pub mod Widths
 pub mod Places
 pub mod Lists
@@ -10,6 +10,7 @@ pub mod ListKinds
 pub mod CurrentKinds
 pub mod MoveKinds
 pub mod CopyKinds
+pub mod PinKinds
 pub mod Steps
 pub mod Rule
 pub mod Opening
@@ -28,6 +29,7 @@ pub mod Bounds
 pub mod Ahead
 pub mod Helping
 pub mod Copies
+pub mod Ending
 pub mod Invariant
 -- What only proofs and the crates above cite.
 pub mod Moves

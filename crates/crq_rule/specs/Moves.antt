@@ -6,8 +6,9 @@ use Rattle.crq_base.specs.declared.words.Link.{Link}
 use Rattle.crq_base.specs.declared.event.Event.{Event}
 use Rattle.crq_base.specs.declared.words.Control.{Control}
 use Rattle.crq_base.specs.declared.words.Current.{Current}
+use Rattle.crq_base.specs.declared.words.Pin.{Pin}
 use Rattle.crq_base.specs.declared.words.Mark.TheVariants.{Val, Inv as Invalid, Mov, Del}
-use Rattle.crq_base.specs.Words.{IsLink, IsControl, IsCurrent, link_word, control_word, current_word}
+use Rattle.crq_base.specs.Words.{IsLink, IsControl, IsCurrent, IsPin, link_word, control_word, current_word, pin_word}
 use Rattle.crq_base.specs.Lists.{In}
 use Rattle.crq_rule.specs.declared.view.Sight.{Sight}
 use Rattle.crq_rule.specs.declared.view.Stand.{Stand}
@@ -26,11 +27,12 @@ use Rattle.crq_rule.specs.Core.{Core, HasName, names_of, caller_of}
 use Rattle.crq_rule.specs.Helping.{IsHelping}
 use Rattle.crq_rule.specs.Invariant.{Inv}
 use Rattle.crq_rule.specs.Kinds.{FoundNoRow, makes, new_base, loads_based}
-use Rattle.crq_rule.specs.Ranks.{rank, next_of, IsHeadIn, IsOpen, IsTold, list_by, Cell, at_head, at_row}
+use Rattle.crq_rule.specs.Ranks.{rank, IsOpen, IsTold, list_by, Cell, at_head, at_row}
 use Rattle.crq_rule.specs.ListKinds.{Aim, StandsOn, walks, loads_control}
 use Rattle.crq_rule.specs.MoveKinds.{announces}
 use Rattle.crq_rule.specs.CurrentKinds.{loads_current, loads_owed}
 use Rattle.crq_rule.specs.CopyKinds.{loads_copy}
+use Rattle.crq_rule.specs.PinKinds.{loads_for_pin, loads_pin}
 use Rattle.crq_rule.specs.Steps.{Kind, May, After, kind_of}
 use Rattle.crq_rule.specs.Rule.{IsWords}
 
@@ -73,6 +75,9 @@ pub record Lawful (p : Caller) : Type 0 where
   pub controlled : (x : Control) → p.found.control ≡ Some x → IsControl x × (p.start.moves ≡ false → x.moving ≡ false)
   -- a helper found the control word of its move, which leads to a table that has a generation
   pub helping : (h : Help) → p.help ≡ Some h → (x : Control) × (p.found.control ≡ Some x) × IsHelping x h × (x.generation + 1 < 2 ^ 30)
+  -- the epoch that it loaded for the pin has a word, and one is left behind that of the pin
+  pub loaded : (h : Help) (n : ℕ) → p.help ≡ Some h → h.epoch ≡ Some n → n < 2 ^ 32
+  pub pinned : (h : Help) (n : Pin) → p.help ≡ Some h → h.pin ≡ Some n → n.epoch + 1 < 2 ^ 32
   -- a permit leaves an epoch behind the one that was found
   pub permitted : (x : Current) → p.permit ≡ true → p.found.current ≡ Some x → x.epoch + 1 < 2 ^ 32
 
@@ -104,15 +109,20 @@ WalksOn (at_row r) l e p = (f : Event) → StandsOn p.position.rows r f → 0 < 
 abbrev pub IsFrozen : Link → Caller → Type 0
 IsFrozen l p = (l.mark ≡ Mov) × (p.start.moves ≡ true)
 
--- A head of the table that was found is of its generation, and present or frozen; one of the table that it moves into is of that, and present, or older. A row is of the table of its stand; where the table may not move, it is present or dead
+-- A head of the table that was found is of that or of a later table
+pub record IsHeadOf (x : Control) (l : Link) (p : Caller) : Type 0 where
+  pub frozen : l.mark ≡ Mov → p.start.moves ≡ true
+  pub generation : x.generation ≤ l.generation
+  pub still : p.start.moves ≡ false → l.generation ≡ x.generation
+
+-- A head is present or frozen. A row is of the table of its stand; where the table may not move, it is present or dead
 abbrev pub IsWalkable : Cell → Link → Caller → Type 0
-IsWalkable (at_head q) l p = (x : Control) → p.found.control ≡ Some x → (IsOpen x q → ((l.mark ≡ Val) ⊎ IsFrozen l p) × (l.generation ≡ x.generation))
-    × (x.moving ≡ true → IsHeadIn (x.generation + 1) (next_of x) q → x.generation < l.generation → (l.mark ≡ Val) × (l.generation ≡ x.generation + 1))
+IsWalkable (at_head q) l p = ((l.mark ≡ Val) ⊎ (l.mark ≡ Mov)) × ((x : Control) → p.found.control ≡ Some x → IsOpen x q → IsHeadOf x l p)
 IsWalkable (at_row r) l p = (((l.mark ≡ Val) ⊎ (l.mark ≡ Del)) ⊎ (p.start.moves ≡ true)) × ((s : Stand) → In s p.position.rows → s.row ≡ r → l.generation ≡ s.generation)
 
--- a helper that has passed all heads of the table that moves finds each of them frozen
+-- a helper that has passed all heads of the table that moves finds each of them frozen, as long as it is of that table
 abbrev pub IsStillFrozen : Cell → Link → Caller → Type 0
-IsStillFrozen (at_head q) l p = (x : Control) (h : Help) → p.found.control ≡ Some x → p.help ≡ Some h → h.frozen ≡ 2 ^ x.log → IsOpen x q → l.mark ≡ Mov
+IsStillFrozen (at_head q) l p = (x : Control) (h : Help) → p.found.control ≡ Some x → p.help ≡ Some h → h.frozen ≡ 2 ^ x.log → IsOpen x q → l.generation ≡ x.generation → l.mark ≡ Mov
 IsStillFrozen (at_row r) l p = Unit {0}
 
 -- a walk found the link of the cell, and the event of the row that it names
@@ -204,3 +214,18 @@ pub record FoundAnnounce (x : Control) (log shift found : ℕ) (p q : Caller) : 
   pub is_control : IsControl control
   pub word : control_word control ≡ found
   pub after : cond (found == control_word x) (announces log shift p) (loads_control control p) ≡ q
+
+-- a helper found current for the pin, which isn't before any that it found
+pub record FoundForPin (found : ℕ) (p q : Caller) : Type 0 where
+  pub current : Current
+  pub is_current : IsCurrent current
+  pub word : current_word current ≡ found
+  pub after : loads_for_pin current p ≡ q
+  pub later : (x : Current) → p.found.current ≡ Some x → NotAfter x current
+
+-- the pin was found
+pub record FoundPin (found : ℕ) (p q : Caller) : Type 0 where
+  pub pin : Pin
+  pub is_pin : IsPin pin
+  pub word : pin_word pin ≡ found
+  pub after : loads_pin pin p ≡ q

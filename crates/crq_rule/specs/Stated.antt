@@ -12,7 +12,7 @@ use Rattle.crq_base.specs.declared.words.Mark.TheVariants.{Val, Inv as Invalid, 
 use Rattle.crq_base.specs.declared.words.Control.{Control}
 use Rattle.crq_base.specs.declared.words.Current.{Current}
 use Rattle.crq_base.specs.declared.words.Pin.{Pin}
-use Rattle.crq_base.specs.Words.{flag_number, IsLink, IsControl, IsCurrent, IsPin, IsStampWord, link_word, control_word, current_word, pin_word}
+use Rattle.crq_base.specs.Words.{IsLink, IsControl, IsCurrent, IsPin, IsStampWord, link_word, control_word, current_word, pin_word}
 use Rattle.crq_base.specs.Lists.{In, IsOnce}
 use Rattle.crq_base.specs.Sources.{owner_of}
 use Rattle.crq_base.specs.Refusals.{AreCounted}
@@ -32,7 +32,7 @@ use Rattle.crq_rule.specs.Parts.{ground_of, newest, NotAfter, IsOn, LetsRise, Le
 use Rattle.crq_rule.specs.Ranks.{bucket, head_for, shape_of, next_of, list_in, head_of, IsHeadIn, IsOpen}
 use Rattle.crq_rule.specs.ListParts.{IsFinal}
 use Rattle.crq_rule.specs.HistoryParts.{IsLive, EndsInBegin, IsSought, IsNotBefore}
-use Rattle.crq_rule.specs.Bounds.{permits}
+use Rattle.crq_rule.specs.Bounds.{permits, coming}
 use Rattle.crq_rule.specs.ScarceParts.{IsLate, pending}
 
 -- 1. Words
@@ -281,14 +281,14 @@ pub record ScarcityHolds (c : Core) : Type 0 where
 
 -- 11. Bounds
 
--- A generation is left, and the epoch of the guards has room. A caller that owes an event has a permit. Current's epoch, the permits, and one epoch more while the table moves leave 48 epochs, and each rise of that epoch stands in the history. So does each table: the newest one's generation is the first one and their number
+-- A generation is left, and the epoch of the guards has room. A caller that owes an event has a permit. Current's epoch, the permits, and one epoch more while the table moves and current isn't past the pin of the next one, leave 48 epochs, and each rise of that epoch stands in the history. So does each table: the newest one's generation is the first one and their number
 pub record BoundsHold (c : Core) : Type 0 where
   pub generation : c.words.control.generation ≤ 2 ^ 30 - 2
   pub opened : newest c.words.control ≡ c.start.first.generation + table_count c.history
   pub guards : c.words.epoch ≤ 2 ^ 62
   pub owed : (k : ℕ) (d : SettleDebt) → k < c.start.layout.workers → c.settling k ≡ Some d → c.permit k ≡ true
-  pub permits : c.words.current.epoch + (permits c.permit c.start.layout.workers + flag_number c.words.control.moving) ≤ 2 ^ 32 - 48
-  pub entries : c.words.current.epoch + flag_number c.words.control.moving ≤ c.start.first.epoch + raising_count c.history
+  pub permits : c.words.current.epoch + (permits c.permit c.start.layout.workers + coming c.words.control c.words.current c.words.pin) ≤ 2 ^ 32 - 48
+  pub entries : c.words.current.epoch + coming c.words.control c.words.current c.words.pin ≤ c.start.first.epoch + raising_count c.history
 
 -- 12. Helpers
 
@@ -330,6 +330,28 @@ pub record CopiesHold (c : Core) : Type 0 where
   pub alone : (j k t : ℕ) → OwesCopy c j t → OwesCopy c k t → j ≡ k
   pub old : (k : ℕ) (d : CopyDebt) → k < c.start.layout.workers → c.copying k ≡ Some d → ((c.words.link d.old).mark ≡ Mov) × (c.words.event d.old ≡ c.words.event d.copy)
   pub left : (k g r : ℕ) → IsCovered c k g r → (c.words.link r).mark ≡ Mov → (IsInList c r → ⊥) → (c.words.twin r ≢ 0) × ((c.words.link (c.words.twin r)).mark ≢ Invalid)
+
+-- 14. The end of a move
+
+-- no take that walks saw an epoch of current above this one
+abbrev pub AreBehind : Core → ℕ → Type 0
+AreBehind c n = (k : ℕ) (s : Sight) (w : Walk) → IsWalking c k s w → s.current.epoch ≤ n
+
+-- The pin names no later table than the newest, and no earlier one than the open one, if that isn't the first. While it names the next table, all heads of the open one are frozen, its epoch isn't above current's, and no take that walks saw a later epoch. Once that table is open, current's epoch
+-- is past the pin's, and above that which each take saw that still walks an older table. Each head of a table that was opened is of that table, or of a later one. Of a helper, as long as its move goes on: no take that walks saw a later epoch than it loaded for the pin, and the pin that it found is the
+-- present one, of the next table; where it found current's epoch past that, it is
+pub record EndingHolds (c : Core) : Type 0 where
+  pub opened : (g q : ℕ) → IsHead q → c.start.first.generation ≤ g → g ≤ c.words.control.generation → IsHeadIn g (c.shape g) q → g ≤ (c.words.head q).generation
+  pub low : c.words.pin.generation ≤ newest c.words.control
+  pub high : c.start.first.generation < c.words.control.generation → c.words.control.generation ≤ c.words.pin.generation
+  pub frozen : c.words.pin.generation ≡ c.words.control.generation + 1 → (q : ℕ) → IsHead q → IsOpen c.words.control q → (c.words.head q).mark ≡ Mov
+  pub behind : c.words.pin.generation ≡ c.words.control.generation + 1 → (c.words.pin.epoch ≤ c.words.current.epoch) × AreBehind c c.words.pin.epoch
+  pub past : 0 < c.words.pin.generation → c.words.pin.generation ≤ c.words.control.generation → c.words.pin.epoch < c.words.current.epoch
+  pub older : (k : ℕ) (s : Sight) (w : Walk) → IsWalking c k s w → s.table.generation < c.words.control.generation → s.current.epoch < c.words.current.epoch
+  pub loaded : (k : ℕ) (h : Help) (epoch : ℕ) → k < c.start.layout.workers → c.help k ≡ Some h → h.generation ≡ c.words.control.generation → h.epoch ≡ Some epoch → (epoch ≤ c.words.current.epoch) × AreBehind c epoch
+  pub found : (k : ℕ) (h : Help) (pin : Pin) → k < c.start.layout.workers → c.help k ≡ Some h → h.generation ≡ c.words.control.generation → h.pin ≡ Some pin → (c.words.pin ≡ pin) × (pin.generation ≡ c.words.control.generation + 1)
+  pub passed : (k : ℕ) (h : Help) (pin : Pin) (y : Current) → k < c.start.layout.workers → c.help k ≡ Some h → h.generation ≡ c.words.control.generation → h.pin ≡ Some pin → (c.found k).current ≡ Some y → pin.epoch < y.epoch
+      → c.words.pin.epoch < c.words.current.epoch
 
 -- A state that meets the invariant in which the listed row r is covered by a guard, the row s was cut and has a tag, and the row t is retired
 pub record Witness (c : Core) : Type 0 where

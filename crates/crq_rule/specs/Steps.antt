@@ -1,18 +1,19 @@
 -- One step of any kind, on core states: when it may come, and what it leaves.
 use Rattle.std.specs.Prelude.{◌≡◌, true, false, ℕ, ◌<◌, ◌^◌, Bool, List, [], ◌∷◌, Some, None}
 use Rattle.crq_base.specs.declared.kinds.StepKind.{StepKind}
-use Rattle.crq_base.specs.declared.kinds.StepKind.TheVariants.{Split, Join, EpochLoad, Enter, Confirm, Leave, Scan, Tick, Retire, Look, Claim, Write, Read, ControlLoad, CurrentLoad, SettleLoad, Settle, Raise, Begin, Walk, Link as LinkKind, Mark, Cut, Miss, Announce, Prepare, FreezeHead, FreezeNode, Pop, TwinLoad, Copy, Bind, Validate, Discard}
+use Rattle.crq_base.specs.declared.kinds.StepKind.TheVariants.{Split, Join, EpochLoad, Enter, Confirm, Leave, Scan, Tick, Retire, Look, Claim, Write, Read, ControlLoad, CurrentLoad, SettleLoad, Settle, Raise, Begin, Walk, Link as LinkKind, Mark, Cut, Miss, Announce, Prepare, FreezeHead, FreezeNode, Pop, TwinLoad, Copy, Bind, Validate, Discard, PinLoad, Pin as PinKind, Pass, Finish}
 use Rattle.crq_base.specs.declared.event.Event.{Event}
 use Rattle.crq_base.specs.declared.words.Link.{Link}
 use Rattle.crq_base.specs.declared.words.Control.{Control}
 use Rattle.crq_base.specs.declared.words.Current.{Current}
+use Rattle.crq_base.specs.declared.words.Pin.{Pin}
 use Rattle.crq_base.specs.declared.entry.Entry.{Entry}
 use Rattle.crq_base.specs.declared.entry.Entry.TheVariants.{Begin as BeginEntry, Put as PutEntry, Settled as SettledEntry, Take as TakeEntry, Miss as MissEntry, Table as TableEntry}
 use Rattle.crq_rule.specs.declared.debts.SettleDebt.{SettleDebt}
 use Rattle.crq_rule.specs.declared.view.Guard.TheVariants.{Off}
 use Rattle.crq_base.specs.declared.words.Mark.TheVariants.{Val, Mov}
 use Rattle.crq_base.specs.Lists.{In}
-use Rattle.crq_rule.specs.Places.{IsHomeRow, Place, spare, epoch, announced, control, current, head, stamp, twin as twin_place, link as link_place}
+use Rattle.crq_rule.specs.Places.{IsHomeRow, Place, spare, epoch, announced, control, current, pin as pin_place, head, stamp, twin as twin_place, link as link_place}
 use Rattle.crq_rule.specs.Parts.{IsOn}
 use Rattle.crq_rule.specs.Ranks.{Cell, at_head, cell_place, link_at}
 use Rattle.crq_rule.specs.Core.{Core, caller_of}
@@ -22,6 +23,8 @@ use Rattle.crq_rule.specs.ListKinds.{Aim, is_cell, Content, IsContent, content_n
 use Rattle.crq_rule.specs.MoveKinds.{prepared_link, frozen_link, table_announced, head_left, row_frozen, MayAnnounce, MayPrepare, MayFreezeHead, MayFreezeRow, MayPop}
 use Rattle.crq_rule.specs.declared.debts.CopyDebt.{CopyDebt}
 use Rattle.crq_rule.specs.declared.view.Stand.{Stand}
+use Rattle.crq_rule.specs.declared.view.Help.{Help}
+use Rattle.crq_rule.specs.PinKinds.{loaded_for_pin, pin_loaded, pinned_by, passed_by, table_opened, MayLoadForPin, MayPin, MayPass, MayFinish}
 use Rattle.crq_rule.specs.CopyKinds.{twin_loaded, twin_found, copied, copy_loaded, bound_by, validated_by, lost_name, front_name, discarded_by, MayTwin, MayCopy, MayValidate, MayDrop, MayDiscard}
 
 -- the kinds of step with their operands; an exchange that fails is a case of its own. Splitting and joining move parts of views from seat to seat, and leave the core state
@@ -80,6 +83,14 @@ pub data Kind : Type 0 where
   discard_copy : CopyDebt → Link → Kind
   discard_front : ℕ → ℕ → Event → Link → Kind
   discard_fails : ℕ → Kind
+  load_for_pin : Control → Help → Kind
+  pin_load : Kind
+  pin : Control → Help → ℕ → Pin → Kind
+  pin_fails : Kind
+  pass : Control → Help → Pin → Current → Kind
+  pass_fails : Kind
+  finish : Control → Help → Pin → Current → Kind
+  finish_fails : Kind
 
 -- when the caller j may make it
 abbrev pub May : Kind → Core → ℕ → Type 0
@@ -137,6 +148,14 @@ May (validate_fails t) c j = Unit {0}
 May (discard_copy d l) c j = MayDrop d l (caller_of c j) × (c.words.link d.copy ≡ l)
 May (discard_front q r e l) c j = MayDiscard q r e l (caller_of c j) × (c.words.link r ≡ l)
 May (discard_fails r) c j = Unit {0}
+May (load_for_pin x h) c j = MayLoadForPin x h (caller_of c j)
+May pin_load c j = Unit {0}
+May (pin x h m n) c j = MayPin x h m n (caller_of c j) × (c.words.pin ≡ n)
+May pin_fails c j = Unit {0}
+May (pass x h n y) c j = MayPass x h n y (caller_of c j) × (c.words.current ≡ y)
+May pass_fails c j = Unit {0}
+May (finish x h n y) c j = MayFinish x h n y (caller_of c j) × (c.words.control ≡ x)
+May finish_fails c j = Unit {0}
 
 -- the core state after it
 abbrev pub After : Kind → Core → ℕ → Core
@@ -194,6 +213,14 @@ After (validate_fails t) c j = c
 After (discard_copy d l) c j = discarded_by c j d.copy l (lost_name d) None
 After (discard_front q r e l) c j = discarded_by c j r l (front_name q r e l) (c.copying j)
 After (discard_fails r) c j = c
+After (load_for_pin x h) c j = loaded_for_pin c j
+After pin_load c j = pin_loaded c j
+After (pin x h m n) c j = pinned_by c x m
+After pin_fails c j = c
+After (pass x h n y) c j = passed_by c y
+After pass_fails c j = c
+After (finish x h n y) c j = table_opened c x
+After finish_fails c j = c
 
 -- the word that it loads, stores or exchanges
 abbrev pub place_of : Kind → ℕ → Place
@@ -251,6 +278,14 @@ place_of (validate_fails t) j = link_place t
 place_of (discard_copy d l) j = link_place d.copy
 place_of (discard_front q r e l) j = link_place r
 place_of (discard_fails r) j = link_place r
+place_of (load_for_pin x h) j = current
+place_of pin_load j = pin_place
+place_of (pin x h m n) j = pin_place
+place_of pin_fails j = pin_place
+place_of (pass x h n y) j = current
+place_of pass_fails j = current
+place_of (finish x h n y) j = control
+place_of finish_fails j = control
 
 -- its name
 abbrev pub kind_of : Kind → StepKind
@@ -308,6 +343,14 @@ kind_of (validate_fails t) = Validate
 kind_of (discard_copy d l) = Discard
 kind_of (discard_front q r e l) = Discard
 kind_of (discard_fails r) = Discard
+kind_of (load_for_pin x h) = CurrentLoad
+kind_of pin_load = PinLoad
+kind_of (pin x h m n) = PinKind
+kind_of pin_fails = PinKind
+kind_of (pass x h n y) = Pass
+kind_of pass_fails = Pass
+kind_of (finish x h n y) = Finish
+kind_of finish_fails = Finish
 
 -- the entries that it adds to the history
 abbrev pub entries_of : Kind → ℕ → List Entry

@@ -1,12 +1,16 @@
 //! Laws of the rule: facts about every state that meets the invariant, and about every step. They hold by proof, and
 //! running them does nothing.
-ghost use Rattle.std.specs.Prelude.{◌≡◌, ◌≢◌, ℕ, ◌+◌, ◌-◌, ◌*◌, ◌/◌, ◌<◌, ◌≤◌, List, [], ◌++◌, length, take};
+ghost use Rattle.std.specs.Prelude.{◌≡◌, ◌≢◌, ℕ, ◌+◌, ◌-◌, ◌*◌, ◌/◌, ◌<◌, ◌≤◌, List, [], ◌++◌, length, take, Some};
 ghost use Rattle.atomic_table.specs.Table.{opening, Joins, Me, Splits};
 ghost use Rattle.crq_base.specs.declared.words.Mark.TheVariants.{Inv as Invalid};
 ghost use Rattle.crq_base.specs.Starts.{IsFirst};
 ghost use Rattle.crq_base.specs.Lists.{In};
 ghost use Rattle.crq_base.specs.Refusals.{AreCounted};
+ghost use Rattle.crq_base.specs.declared.event.Event.{Event};
+ghost use Rattle.crq_base.specs.declared.words.Control.{Control};
+ghost use Rattle.crq_base.specs.declared.words.Current.{Current};
 ghost use Rattle.crq_rule.specs.declared.layout.Start.{Start};
+ghost use Rattle.crq_rule.specs.declared.view.Sight.{Sight};
 ghost use Rattle.crq_rule.specs.declared.view.Guard.TheVariants.{On};
 ghost use Rattle.crq_rule.specs.declared.view.Base.{Base};
 ghost use Rattle.crq_rule.specs.declared.view.Made.{Made};
@@ -16,11 +20,11 @@ ghost use Rattle.crq_rule.specs.Core.{Core, caller_of};
 ghost use Rattle.crq_rule.specs.Invariant.{Inv};
 ghost use Rattle.crq_rule.specs.ScarceParts.{pending};
 ghost use Rattle.crq_rule.specs.Kinds.{after_made, new_base, FoundNoRow, IsRipe};
-ghost use Rattle.crq_rule.specs.Steps.{Kind, recovery_load, look, May, After, IsStep, place_of, entries_of};
+ghost use Rattle.crq_rule.specs.Steps.{Kind, recovery_load, look, raise, mark, May, After, IsStep, place_of, entries_of};
 ghost use Rattle.crq_rule.specs.Rule.{Stands, first_view, joined, spent, head_view, tail_view, IsFirstApart};
 ghost use Rattle.crq_rule.specs.Deals.{HasAll, LoadsSpare, Gathered, IsSilent, spans};
 ghost use Rattle.crq_rule.specs.Opening.{opening_core, opening_words};
-ghost use Rattle.crq_rule.specs.Stated.{WordsHold, HoldersHold, GuardsHold, CoverHolds, ListsHold, CarriersHold, HistoryHolds, CurrentHolds, WalkersHold, ScarcityHolds, BoundsHold, HelpersHold, CopiesHold, IsCovered, HasTwin, Witness};
+ghost use Rattle.crq_rule.specs.Stated.{WordsHold, HoldersHold, GuardsHold, CoverHolds, ListsHold, CarriersHold, HistoryHolds, CurrentHolds, WalkersHold, ScarcityHolds, BoundsHold, HelpersHold, CopiesHold, EndingHolds, IsCovered, HasTwin, Witness};
 
 /// Each kind of step keeps the invariant, from every state that meets it. It changes the word of its kind alone, if any,
 /// and what its own caller knows alone, and it adds its entries to the history, which is else as it was.
@@ -63,7 +67,7 @@ pub fn opening_law()
 
 /// The invariant that is kept implies each of its parts as it is stated: on words, on the holders of rows, on guards, on
 /// covered rows, on lists, on the rows that carry pending events, on the history, on current, on takes that walk, on
-/// recoveries of rows, on how far counters may rise, on what helpers of a move have passed, and on copies.
+/// recoveries of rows, on how far counters may rise, on what helpers of a move have passed, on copies, and on how a move ends.
 pub fn parts_law()
     ensures words { (c : Core) → Inv c → WordsHold c }
     ensures holders { (c : Core) → Inv c → HoldersHold c }
@@ -78,6 +82,14 @@ pub fn parts_law()
     ensures bounds { (c : Core) → Inv c → BoundsHold c }
     ensures helpers { (c : Core) → Inv c → HelpersHold c }
     ensures copies { (c : Core) → Inv c → CopiesHold c }
+    ensures ending { (c : Core) → Inv c → EndingHolds c }
+{}
+
+/// Once the next table is open, a take that read an older one can't do harm any more: it may neither raise current nor mark
+/// a row, so its exchange fails.
+pub fn stale_law()
+    ensures raises { (c : Core) (j : ℕ) (s : Sight) (x : Control) (y : Current) → Inv c → j < c.start.layout.workers → c.sight j ≡ Some s → s.table.generation < c.words.control.generation → May (raise x y) c j → ⊥ }
+    ensures marks { (c : Core) (j r : ℕ) (e : Event) (s : Sight) → Inv c → j < c.start.layout.workers → c.sight j ≡ Some s → s.table.generation < c.words.control.generation → May (mark r e) c j → ⊥ }
 {}
 
 /// Some state in which current was raised meets the invariant.

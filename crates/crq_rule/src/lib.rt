@@ -18,7 +18,7 @@ pub use crq_base::{First, StepKind};
 pub use debts::{CopyDebt, CutDebt, Debts, SettleDebt};
 pub use laws::{
     claim_law, current_law, gather_law, guard_law, move_law, opening_law, parts_law, scarcity_law,
-    seat_law, step_law, witness_law,
+    seat_law, stale_law, step_law, witness_law,
 };
 pub use layout::{BANK, Layout, Start};
 pub use opening::{Opened, open_table};

@@ -1,5 +1,5 @@
 //! Callers that are stopped before an exchange of a move, while another one moves all.
-ghost use Rattle.std.specs.Prelude.{◌<◌, length, IfOk, IfSome};
+ghost use Rattle.std.specs.Prelude.{◌≡◌, ◌<◌, length, true, IfOk, IfSome};
 ghost use Rattle.crq_base.specs.Words.{IsControl};
 ghost use Rattle.crq_move_trials.specs.Moving.{MayHelp};
 ghost use Rattle.crq_move_trials.specs.Looking.{IsLooker};

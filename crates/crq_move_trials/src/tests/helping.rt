@@ -1,6 +1,8 @@
 //! Callers that help a move: a table that may move, events that stand in it, and the helpers' steps.
-ghost use Rattle.std.specs.Prelude.{◌≡◌, ◌<◌, ◌+◌, ℕ, true, length, IfOk, IfSome};
-ghost use Rattle.crq_rows.specs.Passes.{IsNew};
+ghost use Rattle.std.specs.Prelude.{◌≡◌, ◌<◌, ◌+◌, ◌^◌, ℕ, true, length, IfOk, IfSome};
+ghost use Rattle.crq_base.specs.declared.words.Control.{Control};
+ghost use Rattle.crq_base.specs.Words.{IsControl};
+ghost use Rattle.crq_rows.specs.Passes.{caller, IsNew, IsPassOf};
 ghost use Rattle.crq_move_trials.specs.Moving.{AreNewPlaces, HasEntered, MayHelp};
 
 use crq_base::{Control, Event, First};

@@ -3,6 +3,7 @@ use Rattle.crq_rule.proofs.StatingLists.{lists_hold, carriers_hold, history_hold
 use Rattle.crq_rule.proofs.StatingScarcity.{scarcity_holds}
 use Rattle.crq_rule.proofs.StatingHelpers.{helpers_hold}
 use Rattle.crq_rule.proofs.StatingCopies.{copies_hold}
+use Rattle.crq_rule.proofs.StatingEnd.{ending_holds}
 use Rattle.crq_rule.proofs.laws.parts_law.Goals as goal
 
 pub returns : goal.returns
@@ -20,4 +21,5 @@ returns c = record {
   bounds = bounds_hold;
   helpers = helpers_hold;
   copies = copies_hold;
+  ending = ending_holds;
 }

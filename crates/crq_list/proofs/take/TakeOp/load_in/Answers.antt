@@ -10,9 +10,14 @@ use Rattle.crq_list.proofs.take.TakeOp.load_in.Goals as goal
 pub returns-in-Val : goal.returns-in-Val
 returns-in-Val c n x t = let table = c.args.table.now in let op = c.args.self.now in let old = c.args.pass.now in let l = c.walk_step-link.result in let told = c.goes_past_in.result in let at = c.requires.place in
     answers_so n table x (take_at op Load) old _ (take_at op told.0, told.1) (goes_past op l l.row) (past_in op at.0 at.1 l l.row told c.goes_past_in.ensures)
-    (λ control u. head_stepped n table op old _ l op.place control c.requires.of.lawful c.walk_step-link.ensures c.in-Val.is u) c.requires.of.lawful t
+    (λ control u. head_stepped n table op old _ l op.place control c.requires.of.lawful c.walk_step-link.ensures c.in-Val.is c.if-link-self.false u) c.requires.of.lawful t
 
 pub returns-in_default : goal.returns-in_default
 returns-in_default c n x t = let table = c.args.table.now in let op = c.args.self.now in let old = c.args.pass.now in let l = c.walk_step-link.result in
     answers_so n table x (take_at op Load) old _ ((take_at op Load), Done Frozen) ((take_at op Load), Done Frozen) refl
-    (λ control u. head_frozen n table op (take_at op Load) old _ l op.place c.requires.of.lawful c.walk_step-link.ensures c.in_default.not-Val u) c.requires.of.lawful t
+    (λ control u. head_frozen n table op (take_at op Load) old _ l op.place c.requires.of.lawful c.walk_step-link.ensures (λ _. c.in_default.not-Val) u) c.requires.of.lawful t
+
+pub returns-then-link-self : goal.returns-then-link-self
+returns-then-link-self c n x t = let table = c.args.table.now in let op = c.args.self.now in let old = c.args.pass.now in let l = c.walk_step-link.result in
+    answers_so n table x (take_at op Load) old _ ((take_at op Load), Done Frozen) ((take_at op Load), Done Frozen) refl
+    (λ control u. head_frozen n table op (take_at op Load) old _ l op.place c.requires.of.lawful c.walk_step-link.ensures (λ same _. c.if-link-self.true same) u) c.requires.of.lawful t
