@@ -1,5 +1,8 @@
 pub mod Orders
 pub mod StepLaws
+pub mod EndingLaws
+pub mod PinningLaws
+pub mod FinishingLaws
 pub mod EmptySteps
 pub mod HelperLaws
 pub mod PrepareLaws

@@ -3,8 +3,11 @@
 pub mod Names
 pub mod Reads
 pub mod Steps
+pub mod Endings
 pub mod Helpers
 pub mod Preparing
 pub mod Freezing
 pub mod Emptying
+pub mod Pinning
+pub mod Finishing
 pub mod Helping

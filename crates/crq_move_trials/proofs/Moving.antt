@@ -1,6 +1,6 @@
 -- What the callers of a table that may move know when they put an event, and when they begin to help.
 use Rattle.std.proofs.Common.{◌≡◌, inl, inr, ⊎_elim, ℕ, zero, suc, ◌-◌, ◌<◌, min, cond, true, List, [], ◌∷◌, ◌++◌, length, get_or, Some, None, refl, sym, ap, ◌∙◌, subst, arith}
-use Rattle.std.specs.Prelude.{◌*◌, ◌%◌, ◌^◌, ◌≤◌, false, Bool, Option, is_some, slice_get}
+use Rattle.std.specs.Prelude.{◌^◌, ◌≤◌, false, Option, is_some, slice_get}
 use Rattle.std.proofs.lemmas.Bool.{false≢true}
 use Rattle.std.proofs.lemmas.Option.{slice_get_within}
 use Rattle.std.proofs.lemmas.Nat.{pow_pos}
@@ -21,7 +21,7 @@ use Rattle.crq_rule.specs.Parts.{IsEvent}
 use Rattle.crq_rule.specs.Places.{IsHead}
 use Rattle.crq_rule.specs.Ranks.{head_for, bucket, head_of, IsOpen}
 use Rattle.crq_rule.specs.Helping.{new_help}
-use Rattle.crq_rows.specs.Passes.{caller, IsNew, AreNew, IsPassOf}
+use Rattle.crq_rows.specs.Passes.{caller, IsNew, AreNew}
 use Rattle.crq_rows.proofs.Deals.{same_pass}
 use Rattle.crq_list.specs.declared.insert.InsertOp.{InsertOp}
 use Rattle.crq_list.specs.declared.insert.InsertState.TheVariants.{Writing}
@@ -34,7 +34,7 @@ use Rattle.crq_move.specs.declared.help.HelpPart.TheVariants.{Prepare}
 use Rattle.crq_move.specs.declared.prepare.PrepareState.TheVariants.{Load}
 use Rattle.crq_move.specs.Helpers.{IsHelper}
 use Rattle.crq_move.proofs.PrepareLaws.{prepare_begins}
-use Rattle.crq_move_trials.specs.Moving.{IsInside, AreNewPlaces, HasEntered, MayHelp}
+use Rattle.crq_move_trials.specs.Moving.{AreNewPlaces, HasEntered, MayHelp}
 
 -- New passes in their places
 

@@ -1,8 +1,6 @@
 -- A caller that looks at lists.
-use Rattle.std.specs.Prelude.{◌≡◌, ℕ, ◌<◌, true}
+use Rattle.std.specs.Prelude.{ℕ, ◌<◌}
 use Rattle.crq_base.specs.declared.event.Event.{Event}
-use Rattle.crq_base.specs.declared.words.Control.{Control}
-use Rattle.crq_base.specs.Words.{IsControl}
 use Rattle.crq_rule.specs.declared.pass.Pass.{Pass}
 use Rattle.crq_rule.specs.declared.pass.Table.{Table}
 use Rattle.crq_rule.specs.Parts.{IsOn}
@@ -17,7 +15,3 @@ pub record IsLooker (table : Table) (pass : Pass) : Type 0 where
 -- it stands on this row, if it is one
 abbrev pub HasCome : Table → ℕ → Pass → Type 0
 HasCome table row pass = 0 < row → (e : Event) × StandsOn (caller table pass).position.rows row e
-
--- the control word tells a move
-abbrev pub IsMove : Control → Type 0
-IsMove x = IsControl x × (x.moving ≡ true)

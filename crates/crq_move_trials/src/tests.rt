@@ -1,5 +1,6 @@
 //! Moves that several callers help.
 
+mod again;
 mod halting;
 mod helping;
 mod moved;

@@ -1,13 +1,13 @@
 //! Callers that are stopped before an exchange of a move, while another one moves all.
-ghost use Rattle.std.specs.Prelude.{◌≡◌, ◌<◌, length, true, IfOk, IfSome};
+ghost use Rattle.std.specs.Prelude.{◌<◌, length, IfOk, IfSome};
 ghost use Rattle.crq_base.specs.Words.{IsControl};
 ghost use Rattle.crq_move_trials.specs.Moving.{MayHelp};
 ghost use Rattle.crq_move_trials.specs.Looking.{IsLooker};
 
-use crate::tests::helping::{Helper, announced, finish, helper, step};
+use crate::tests::helping::{Helper, announced, finish, helper, opened, step};
 use crate::tests::moved::{is_moved, looker};
 use crq_base::{Control, Memory};
-use crq_move::{HelpPart, MoveState, PartEnd};
+use crq_move::{FinishState, HelpPart, MoveState};
 use crq_rows::{Owes, Pass, Table};
 use std::alloc::{AllocError, Global};
 use std::test::Fail;
@@ -15,9 +15,15 @@ use std::test::Fail;
 /// More steps than a caller's whole part in any move here.
 const STEPS: u32 = 4096;
 
-/// An exchange of an emptying, before which a caller can be stopped.
+/// An exchange of a move, before which a caller can be stopped.
 #[derive(Clone, Copy, Debug, PartialEq, Eq)]
-enum Exchange {
+pub(crate) enum Exchange {
+    /// A head of the new table is opened.
+    Prepare,
+    /// A head of the old one is frozen.
+    FreezeHead,
+    /// The new table is pinned.
+    Pin,
     /// The first row of a list is frozen.
     FreezeNode,
     /// A copy of it is linked.
@@ -32,17 +38,15 @@ enum Exchange {
     Cut,
     /// The row leaves its list.
     Pop,
+    /// Current is led past the pin.
+    Pass,
+    /// The new table is opened.
+    Finish,
 }
 
-/// Whether a helper's next step is this exchange.
-fn is_before(helper: &Helper, exchange: Exchange) -> bool {
-    let Some(help) = helper.0 else {
-        return false;
-    };
-    let HelpPart::Empty(op) = help.part else {
-        return false;
-    };
-    let fits = match op.state {
+/// Whether an emptying at this state is at this exchange, where it makes one next.
+fn empties(state: MoveState, exchange: Exchange) -> bool {
+    match state {
         MoveState::Freeze(_, _) => exchange == Exchange::FreezeNode,
         MoveState::Copy(_) => exchange == Exchange::Copy,
         MoveState::Bind(_) => exchange == Exchange::Bind,
@@ -51,12 +55,31 @@ fn is_before(helper: &Helper, exchange: Exchange) -> bool {
         MoveState::Cut(_) => exchange == Exchange::Cut,
         MoveState::Pop(_, _) => exchange == Exchange::Pop,
         _ => false,
+    }
+}
+
+/// Whether a helper's next step is this exchange.
+fn is_before(helper: &Helper, exchange: Exchange) -> bool {
+    let Some(help) = helper.0 else {
+        return false;
     };
-    fits && op.exchanges()
+    let fits = match help.part {
+        HelpPart::Prepare(_) => exchange == Exchange::Prepare,
+        HelpPart::Freeze(_) => exchange == Exchange::FreezeHead,
+        HelpPart::Pin(_) => exchange == Exchange::Pin,
+        HelpPart::Empty(op) => empties(op.state, exchange),
+        HelpPart::Finish(op) => match op.state {
+            FinishState::Pass(_, _) => exchange == Exchange::Pass,
+            FinishState::Open(_, _) => exchange == Exchange::Finish,
+            _ => false,
+        },
+        HelpPart::Over => false,
+    };
+    fits && help.exchanges()
 }
 
 /// Lets a helper go on up to this exchange, which it doesn't make yet. It says whether it came so far.
-fn stop_before(table: &Table, helper: &mut Helper, exchange: Exchange) -> bool
+pub(crate) fn stop_before(table: &Table, helper: &mut Helper, exchange: Exchange) -> bool
     requires { MayHelp table.now helper.old }
     ensures { MayHelp table.now helper.new }
 {
@@ -155,7 +178,10 @@ fn a_lost_copy_is_cut(rt: HostRuntime) -> Result<(), Fail> {
     };
     assert!(rt; stop_before(&scene.table, &mut scene.slow, Exchange::Bind));
     assert_eq!(rt; scene.slow.1.owes(), Owes::Copy);
-    assert_eq!(rt; finish(&scene.table, &mut scene.fast), Some(PartEnd::Done));
+    assert_eq!(rt;
+        finish(&scene.table, &mut scene.fast),
+        opened(&scene.control)
+    );
     assert!(rt;
         is_moved(
             rt.alloc(),
@@ -171,7 +197,10 @@ fn a_lost_copy_is_cut(rt: HostRuntime) -> Result<(), Fail> {
     assert_eq!(rt; step(&scene.table, &mut scene.slow), None);
     assert_eq!(rt; scene.slow.1.owes(), Owes::Cut);
     assert!(rt; stop_before(&scene.table, &mut scene.slow, Exchange::Cut));
-    assert_eq!(rt; finish(&scene.table, &mut scene.slow), Some(PartEnd::Done));
+    assert_eq!(rt;
+        finish(&scene.table, &mut scene.slow),
+        opened(&scene.control)
+    );
     assert_eq!(rt; scene.slow.1.owes(), Owes::Nothing);
     assert!(rt;
         is_moved(
@@ -221,6 +250,13 @@ struct Outcome {
     stays: bool,
 }
 
+/// How it is to come out.
+const GOOD: Outcome = Outcome {
+    stopped: true,
+    moved: true,
+    stays: true,
+};
+
 /// Stops a caller before an exchange, after it made it so often, while the other moves all, and then lets it go on.
 fn outcome_of(
     alloc: Global,
@@ -237,9 +273,9 @@ fn outcome_of(
     };
     let (table, control) = (&scene.table, &scene.control);
     let stopped = stop_at(table, &mut scene.slow, &mut scene.fast, exchange, made);
-    let ended = finish(table, &mut scene.fast) == Some(PartEnd::Done);
+    let ended = finish(table, &mut scene.fast) == opened(control);
     let moved = ended && is_moved(alloc, table, &mut scene.looker, control, shape.times)?;
-    let ended = finish(table, &mut scene.slow) == Some(PartEnd::Done);
+    let ended = finish(table, &mut scene.slow) == opened(control);
     let stays = ended && is_moved(alloc, table, &mut scene.looker, control, shape.times)?;
     let free = scene.slow.1.owes() == Owes::Nothing && scene.fast.1.owes() == Owes::Nothing;
     Ok(Some(Outcome {
@@ -249,7 +285,7 @@ fn outcome_of(
     }))
 }
 
-/// The exchanges before which a caller is stopped.
+/// The exchanges of an emptying before which a caller is stopped.
 const EXCHANGES: [Exchange; 7] = [
     Exchange::FreezeNode,
     Exchange::Copy,
@@ -275,11 +311,6 @@ fn a_stopped_caller_harms_nothing(rt: HostRuntime) -> Result<(), Fail> {
         ("wide buckets", &[1, 1000, 40, 1 << 31, 70, u32::MAX], 1, 5),
         ("the widest buckets", &[7, 1 << 31, 6, 5, 1 << 30], 1, 31),
     ];
-    let good = Outcome {
-        stopped: true,
-        moved: true,
-        stays: true,
-    };
     for (name, times, log, shift) in shapes {
         let shape = Shape {
             name,
@@ -293,11 +324,41 @@ fn a_stopped_caller_harms_nothing(rt: HostRuntime) -> Result<(), Fail> {
                 let told = outcome_of(rt.alloc(), &shape, exchange, made)?;
                 assert_eq!(rt;
                     told,
-                    Some(good),
+                    Some(GOOD),
                     "{}: {exchange:?} after {made}",
                     shape.name
                 );
             }
+        }
+    }
+    Ok(())
+}
+
+/// The same of the exchanges before an emptying, and of those that end a move: each is the first one of its kind.
+#[test]
+fn a_caller_that_is_stopped_at_either_end_harms_nothing(rt: HostRuntime) -> Result<(), Fail> {
+    let ends = [
+        Exchange::Prepare,
+        Exchange::FreezeHead,
+        Exchange::Pin,
+        Exchange::Pass,
+        Exchange::Finish,
+    ];
+    let shapes: [(&str, &[u32], u32, u32); 3] = [
+        ("no event", &[], 4, 1),
+        ("one list into one", &[65, 1, 9, 57, 33], 0, 0),
+        ("ties and others", &[4, 3, 3, 12, 4, 3, 2, 4, 11, 20], 2, 2),
+    ];
+    for (name, times, log, shift) in shapes {
+        let shape = Shape {
+            name,
+            times,
+            log,
+            shift,
+        };
+        for exchange in ends {
+            let told = outcome_of(rt.alloc(), &shape, exchange, 0)?;
+            assert_eq!(rt; told, Some(GOOD), "{}: {exchange:?}", shape.name);
         }
     }
     Ok(())

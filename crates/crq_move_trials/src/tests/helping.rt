@@ -1,14 +1,12 @@
 //! Callers that help a move: a table that may move, events that stand in it, and the helpers' steps.
-ghost use Rattle.std.specs.Prelude.{◌≡◌, ◌<◌, ◌+◌, ◌^◌, ℕ, true, length, IfOk, IfSome};
-ghost use Rattle.crq_base.specs.declared.words.Control.{Control};
-ghost use Rattle.crq_base.specs.Words.{IsControl};
-ghost use Rattle.crq_rows.specs.Passes.{caller, IsNew, IsPassOf};
+ghost use Rattle.std.specs.Prelude.{◌≡◌, ◌<◌, ◌+◌, ℕ, true, length, IfOk, IfSome};
+ghost use Rattle.crq_rows.specs.Passes.{IsNew};
 ghost use Rattle.crq_move_trials.specs.Moving.{AreNewPlaces, HasEntered, MayHelp};
 
 use crq_base::{Control, Event, First};
 use crq_current::current_step;
 use crq_list::{InsertEnd, InsertOp, ListAt, Progress, control_step, head_of};
-use crq_move::{HelpOp, PartEnd, announce_step};
+use crq_move::{HelpEnd, HelpOp, announce_step};
 use crq_rows::{Pass, Passes, Seating, Table, confirm_step, enter_step, epoch_step, passes};
 use crq_rule::{Layout, open_table};
 use std::alloc::{AllocError, Global};
@@ -111,7 +109,7 @@ fn put_all(table: &Table, places: &mut Vec<Seating>, times: &[u32]) -> bool
 
 /// Announces that the table moves into one of 2^log lists, whose buckets are 2^shift ticks wide, and says whether that was
 /// done.
-fn announce(table: &Table, mut pass: Pass, log: u32, shift: u32) -> bool
+pub(crate) fn announce(table: &Table, mut pass: Pass, log: u32, shift: u32) -> bool
     requires new { (j : ℕ) × IsNew table.now j pass }
     requires moves { table.now.start.moves ≡ true }
     requires log { log < 16 }
@@ -137,7 +135,8 @@ pub(crate) fn announced(
     requires few { length times.now < 11 }
     requires log { log < 16 }
     requires shift { shift < 32 }
-    ensures { IfOk result (λ made. IfSome made (λ pair. AreNewPlaces pair.0 pair.1.items)) }
+    ensures places { IfOk result (λ made. IfSome made (λ pair. AreNewPlaces pair.0 pair.1.items)) }
+    ensures moves { IfOk result (λ made. IfSome made (λ pair. pair.0.start.moves ≡ true)) }
 {
     let layout = Layout::of(times.len() as u32 + HELPERS, ROWS);
     let (table, all) = passes(open_table(alloc, &layout, First::of_program(), true)?);
@@ -170,7 +169,7 @@ pub(crate) fn helper(table: &Table, places: &mut Vec<Seating>) -> Option<Helper>
 }
 
 /// Makes a step of a helper, and answers how its help ended, where it did.
-pub(crate) fn step(table: &Table, helper: &mut Helper) -> Option<PartEnd>
+pub(crate) fn step(table: &Table, helper: &mut Helper) -> Option<HelpEnd>
     requires { MayHelp table.now helper.old }
     ensures { MayHelp table.now helper.new }
 {
@@ -188,7 +187,7 @@ pub(crate) fn step(table: &Table, helper: &mut Helper) -> Option<PartEnd>
 }
 
 /// Lets a helper go on to the end of its help, and answers that.
-pub(crate) fn finish(table: &Table, helper: &mut Helper) -> Option<PartEnd>
+pub(crate) fn finish(table: &Table, helper: &mut Helper) -> Option<HelpEnd>
     requires { MayHelp table.now helper.old }
     ensures { MayHelp table.now helper.new }
 {
@@ -198,4 +197,9 @@ pub(crate) fn finish(table: &Table, helper: &mut Helper) -> Option<PartEnd>
         }
     }
     None
+}
+
+/// How a helper of the move with this control word is to end: it finds the table open into which that leads.
+pub(crate) fn opened(control: &Control) -> Option<HelpEnd> {
+    Some(HelpEnd::Steady(control.generation.saturating_add(1)))
 }

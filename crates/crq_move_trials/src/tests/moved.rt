@@ -1,5 +1,5 @@
 //! What a move leaves in the lists of both tables.
-ghost use Rattle.std.specs.Prelude.{◌≡◌, ◌<◌, ◌≤◌, ◌^◌, IfSome};
+ghost use Rattle.std.specs.Prelude.{◌<◌, ◌≤◌, ◌^◌, IfSome};
 ghost use Rattle.crq_base.specs.Words.{IsControl};
 ghost use Rattle.crq_move_trials.specs.Moving.{AreNewPlaces};
 ghost use Rattle.crq_move_trials.specs.Looking.{IsLooker, HasCome};

@@ -4,10 +4,10 @@ ghost use Rattle.crq_base.specs.Words.{IsControl};
 ghost use Rattle.crq_move_trials.specs.Moving.{MayHelp};
 ghost use Rattle.crq_move_trials.specs.Looking.{IsLooker};
 
-use crate::tests::helping::{Helper, announced, helper, step};
+use crate::tests::helping::{Helper, announced, helper, opened, step};
 use crate::tests::moved::{is_moved, looker};
 use crq_base::{Control, Memory};
-use crq_move::PartEnd;
+use crq_move::HelpEnd;
 use crq_rows::{Pass, Table};
 use crq_sim::draw;
 use std::alloc::{AllocError, Global};
@@ -103,7 +103,7 @@ fn goes_on(scene: &Scene, which: u32) -> bool {
 }
 
 /// Lets one of the four make a step, and answers how its help ended, where it did.
-fn turn(scene: &mut Scene, which: u32) -> Option<PartEnd>
+fn turn(scene: &mut Scene, which: u32) -> Option<HelpEnd>
     requires first { MayHelp scene.old.table scene.old.first × MayHelp scene.old.table scene.old.second }
     requires last { MayHelp scene.old.table scene.old.third × MayHelp scene.old.table scene.old.fourth }
     ensures first { MayHelp scene.new.table scene.new.first × MayHelp scene.new.table scene.new.second }
@@ -142,7 +142,7 @@ fn look(
         &scene.control,
         times,
     )?;
-    Ok(Some(moved && end == PartEnd::Done))
+    Ok(Some(moved && Some(end) == opened(&scene.control)))
 }
 
 /// How the schedule of a move came out.

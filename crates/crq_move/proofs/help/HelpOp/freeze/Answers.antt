@@ -1,10 +1,10 @@
 use Rattle.std.proofs.Common.{sym, ap, ◌∙◌, subst}
 use Rattle.crq_list.specs.declared.parts.Progress.TheVariants.{More, Done}
-use Rattle.crq_move.specs.declared.empty.MoveOp.{MoveOp}
-use Rattle.crq_move.specs.declared.help.HelpPart.TheVariants.{Empty}
+use Rattle.crq_move.specs.declared.pin.PinOp.{PinOp}
+use Rattle.crq_move.specs.declared.help.HelpPart.TheVariants.{Pin}
 use Rattle.crq_move.specs.Freezing.{FreezeStepped}
 use Rattle.crq_move.specs.Helping.{HelpStepped}
-use Rattle.crq_move.proofs.HelpingLaws.{at_freeze, freeze_goes, freeze_passed, freeze_ends}
+use Rattle.crq_move.proofs.HelpingLaws.{at_freeze, freeze_goes, freeze_ends, freeze_over}
 use Rattle.crq_move.proofs.help.HelpOp.freeze.Goals as goal
 
 pub returns-in-More : goal.returns-in-More
@@ -13,9 +13,9 @@ returns-in-More c n x i = let op = c.args.self.now in let e = c.args.freezing in
 
 pub returns-in-Done-Done : goal.returns-in-Done-Done
 returns-in-Done-Done c n x i = let op = c.args.self.now in let e = c.args.freezing in let s = c.step in let known = at_freeze n c.args.table.now x op c.args.pass.now s.new.pass c.requires.of i c.requires.room e s.new.self c.requires.part in
-    subst (λ (z : MoveOp). HelpStepped n c.args.table.now x op (record op { part = Empty z }) c.args.pass.now s.new.pass More) (sym c.new.ensures)
+    subst (λ (z : PinOp). HelpStepped n c.args.table.now x op (record op { part = Pin z }) c.args.pass.now s.new.pass More) (sym c.new.ensures)
     (freeze_ends n c.args.table.now x op c.args.pass.now s.new.pass c.requires.of i c.requires.room e s.new.self c.requires.part (subst (FreezeStepped n c.args.table.now x e s.new.self c.args.pass.now s.new.pass) (c.in-Done-Done.is ∙ ap (λ z. Done z) c.in-Done-Done.field-0-is) (s.ensures n x known.0)))
 
-pub returns-in-Done-Passed : goal.returns-in-Done-Passed
-returns-in-Done-Passed c n x i = let op = c.args.self.now in let e = c.args.freezing in let s = c.step in let known = at_freeze n c.args.table.now x op c.args.pass.now s.new.pass c.requires.of i c.requires.room e s.new.self c.requires.part in
-    freeze_passed n c.args.table.now x op c.args.pass.now s.new.pass c.requires.of i c.requires.room e s.new.self c.requires.part (subst (FreezeStepped n c.args.table.now x e s.new.self c.args.pass.now s.new.pass) (c.in-Done-Passed.is ∙ ap (λ z. Done z) c.in-Done-Passed.field-0-is) (s.ensures n x known.0))
+pub returns-in-Done : goal.returns-in-Done
+returns-in-Done c n x i = let op = c.args.self.now in let e = c.args.freezing in let s = c.step in let known = at_freeze n c.args.table.now x op c.args.pass.now s.new.pass c.requires.of i c.requires.room e s.new.self c.requires.part in
+    freeze_over n c.args.table.now x op c.args.pass.now s.new.pass c.requires.of i c.requires.room e s.new.self c.requires.part c.in-Done.field-0 (subst (FreezeStepped n c.args.table.now x e s.new.self c.args.pass.now s.new.pass) c.in-Done.is (s.ensures n x known.0))
