@@ -13,15 +13,7 @@ ghost use Rattle.crq_move.specs.Endings.{LoadedForPin, PinFound, Tried};
 
 use crq_base::{Control, Current, Pin};
 use crq_rows::{Pass, Table, exchange_as, load_turning};
-use crq_rule::Layout;
 use std::marker::Brand;
-
-/// The word of the pin. It stands as far behind current as that does behind the control word.
-fn pin_word(layout: &Layout) -> usize
-    ensures { result ≡ index layout.now pin_place }
-{
-    2 * layout.current() - layout.control()
-}
 
 /// Loads current, whose epoch is to be pinned, once all heads of the table that moves were found frozen. No take that walks
 /// saw a later epoch, and none begins to walk that table any more.
@@ -43,7 +35,7 @@ pub fn pin_load_step(table: &Table, pass: &mut Pass) -> Pin
     requires { IsPassOf table.now pass.old }
     ensures { PinFound table.now pass.old pass.new result }
 {
-    let word = pin_word(&table.start.layout);
+    let word = table.start.layout.pin();
     let found = load_turning::<Brand, ()>(table, pass, word, &());
     let Some(pin) = Pin::unpack(found) else {
         unreachable!()
@@ -59,7 +51,7 @@ pub fn pin_step(table: &Table, pass: &mut Pass, control: &Control, epoch: u32, p
     requires may { (h : Help) × MayPin control.now h epoch pin (caller table.now pass.old) }
     ensures { Tried PinStep table.now pass.old pass.new (index table.now.start.layout pin_place) (pin_word pin) (pin_word (pin_of control.now epoch)) result }
 {
-    let word = pin_word(&table.start.layout);
+    let word = table.start.layout.pin();
     let next = Pin {
         generation: control.generation + 1,
         epoch,

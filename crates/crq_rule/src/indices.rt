@@ -2,7 +2,7 @@
 
 ghost use Rattle.std.specs.Prelude.{◌≡◌, ◌+◌, ◌*◌, ◌<◌};
 ghost use Rattle.crq_base.specs.Sizes.{IsTeam, AreRows};
-ghost use Rattle.crq_rule.specs.Places.{index, IsRow, epoch, announced, control, current, head, stamp};
+ghost use Rattle.crq_rule.specs.Places.{index, IsRow, epoch, announced, control, current, pin, head, stamp};
 ghost use Rattle.crq_rule.specs.ListKinds.{row_place};
 ghost use Rattle.crq_rule.specs.Widths.{width};
 
@@ -67,6 +67,13 @@ impl Layout {
         ensures { result ≡ index self.now current }
     {
         APART * (self.workers as usize + 3)
+    }
+
+    /// The pin.
+    pub fn pin(&self) -> usize
+        ensures { result ≡ index self.now pin }
+    {
+        APART * (self.workers as usize + 4)
     }
 
     /// A head, numbered over both banks.
