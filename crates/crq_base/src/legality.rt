@@ -31,7 +31,7 @@ pub enum Fault {
 }
 
 /// What an entry did with its event.
-#[derive(Clone, Copy, Debug, PartialEq, Eq)]
+#[derive(Clone, Copy)]
 enum Deed {
     Put,
     Settle,
@@ -39,7 +39,7 @@ enum Deed {
 }
 
 /// Which events a take owes before it may answer.
-#[derive(Clone, Copy, Debug, PartialEq, Eq)]
+#[derive(Clone, Copy)]
 enum Bound {
     /// Those with a lesser key than this event, which it took.
     Key(Event),

@@ -20,7 +20,7 @@ const ROWS: u32 = 1024;
 const LIMIT: u64 = 1 << 32;
 
 /// What the program is to do.
-#[derive(Clone, Copy, Debug, PartialEq, Eq)]
+#[derive(Clone, Copy)]
 pub struct Job {
     /// The number of threads, 1 to `MOST_WORKERS` of `crq_base`.
     pub threads: u32,

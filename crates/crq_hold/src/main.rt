@@ -18,8 +18,10 @@ use std::{env, io};
 
 /// The words of the command line after the program's name.
 fn asked(rt: &HostRuntime) -> io::Result<Vec<String>> {
+    let mut args = env::args(rt)?;
+    let _program = args.next();
     let mut words = Vec::new(rt.alloc());
-    for word in env::args(rt)?.skip(1) {
+    for word in args {
         words.push(word)?;
     }
     Ok(words)

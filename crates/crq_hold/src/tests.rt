@@ -111,27 +111,29 @@ fn words_of(alloc: Global, line: &str) -> Result<Vec<String>, AllocError> {
     Ok(words)
 }
 
+/// Lines of words, and whether they are a job.
+const LINES: [(&str, bool); 16] = [
+    ("2 16 1000 7 4", true),
+    ("1 1 0 18446744073709551615 1", true),
+    ("16 256 18446744073709551615 0 1024", true),
+    ("2 16 1000 7", false),
+    ("2 16 1000 7 4 4", false),
+    ("0 16 1000 7 4", false),
+    ("17 16 1000 7 4", false),
+    ("2 0 1000 7 4", false),
+    ("2 257 1000 7 4", false),
+    ("02 16 1000 7 4", false),
+    ("+2 16 1000 7 4", false),
+    ("2 16 1000 -7 4", false),
+    ("2 16 1000 18446744073709551616 4", false),
+    ("2 16  7 4", false),
+    ("2 16 1000 7 0", false),
+    ("2 16 1000 7 1025", false),
+];
+
 #[test]
 fn reads_words(rt: HostRuntime) -> Result<(), Fail> {
-    let rows = [
-        ("2 16 1000 7 4", true),
-        ("1 1 0 18446744073709551615 1", true),
-        ("16 256 18446744073709551615 0 1024", true),
-        ("2 16 1000 7", false),
-        ("2 16 1000 7 4 4", false),
-        ("0 16 1000 7 4", false),
-        ("17 16 1000 7 4", false),
-        ("2 0 1000 7 4", false),
-        ("2 257 1000 7 4", false),
-        ("02 16 1000 7 4", false),
-        ("+2 16 1000 7 4", false),
-        ("2 16 1000 -7 4", false),
-        ("2 16 1000 18446744073709551616 4", false),
-        ("2 16  7 4", false),
-        ("2 16 1000 7 0", false),
-        ("2 16 1000 7 1025", false),
-    ];
-    for (line, reads) in rows {
+    for (line, reads) in LINES {
         let words = words_of(rt.alloc(), line)?;
         assert_eq!(rt; job_of(words.as_slice()).is_some(), reads, "{line}");
     }

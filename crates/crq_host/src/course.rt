@@ -14,7 +14,7 @@ use crq_sim::{Model, ObjectState, Outcome, Sequence, Step, states_before, traces
 use std::alloc::{AllocError, Global};
 
 /// What a run is bounded by, and how its sources are shared.
-#[derive(Clone, Copy, Debug, PartialEq, Eq)]
+#[derive(Clone, Copy)]
 pub struct Plan {
     /// How many events the run may have, up to `crq_sim::MOST_EVENTS`.
     pub cap: u32,

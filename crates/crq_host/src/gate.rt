@@ -48,7 +48,7 @@ pub trait Gate: Sync {
 }
 
 /// The gate of a program: it is open, and runs events as they are.
-#[derive(Clone, Copy, Debug, PartialEq, Eq)]
+#[derive(Clone, Copy)]
 pub struct OpenGate;
 
 impl Gate for OpenGate {

@@ -4,7 +4,7 @@ use crq_base::{Event, Short};
 use crq_sim::{ObjectState, Step};
 
 /// An object, and its state after its events of a window.
-#[derive(Clone, Copy, Debug, PartialEq, Eq)]
+#[derive(Clone, Copy)]
 pub struct Changed {
     /// The object's number, from 1.
     pub object: u32,

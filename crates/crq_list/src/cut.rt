@@ -26,7 +26,7 @@ pub enum CutEnd {
 
 /// Cuts dead rows out of a list, one atomic step at a time: up to a row of an event, or all of them. Each is retired before
 /// the next is cut.
-#[derive(Clone, Copy, Debug, PartialEq, Eq)]
+#[derive(Clone, Copy)]
 pub struct CutOp {
     /// The list, and up to which row of which event; none is the whole list.
     pub sought: Sought,

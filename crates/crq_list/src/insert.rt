@@ -30,7 +30,7 @@ pub enum InsertEnd {
 }
 
 /// Of which row a copy is inserted.
-#[derive(Clone, Copy, Debug, PartialEq, Eq)]
+#[derive(Clone, Copy)]
 pub struct CopyOf {
     /// The frozen row of the table that moves.
     pub old: u32,
@@ -39,7 +39,7 @@ pub struct CopyOf {
 }
 
 /// How far an insertion is.
-#[derive(Clone, Copy, Debug, PartialEq, Eq)]
+#[derive(Clone, Copy)]
 pub enum InsertState {
     /// The word at this place of the row is to be written: 1 for the twin, 2 to 5 for the event.
     Writing(u32),
@@ -54,7 +54,7 @@ pub enum InsertState {
 /// The insertion of a row in hand before the first row with a greater key, one atomic step at a time. It writes the words
 /// of its row, walks to the row's place, cuts dead rows on its way, and links the row by one exchange. The row is that of
 /// a put, or a copy of a frozen row.
-#[derive(Clone, Copy, Debug, PartialEq, Eq)]
+#[derive(Clone, Copy)]
 pub struct InsertOp {
     /// The event's list.
     pub list: ListAt,

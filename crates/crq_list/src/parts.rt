@@ -3,7 +3,7 @@
 use crq_base::Link;
 
 /// A list of a table.
-#[derive(Clone, Copy, Debug, PartialEq, Eq)]
+#[derive(Clone, Copy)]
 pub struct ListAt {
     /// The generation of its table.
     pub generation: u32,
@@ -12,7 +12,7 @@ pub struct ListAt {
 }
 
 /// What a take walks.
-#[derive(Clone, Copy, Debug, PartialEq, Eq)]
+#[derive(Clone, Copy)]
 pub enum Place {
     /// The list of this bucket, up to that bucket's number.
     Bucket(u32),
@@ -30,7 +30,7 @@ pub enum Progress<E> {
 }
 
 /// Where a link stands.
-#[derive(Clone, Copy, Debug, PartialEq, Eq)]
+#[derive(Clone, Copy)]
 pub enum Spot {
     /// In a head, numbered over both banks.
     Head(u32),
@@ -39,7 +39,7 @@ pub enum Spot {
 }
 
 /// A spot that was passed, and the link that was found there, which is present, or not valid yet.
-#[derive(Clone, Copy, Debug, PartialEq, Eq)]
+#[derive(Clone, Copy)]
 pub struct Before {
     /// The spot.
     pub spot: Spot,

@@ -13,7 +13,7 @@ use crq_rows::{Pass, Table, epoch_step, read_step, retire_step};
 
 /// A walk to the place of a target in a list, one atomic step at a time. Dead rows that it meets are cut out of the list
 /// and retired, each before the next.
-#[derive(Clone, Copy, Debug, PartialEq, Eq)]
+#[derive(Clone, Copy)]
 pub enum SeekState {
     /// The link of this spot is to be loaded.
     Load(Spot),
@@ -30,7 +30,7 @@ pub enum SeekState {
 }
 
 /// What a walk seeks: the place of a target in a list.
-#[derive(Clone, Copy, Debug, PartialEq, Eq)]
+#[derive(Clone, Copy)]
 pub struct Sought {
     /// The list.
     pub list: ListAt,
@@ -40,7 +40,7 @@ pub struct Sought {
 }
 
 /// How a walk ends.
-#[derive(Clone, Copy, Debug, PartialEq, Eq)]
+#[derive(Clone, Copy)]
 pub enum SeekEnd {
     /// The target's place is behind this spot.
     There(Before),

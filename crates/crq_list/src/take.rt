@@ -24,7 +24,7 @@ use crq_rows::{Pass, Table, read_step};
 use crq_rule::BANK;
 
 /// How a take ends.
-#[derive(Clone, Copy, Debug, PartialEq, Eq)]
+#[derive(Clone, Copy)]
 pub enum MarkEnd {
     /// This row is marked dead: its event was taken. The cut of the row is yet to be made: this is it.
     Marked(u32, Event, CutOp),
@@ -41,7 +41,7 @@ pub enum MarkEnd {
 }
 
 /// A row that was found present, with its link and its event.
-#[derive(Clone, Copy, Debug, PartialEq, Eq)]
+#[derive(Clone, Copy)]
 pub struct Candidate {
     /// The row.
     pub row: u32,
@@ -53,7 +53,7 @@ pub struct Candidate {
 
 /// How far a take is in the list of its head. What comes last in each state but the first is the row that the head was found
 /// to name.
-#[derive(Clone, Copy, Debug, PartialEq, Eq)]
+#[derive(Clone, Copy)]
 pub enum TakeState {
     /// The list's head is to be loaded.
     Load,
@@ -69,7 +69,7 @@ pub enum TakeState {
 /// past dead rows without cutting them, and past such as aren't valid yet, and marks the row that it takes by one exchange.
 /// In a bucket's list it stops at the first present row. A search does so in each list in turn, and keeps the least of these
 /// rows.
-#[derive(Clone, Copy, Debug, PartialEq, Eq)]
+#[derive(Clone, Copy)]
 pub struct TakeOp {
     /// The control word under which the lists are open.
     pub found: Control,

@@ -22,7 +22,7 @@ use crq_rule::CopyDebt;
 
 /// What is done next with the head at which an emptying is. A head's link comes first, and then the link of the row that it
 /// names.
-#[derive(Clone, Copy, Debug, PartialEq, Eq)]
+#[derive(Clone, Copy)]
 pub enum MoveState {
     /// The head's link is to be loaded.
     Load,
@@ -65,7 +65,7 @@ pub enum MoveState {
 /// Empties the frozen lists of the table that moves, one atomic step at a time: the first row of a list is frozen, copied
 /// into the new table, and then cut out of the list. Heads whose lists were found empty are passed. It begins once all heads
 /// were frozen.
-#[derive(Clone, Copy, Debug, PartialEq, Eq)]
+#[derive(Clone, Copy)]
 pub struct MoveOp {
     /// The control word of the move.
     pub control: Control,

@@ -13,7 +13,7 @@ use crq_list::Progress;
 use crq_rows::{Pass, Table};
 
 /// What is done next to open the table.
-#[derive(Clone, Copy, Debug, PartialEq, Eq)]
+#[derive(Clone, Copy)]
 pub enum FinishState {
     /// The pin is to be loaded.
     LoadPin,
@@ -27,7 +27,7 @@ pub enum FinishState {
 
 /// Opens the next table once the lists of the table that moves are empty, one atomic step at a time: it leads current past
 /// the pin, unless it is so already, and then exchanges the control word.
-#[derive(Clone, Copy, Debug, PartialEq, Eq)]
+#[derive(Clone, Copy)]
 pub struct FinishOp {
     /// The control word of the move.
     pub control: Control,

@@ -15,7 +15,7 @@ use crq_list::Progress;
 use crq_rows::{Pass, Table};
 
 /// What is done next with the head at which a freezing is.
-#[derive(Clone, Copy, Debug, PartialEq, Eq)]
+#[derive(Clone, Copy)]
 pub enum FreezeState {
     /// Its link is to be loaded.
     Load,
@@ -25,7 +25,7 @@ pub enum FreezeState {
 
 /// Freezes the heads of the table that moves, one atomic step at a time. Those that another helper froze are passed. It
 /// begins once all heads of the new table were passed, and is given up where a head is of a later table.
-#[derive(Clone, Copy, Debug, PartialEq, Eq)]
+#[derive(Clone, Copy)]
 pub struct FreezeOp {
     /// The control word of the move.
     pub control: Control,

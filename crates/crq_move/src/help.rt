@@ -17,7 +17,7 @@ use crq_list::{Progress, control_step};
 use crq_rows::{Pass, Table};
 
 /// Which part of a move a helper is at.
-#[derive(Clone, Copy, Debug, PartialEq, Eq)]
+#[derive(Clone, Copy)]
 pub enum HelpPart {
     /// The heads of the new table are opened.
     Prepare(PrepareOp),
@@ -48,7 +48,7 @@ pub enum HelpEnd {
 /// that moves, pins the new table to an epoch of current, empties the old lists, leads current past the pin, and opens the
 /// new table. Each head is passed by each helper, and a part begins once the one before it ended. It ends with a load of the
 /// control word.
-#[derive(Clone, Copy, Debug, PartialEq, Eq)]
+#[derive(Clone, Copy)]
 pub struct HelpOp {
     /// The control word of the move.
     pub control: Control,

@@ -12,7 +12,7 @@ use crq_list::Progress;
 use crq_rows::{Pass, Table};
 
 /// What is done next for the pin.
-#[derive(Clone, Copy, Debug, PartialEq, Eq)]
+#[derive(Clone, Copy)]
 pub enum PinState {
     /// Current is to be loaded, whose epoch is to be pinned.
     LoadCurrent,
@@ -24,7 +24,7 @@ pub enum PinState {
 
 /// Pins the next table to an epoch of current that was loaded after all heads of the table that moves were found frozen, one
 /// atomic step at a time. It ends once the pin was found to name that table, whoever set it.
-#[derive(Clone, Copy, Debug, PartialEq, Eq)]
+#[derive(Clone, Copy)]
 pub struct PinOp {
     /// The control word of the move.
     pub control: Control,

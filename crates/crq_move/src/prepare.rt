@@ -15,7 +15,7 @@ use crq_list::Progress;
 use crq_rows::{Pass, Table};
 
 /// What is done next with the head at which a preparation is.
-#[derive(Clone, Copy, Debug, PartialEq, Eq)]
+#[derive(Clone, Copy)]
 pub enum PrepareState {
     /// Its link is to be loaded.
     Load,
@@ -24,7 +24,7 @@ pub enum PrepareState {
 }
 
 /// Opens the heads of the new table, one atomic step at a time. Those that another helper opened are passed.
-#[derive(Clone, Copy, Debug, PartialEq, Eq)]
+#[derive(Clone, Copy)]
 pub struct PrepareOp {
     /// The control word of the move.
     pub control: Control,

@@ -21,7 +21,7 @@ use crq_list::{CutOp, MarkEnd, Place, TakeOp, miss_step};
 use crq_rows::Pass;
 
 /// How a round of a take ends.
-#[derive(Clone, Copy, Debug)]
+#[derive(Clone, Copy)]
 pub(crate) enum Round {
     /// This event was marked in the list of the bucket of this tick, at which current was found. The cut of its row is owed.
     Marked(Event, u32, CutOp),
@@ -32,7 +32,7 @@ pub(crate) enum Round {
 }
 
 /// An event that a take marked, and how it was found. The cut of its row is owed.
-#[derive(Clone, Copy, Debug)]
+#[derive(Clone, Copy)]
 pub(crate) struct Caught {
     /// The event.
     pub event: Event,

@@ -18,7 +18,7 @@ use crq_rule::{Pass, Table};
 /// Where the pass has a free row, that is the one. Else it loads the epoch and looks at each home row in order, and claims
 /// each that it finds ripe, right after the look. The first of them is the one, and the others are free for later searches.
 /// After it has ended it begins anew.
-#[derive(Clone, Copy, Debug, PartialEq, Eq)]
+#[derive(Clone, Copy)]
 pub enum OwnOp {
     /// Nothing was done yet.
     Load,

@@ -21,7 +21,7 @@ const TICKS: u32 = 3;
 /// Recovers rows, one atomic step at a time: it raises the epoch three times, and then looks at each home row in order,
 /// and claims each that it finds ripe, right after the look. After it has ended it begins anew. The guard of its pass has
 /// to be off.
-#[derive(Clone, Copy, Debug, PartialEq, Eq)]
+#[derive(Clone, Copy)]
 pub enum RecoverOp {
     /// So many ticks have moved, fewer than three, and this one is made.
     Ticking(u32, TickOp),

@@ -16,7 +16,7 @@ const LAST: u64 = 1 << 62;
 ///
 /// It loads the epoch and scans the announcements of all other callers, in order of their numbers. Where each of them is
 /// out or at that epoch, it exchanges the epoch for the next one. After it has ended it begins anew.
-#[derive(Clone, Copy, Debug, PartialEq, Eq)]
+#[derive(Clone, Copy)]
 pub enum TickOp {
     /// The epoch is to be loaded.
     Load,

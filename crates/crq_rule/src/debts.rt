@@ -3,7 +3,7 @@
 use crq_base::{Event, Link};
 
 /// An event that this pass linked, and that isn't settled yet.
-#[derive(Clone, Copy, Debug, PartialEq, Eq)]
+#[derive(Clone, Copy)]
 pub struct SettleDebt {
     /// The event.
     pub event: Event,
@@ -14,7 +14,7 @@ pub struct SettleDebt {
 }
 
 /// A dead row that this pass still has to cut, named by its place in a list.
-#[derive(Clone, Copy, Debug, PartialEq, Eq)]
+#[derive(Clone, Copy)]
 pub struct CutDebt {
     /// The generation of the list's table.
     pub generation: u32,
@@ -29,7 +29,7 @@ pub struct CutDebt {
 }
 
 /// A copy that this pass linked into the new table, and that isn't bound yet.
-#[derive(Clone, Copy, Debug, PartialEq, Eq)]
+#[derive(Clone, Copy)]
 pub struct CopyDebt {
     /// The frozen row of the old table.
     pub old: u32,
@@ -46,7 +46,7 @@ pub struct CopyDebt {
 }
 
 /// All that a pass owes. It never names more than two dead rows.
-#[derive(Clone, Copy, Debug, PartialEq, Eq)]
+#[derive(Clone, Copy)]
 pub struct Debts {
     /// The event to settle.
     pub settle: Option<SettleDebt>,

@@ -13,7 +13,7 @@ pub const BANK: u32 = 32768;
 /// Word 0 is spare. Then come the epoch, an announcement for each caller, the control word, current and the pin, each 16
 /// words behind the one before, and 16 behind the pin two banks of 32,768 heads, and the rows, of seven words each: link,
 /// stamp, twin, and the four words of an event. The words between are unused.
-#[derive(Clone, Copy, Debug, PartialEq, Eq)]
+#[derive(Clone, Copy)]
 pub struct Layout {
     /// The number of callers, 1 to `MOST_WORKERS` of `crq_base`.
     pub workers: u32,
@@ -31,7 +31,7 @@ pub struct Layout {
 }
 
 /// What a table starts with.
-#[derive(Clone, Copy, Debug, PartialEq, Eq)]
+#[derive(Clone, Copy)]
 pub struct Start {
     /// The places of its words.
     pub layout: Layout,

@@ -6,7 +6,7 @@ ghost use Rattle.crq_top.specs.Commands.{Asked, Asks, AsksNothing, Spells, AllFi
 use crate::forms::{Misfit, Parameter, Verb, misfit_of};
 
 /// The two top calls.
-#[derive(Clone, Copy, Debug, PartialEq, Eq)]
+#[derive(Clone, Copy)]
 pub enum Call {
     /// `run`, which may wait for threads.
     Run,
@@ -15,7 +15,7 @@ pub enum Call {
 }
 
 /// What a list of words asks for.
-#[derive(Clone, Copy, Debug)]
+#[derive(Clone, Copy)]
 pub enum Command<'w> {
     /// `run MODEL WORKERS ROWS EVENTS`: the trace text of the model, by so many workers with so many rows each, where its run
     /// has at most so many events.

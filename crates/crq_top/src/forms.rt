@@ -10,7 +10,7 @@ use crq_sim::{MOST_EVENTS, MOST_OBJECTS, MOST_STARTS};
 use itoa::Buffer;
 
 /// The commands, by the words with which they begin.
-#[derive(Clone, Copy, Debug, PartialEq, Eq)]
+#[derive(Clone, Copy)]
 pub enum Verb {
     Run,
     Check,
@@ -19,7 +19,7 @@ pub enum Verb {
 }
 
 /// What a word of a command stands for.
-#[derive(Clone, Copy, Debug, PartialEq, Eq)]
+#[derive(Clone, Copy)]
 pub enum Parameter {
     /// The name of a model file: any word.
     Model,
@@ -38,7 +38,7 @@ pub enum Parameter {
 }
 
 /// The first thing that is wrong with the words of a command line.
-#[derive(Clone, Copy, Debug)]
+#[derive(Clone, Copy)]
 pub enum Misfit<'w> {
     /// There are no words.
     NoCommand,

@@ -108,12 +108,13 @@ pub fn perform<F: Files, S: Sink, E: Sink, M: SetMaker, G: Gate, R: Threads + Wa
 
 /// The words of the command line after the program's name. A word that isn't UTF-8 is an error.
 fn words_of<V: Env>(env: &V, alloc: Global) -> Result<Vec<String>, ErrorKind> {
-    let args = match env::args(&(env, alloc)) {
+    let mut args = match env::args(&(env, alloc)) {
         Ok(args) => args,
         Err(error) => return Err(error.kind()),
     };
+    let _program = args.next();
     let mut words = Vec::new(alloc);
-    for word in args.skip(1) {
+    for word in args {
         if words.push(word).is_err() {
             return Err(ErrorKind::OutOfMemory);
         }

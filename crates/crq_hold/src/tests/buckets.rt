@@ -5,7 +5,7 @@ ghost use Rattle.crq_hold.specs.Teams.{AreWorkers};
 use crate::team::team;
 use crate::tests::LIMIT;
 use crate::tests::owing::Did::{Finished, Missed, Put, Took};
-use crate::tests::owing::{Call, answers_so};
+use crate::tests::owing::{Call, Did, answers_so};
 use crate::worker::Worker;
 use crq_base::PutEnd::{Owed, Settled};
 use crq_base::Route::{Bucket, Search};
@@ -146,32 +146,19 @@ fn at_here<R: Abort>(
     Ok((queue, workers))
 }
 
-/// While nobody else steps no call of a pass that owes nothing is refused for want of exchanges. The time of the one event,
-/// how a take finds it, and the tick of current after that.
-#[test]
-fn so_many_exchanges_are_enough(rt: HostRuntime) -> Result<(), Fail> {
-    let states = [
-        (None, Missed, 24),
-        (Some(8), Took(8, 1, 0, Bucket(16)), 16),
-        (Some(9), Took(9, 1, 0, Bucket(17)), 17),
-        (Some(15), Took(15, 1, 0, Bucket(23)), 23),
-        (Some(16), Took(16, 1, 0, Bucket(16)), 16),
-        (Some(17), Took(17, 1, 0, Bucket(17)), 17),
-        (Some(18), Took(18, 1, 0, Bucket(18)), 18),
-        (Some(19), Took(19, 1, 0, Bucket(19)), 19),
-        (Some(20), Took(20, 1, 0, Bucket(20)), 20),
-        (Some(21), Took(21, 1, 0, Bucket(21)), 21),
-        (Some(22), Took(22, 1, 0, Bucket(22)), 22),
-        (Some(23), Took(23, 1, 0, Bucket(23)), 23),
-        (Some(24), Took(24, 1, 0, Search(8)), 24),
-        (Some(25), Took(25, 1, 0, Search(8)), 24),
-    ];
-    for (time, took, tick) in states {
-        let (queue, mut workers) = at_here(&rt, rt.alloc(), time)?;
+/// Checks that so many exchanges are enough in each of these states.
+fn are_enough<R: Abort>(
+    rt: &R,
+    alloc: Global,
+    states: &[(Option<u32>, Did, u32)],
+) -> Result<(), Fail> {
+    for state in states {
+        let (time, took, tick) = *state;
+        let (queue, mut workers) = at_here(rt, alloc, time)?;
         let takes = [(0, Call::Take(LIMIT), FOR_TAKE, Ok(took), Nothing, tick)];
-        answers_so(&rt, &queue, workers.as_mut_slice(), &takes);
+        answers_so(rt, &queue, workers.as_mut_slice(), &takes);
         for later in 14..26u32 {
-            let (queue, mut workers) = at_here(&rt, rt.alloc(), time)?;
+            let (queue, mut workers) = at_here(rt, alloc, time)?;
             let tick = later.min(HERE);
             let puts = [(
                 0,
@@ -181,10 +168,34 @@ fn so_many_exchanges_are_enough(rt: HostRuntime) -> Result<(), Fail> {
                 Nothing,
                 tick,
             )];
-            answers_so(&rt, &queue, workers.as_mut_slice(), &puts);
+            answers_so(rt, &queue, workers.as_mut_slice(), &puts);
         }
     }
     Ok(())
+}
+
+/// The time of the one event, how a take finds it, and the tick of current after that.
+const STATES: [(Option<u32>, Did, u32); 14] = [
+    (None, Missed, 24),
+    (Some(8), Took(8, 1, 0, Bucket(16)), 16),
+    (Some(9), Took(9, 1, 0, Bucket(17)), 17),
+    (Some(15), Took(15, 1, 0, Bucket(23)), 23),
+    (Some(16), Took(16, 1, 0, Bucket(16)), 16),
+    (Some(17), Took(17, 1, 0, Bucket(17)), 17),
+    (Some(18), Took(18, 1, 0, Bucket(18)), 18),
+    (Some(19), Took(19, 1, 0, Bucket(19)), 19),
+    (Some(20), Took(20, 1, 0, Bucket(20)), 20),
+    (Some(21), Took(21, 1, 0, Bucket(21)), 21),
+    (Some(22), Took(22, 1, 0, Bucket(22)), 22),
+    (Some(23), Took(23, 1, 0, Bucket(23)), 23),
+    (Some(24), Took(24, 1, 0, Search(8)), 24),
+    (Some(25), Took(25, 1, 0, Search(8)), 24),
+];
+
+/// While nobody else steps no call of a pass that owes nothing is refused for want of exchanges.
+#[test]
+fn so_many_exchanges_are_enough(rt: HostRuntime) -> Result<(), Fail> {
+    are_enough(&rt, rt.alloc(), &STATES)
 }
 
 /// The same where each put uses a row, and no more rows are free than a caller has: some puts make ticks.

@@ -22,6 +22,7 @@ use crq_list::{CutOp, ListAt, MarkEnd, Place, Progress, TakeOp, begin_step, head
 use crq_queue::{Calendar, Memory, Pass};
 use crq_rows::Owes;
 use std::alloc::Global;
+use std::process::Abort;
 use std::test::Fail;
 
 /// More steps than an operation makes on any list here.
@@ -253,76 +254,80 @@ fn play(
     })
 }
 
-/// The refusal that names this caller, which announced the first epoch.
-fn held(number: u32) -> Refusal {
-    Refusal::Held(Holder::Seat(number, 0))
-}
+// The refusals that name a caller, which announced the first epoch.
+const HELD_0: Refusal = Refusal::Held(Holder::Seat(0, 0));
 
-/// Whoever is stopped with its guard on is named, as soon as the rows that were free are used up, however few events are
-/// pending. Whoever is stopped between two calls is in nobody's way: then all of a caller's rows hold pending events before
-/// no row is left. The numbers of callers and rows, how the others are stopped, how many events are put and taken first,
-/// how many are put after that, and what the next put is told.
-#[test]
-fn who_stops_is_told(rt: HostRuntime) -> Result<(), Fail> {
-    let table = [
-        (1, 4, [Idle, Idle, Idle], 0, 6, Refusal::Rows),
-        (1, 8, [Idle, Idle, Idle], 20, 10, Refusal::Rows),
-        (2, 4, [Idle, Idle, Idle], 0, 8, Refusal::Rows),
-        (2, 4, [HoldsGuard, Idle, Idle], 0, 8, held(0)),
-        (2, 4, [HoldsGuard, Idle, Idle], 8, 0, held(0)),
-        (2, 5, [Marked, Idle, Idle], 0, 8, held(0)),
-        (2, 5, [Marked, Idle, Idle], 8, 0, held(0)),
-        (2, 6, [CutRow, Idle, Idle], 0, 9, held(0)),
-        (2, 6, [CutRow, Idle, Idle], 7, 2, held(0)),
-        (2, 7, [OwesCut, Idle, Idle], 0, 11, Refusal::Rows),
-        (2, 7, [OwesCut, Idle, Idle], 30, 11, Refusal::Rows),
-        (2, 8, [CutRow, Idle, Idle], 11, 0, held(0)),
-        (2, 4, [Raised, Idle, Idle], 0, 8, held(0)),
-        (2, 4, [Raised, Idle, Idle], 8, 0, held(0)),
-        (2, 4, [OwesEvent, Idle, Idle], 0, 8, Refusal::Rows),
-        // The event that is owed is the first that comes out, so one of the running caller's own stays.
-        (2, 4, [OwesEvent, Idle, Idle], 8, 7, Refusal::Rows),
-        (2, 7, [OwesEvent, Idle, Idle], 30, 10, Refusal::Rows),
-        (3, 4, [Idle, Idle, Idle], 0, 10, Refusal::Rows),
-        (3, 4, [OwesCut, OwesCut, Idle], 0, 10, Refusal::Rows),
-        (3, 5, [OwesCut, HoldsGuard, Idle], 0, 10, held(1)),
-        (3, 5, [HoldsGuard, Marked, Idle], 4, 6, held(0)),
-        (3, 6, [Idle, CutRow, Idle], 0, 11, held(1)),
-        (3, 7, [Marked, CutRow, Idle], 11, 0, held(0)),
-        (3, 8, [OwesCut, Idle, Idle], 40, 14, Refusal::Rows),
-        (3, 5, [OwesCut, Raised, Idle], 0, 10, held(1)),
-        (3, 5, [Raised, OwesEvent, Idle], 0, 11, held(0)),
-        (3, 6, [Raised, Marked, Idle], 4, 7, held(0)),
-        (3, 6, [OwesEvent, OwesEvent, Idle], 0, 12, Refusal::Rows),
-        (3, 6, [OwesEvent, OwesEvent, Idle], 20, 10, Refusal::Rows),
-        (4, 4, [Idle, Idle, Idle], 0, 12, Refusal::Rows),
-        (4, 4, [OwesCut, OwesCut, OwesCut], 0, 12, Refusal::Rows),
-        (4, 5, [Idle, Idle, HoldsGuard], 0, 13, held(2)),
-        (4, 5, [OwesCut, OwesCut, Marked], 0, 10, held(2)),
-        (4, 6, [Idle, CutRow, Marked], 5, 7, held(1)),
-        (4, 7, [Marked, Marked, Marked], 12, 0, held(0)),
-        (4, 8, [CutRow, HoldsGuard, OwesCut], 14, 0, held(0)),
-        (4, 8, [OwesCut, Idle, OwesCut], 50, 16, Refusal::Rows),
-        (4, 7, [OwesCut, Raised, OwesEvent], 0, 14, held(1)),
-        (4, 5, [OwesEvent, OwesCut, Idle], 30, 12, Refusal::Rows),
-    ];
-    for (callers, rows, others, taken, puts, told) in table {
+const HELD_1: Refusal = Refusal::Held(Holder::Seat(1, 0));
+
+const HELD_2: Refusal = Refusal::Held(Holder::Seat(2, 0));
+
+/// A row of the table below: the numbers of callers and rows, how the others are stopped, how many events are put and taken
+/// first, how many are put after that, and what the next put is told.
+type Row = (u32, u32, [Stopped; 3], u32, u32, Refusal);
+
+/// Plays each row of a table, and checks what the running worker was told.
+fn are_told<R: Abort>(rt: &R, alloc: Global, rows: &[Row]) -> Result<(), Fail> {
+    for row in rows {
+        let (callers, rows, others, taken, puts, told) = *row;
         let (callers, rows) = (callers.clamp(1, 4), rows.clamp(4, 8));
-        let outcome = play(rt.alloc(), callers, rows, others, taken)?;
-        let (pending, refusal) = (outcome.puts, outcome.refusal);
-        assert!(rt;
-            outcome.is_set_up,
-            "{callers} callers, {rows} rows, {others:?}"
-        );
-        assert!(rt;
-            refusal != Some(Refusal::Rows) || pending >= rows.div_ceil(2),
-            "{callers} callers, {rows} rows, {others:?}, {taken} taken: {pending}"
-        );
+        let outcome = play(alloc, callers, rows, others, taken)?;
         assert_eq!(rt;
-            (pending, refusal),
-            (puts, Some(told)),
+            (outcome.is_set_up, outcome.puts, outcome.refusal),
+            (true, puts, Some(told)),
             "{callers} callers, {rows} rows, {others:?}, {taken} taken"
         );
     }
     Ok(())
+}
+
+/// Who stops, and what is told then.
+const WHO_IS_TOLD: [Row; 39] = [
+    (1, 4, [Idle, Idle, Idle], 0, 6, Refusal::Rows),
+    (1, 8, [Idle, Idle, Idle], 20, 10, Refusal::Rows),
+    (2, 4, [Idle, Idle, Idle], 0, 8, Refusal::Rows),
+    (2, 4, [HoldsGuard, Idle, Idle], 0, 8, HELD_0),
+    (2, 4, [HoldsGuard, Idle, Idle], 8, 0, HELD_0),
+    (2, 5, [Marked, Idle, Idle], 0, 8, HELD_0),
+    (2, 5, [Marked, Idle, Idle], 8, 0, HELD_0),
+    (2, 6, [CutRow, Idle, Idle], 0, 9, HELD_0),
+    (2, 6, [CutRow, Idle, Idle], 7, 2, HELD_0),
+    (2, 7, [OwesCut, Idle, Idle], 0, 11, Refusal::Rows),
+    (2, 7, [OwesCut, Idle, Idle], 30, 11, Refusal::Rows),
+    (2, 8, [CutRow, Idle, Idle], 11, 0, HELD_0),
+    (2, 4, [Raised, Idle, Idle], 0, 8, HELD_0),
+    (2, 4, [Raised, Idle, Idle], 8, 0, HELD_0),
+    (2, 4, [OwesEvent, Idle, Idle], 0, 8, Refusal::Rows),
+    // The event that is owed is the first that comes out, so one of the running caller's own stays.
+    (2, 4, [OwesEvent, Idle, Idle], 8, 7, Refusal::Rows),
+    (2, 7, [OwesEvent, Idle, Idle], 30, 10, Refusal::Rows),
+    (3, 4, [Idle, Idle, Idle], 0, 10, Refusal::Rows),
+    (3, 4, [OwesCut, OwesCut, Idle], 0, 10, Refusal::Rows),
+    (3, 5, [OwesCut, HoldsGuard, Idle], 0, 10, HELD_1),
+    (3, 5, [HoldsGuard, Marked, Idle], 4, 6, HELD_0),
+    (3, 6, [Idle, CutRow, Idle], 0, 11, HELD_1),
+    (3, 7, [Marked, CutRow, Idle], 11, 0, HELD_0),
+    (3, 8, [OwesCut, Idle, Idle], 40, 14, Refusal::Rows),
+    (3, 5, [OwesCut, Raised, Idle], 0, 10, HELD_1),
+    (3, 5, [Raised, OwesEvent, Idle], 0, 11, HELD_0),
+    (3, 6, [Raised, Marked, Idle], 4, 7, HELD_0),
+    (3, 6, [OwesEvent, OwesEvent, Idle], 0, 12, Refusal::Rows),
+    (3, 6, [OwesEvent, OwesEvent, Idle], 20, 10, Refusal::Rows),
+    (4, 4, [Idle, Idle, Idle], 0, 12, Refusal::Rows),
+    (4, 4, [OwesCut, OwesCut, OwesCut], 0, 12, Refusal::Rows),
+    (4, 5, [Idle, Idle, HoldsGuard], 0, 13, HELD_2),
+    (4, 5, [OwesCut, OwesCut, Marked], 0, 10, HELD_2),
+    (4, 6, [Idle, CutRow, Marked], 5, 7, HELD_1),
+    (4, 7, [Marked, Marked, Marked], 12, 0, HELD_0),
+    (4, 8, [CutRow, HoldsGuard, OwesCut], 14, 0, HELD_0),
+    (4, 8, [OwesCut, Idle, OwesCut], 50, 16, Refusal::Rows),
+    (4, 7, [OwesCut, Raised, OwesEvent], 0, 14, HELD_1),
+    (4, 5, [OwesEvent, OwesCut, Idle], 30, 12, Refusal::Rows),
+];
+
+/// Whoever is stopped with its guard on is named, as soon as the rows that were free are used up, however few events are
+/// pending. Whoever is stopped between two calls is in nobody's way: then all of a caller's rows hold pending events before
+/// no row is left.
+#[test]
+fn who_stops_is_told(rt: HostRuntime) -> Result<(), Fail> {
+    are_told(&rt, rt.alloc(), &WHO_IS_TOLD)
 }
