@@ -3,4 +3,6 @@
 
 mod steps;
 
-pub use steps::{current_step, next_position, owed_position, owed_step, raise_step, settle_step};
+pub use steps::{
+    EPOCHS_END, current_step, next_position, owed_position, owed_step, raise_step, settle_step,
+};

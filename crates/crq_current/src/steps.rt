@@ -12,6 +12,10 @@ use crq_rows::{Pass, Table, exchange_as, exchange_seated, load_seated, load_turn
 use crq_rule::SettleDebt;
 use std::marker::Brand;
 
+/// The epoch of current from which on no event is put and no table announced, so that enough epochs are left to settle the
+/// events that were put and to end the move: 2^32 - 64.
+pub const EPOCHS_END: u32 = u32::MAX - 63;
+
 /// Loads current. A take says that it is to walk: it loads current after its Begin, for the table whose control word it
 /// found, and has read that table then. What the pass knew of a table before goes.
 pub fn current_step(table: &Table, pass: &mut Pass, walks: bool) -> Current

@@ -30,7 +30,8 @@ use Rattle.crq_move.specs.declared.parts.PartEnd.TheVariants.{NeedRow}
 use Rattle.crq_move.specs.declared.empty.MoveState.TheVariants.{Load, Read, Copy}
 use Rattle.crq_move.specs.declared.empty.MoveOp.{MoveOp}
 use Rattle.crq_move.specs.Reads.{IsRead}
-use Rattle.crq_move.specs.Emptying.{IsFree, IsUncopied, IsAt, IsEmptying, NamesAt, state_exchanges, state_kind, EmptyStepped, NeedsRow}
+use Rattle.crq_move.specs.Binding.{IsFree}
+use Rattle.crq_move.specs.Emptying.{IsUncopied, IsAt, IsEmptying, NamesAt, state_exchanges, state_kind, EmptyStepped, NeedsRow}
 use Rattle.crq_move.specs.Helpers.{IsHelper, AllFrozen}
 use Rattle.crq_move.proofs.Orders.{head_low}
 use Rattle.crq_move.proofs.EmptyLaws.{step_counted, step_helper, step_frozen, nothing_aside}

@@ -18,9 +18,13 @@ use Rattle.crq_list.proofs.InsertUses.{copy_asks, copy_linked, copy_frozen}
 use Rattle.crq_move.specs.declared.parts.PartEnd.{PartEnd}
 use Rattle.crq_move.specs.declared.parts.PartEnd.TheVariants.{Passed}
 use Rattle.crq_move.specs.declared.empty.MoveState.{MoveState}
-use Rattle.crq_move.specs.declared.empty.MoveState.TheVariants.{Load, Copy, Owed}
+use Rattle.crq_move.specs.declared.empty.MoveState.TheVariants.{Load, Copy, Bind}
 use Rattle.crq_move.specs.declared.empty.MoveOp.{MoveOp}
-use Rattle.crq_move.specs.Emptying.{IsAt, IsOwing, IsEmptying, NamesAt, EmptyAnswers, EmptyStepped}
+use Rattle.crq_move.specs.declared.bind.BindState.TheVariants.{Twin as BindTwin}
+use Rattle.crq_move.specs.Binding.{IsBinding}
+use Rattle.crq_move.specs.Emptying.{IsAt, IsNextCopy, IsEmptying, NamesAt, EmptyAnswers, EmptyStepped}
+use Rattle.crq_move.proofs.HelperLaws.{counted_on}
+use Rattle.crq_move.proofs.BindingLaws.{binding_begins}
 use Rattle.crq_move.proofs.EmptyLaws.{works_on}
 use Rattle.crq_move.proofs.RowLaws.{sum_less}
 
@@ -60,11 +64,14 @@ module _ (n : ℕ) (table : Table) (x : Control) (op : MoveOp) (old : Pass) (is 
     )
 
     -- the copy was linked, and is owed
-    pub copy_owed : (d : CopyDebt) → new.debts.copy ≡ Some d → InsertStepped n table x i i' old new (Done Linked) → EmptyStepped n table x op (record op { state = Owed d }) old new More
+    pub copy_owed : (d : CopyDebt) → new.debts.copy ≡ Some d → InsertStepped n table x i i' old new (Done Linked) → EmptyStepped n table x op (record op { state = Bind (record { debt = d; state = BindTwin }) }) old new More
     copy_owed d owes s = let l = copy_linked n table x i of_copy copying.1.1 i' old new s in let debts = l.0 in
         let one : own_debt i of_copy ≡ d = same_Some (own_debt i of_copy) d (sym (ap (λ (z : Debts). z.copy) debts) ∙ owes) in
-        copy_told (Done Linked) (record op { state = Owed d }) More s (ap (λ (z : Debts). z.settle) debts) l.3.0 (
-          next_at (Done Linked) s (Owed d) (subst (λ z. IsOwing x z (caller table new)) one (record { uncut = l.2; copy = l.3.2; next = asks.next; list = copying.0.of_list })),
+        copy_told (Done Linked) (record op { state = Bind (record { debt = d; state = BindTwin }) }) More s (ap (λ (z : Debts). z.settle) debts) l.3.0 (
+          next_at (Done Linked) s (Bind (record { debt = d; state = BindTwin })) (subst (λ z. IsBinding n table (record { debt = z; state = BindTwin }) (caller table new) × IsNextCopy x z) one (
+            binding_begins n table (own_debt i of_copy) (caller table new) (counted_on n (insert_exchanges i) (caller table old) (caller table new) s.works is.counted) l.2 l.3.2,
+            record { next = asks.next; list = copying.0.of_list },
+          )),
           ap (λ (z : Debts). z.second_cut) debts ∙ has_room,
           inl s.answers.3,
         )

@@ -21,7 +21,8 @@ use Rattle.crq_move.specs.declared.empty.MoveState.{MoveState}
 use Rattle.crq_move.specs.declared.empty.MoveState.TheVariants.{Load}
 use Rattle.crq_move.specs.declared.empty.MoveOp.{MoveOp}
 use Rattle.crq_move.specs.Helpers.{IsHelper, AllPrepared, AllFrozen}
-use Rattle.crq_move.specs.Emptying.{IsAt, IsFree, IsEmptying, empty_exchanges, empty_kind, EmptyAnswers, EmptyStepped}
+use Rattle.crq_move.specs.Binding.{IsFree}
+use Rattle.crq_move.specs.Emptying.{IsAt, IsEmptying, empty_exchanges, empty_kind, EmptyAnswers, EmptyStepped}
 use Rattle.crq_move.proofs.HelperLaws.{help_fits, helper_stays, counted_on}
 
 -- A step's change leaves what an emptying rests on: who the caller is and what it was told, its entries, its help, and the event that it owes

@@ -1,9 +1,11 @@
 -- A step of a part of a move is one of the help.
 use Rattle.std.proofs.Common.{◌≡◌, ⊎_elim, inl, inr, true, false, ℕ, ◌^◌, ◌≤◌, refl, sym, ap, ◌∙◌, subst, arith}
 use Rattle.crq_base.specs.declared.words.Control.{Control}
+use Rattle.crq_base.specs.Words.{control_word}
+use Rattle.crq_rule.specs.Places.{index, control}
 use Rattle.crq_rule.specs.declared.pass.Pass.{Pass}
 use Rattle.crq_rule.specs.declared.pass.Table.{Table}
-use Rattle.crq_rows.specs.Passes.{caller, IsPassOf}
+use Rattle.crq_rows.specs.Passes.{caller, load_made, IsPassOf}
 use Rattle.crq_list.specs.declared.parts.Progress.{Progress}
 use Rattle.crq_list.specs.declared.parts.Progress.TheVariants.{More, Done}
 use Rattle.crq_move.specs.declared.parts.PartEnd.{PartEnd}
@@ -26,7 +28,8 @@ use Rattle.crq_move.specs.declared.help.HelpOp.{HelpOp}
 use Rattle.crq_move.specs.Helpers.{PartStepped}
 use Rattle.crq_move.specs.Preparing.{PrepareStepped, prepare_exchanges, prepare_kind}
 use Rattle.crq_move.specs.Freezing.{FreezeStepped, freeze_exchanges, freeze_kind}
-use Rattle.crq_move.specs.Emptying.{IsFree, NamesAt, IsEmptying, empty_exchanges, empty_left, EmptyStepped}
+use Rattle.crq_move.specs.Binding.{IsFree}
+use Rattle.crq_move.specs.Emptying.{NamesAt, IsEmptying, empty_exchanges, empty_left, EmptyStepped}
 use Rattle.crq_move.specs.Endings.{EndStepped}
 use Rattle.crq_move.specs.Pinning.{PinStepped, pin_exchanges, pin_kind}
 use Rattle.crq_move.specs.Finishing.{FinishStepped, finish_exchanges, finish_kind}
@@ -35,7 +38,7 @@ use Rattle.crq_move.proofs.Orders.{banked}
 use Rattle.crq_move.proofs.HelperLaws.{counted_on}
 use Rattle.crq_move.proofs.FreezeLaws.{freeze_begins}
 use Rattle.crq_move.proofs.EmptyLaws.{empty_begins}
-use Rattle.crq_move.proofs.EndingLaws.{still_counted}
+use Rattle.crq_move.proofs.EndingLaws.{expects_none, still_counted}
 use Rattle.crq_move.proofs.PinningLaws.{pinning_begins}
 use Rattle.crq_move.proofs.FinishingLaws.{finishing_begins}
 use Rattle.crq_list.specs.Swaps.{Controlled}
@@ -67,25 +70,25 @@ module _ (n : ℕ) (table : Table) (x : Control) (op : HelpOp) (old new : Pass) 
   -- What a step of each part made
 
   prepare_made : (e : PrepareOp) → PartStepped n table (prepare_exchanges e) (prepare_kind e) old new → PartMade n table (Prepare e) old new
-  prepare_made e s = record { is = s.is; step = s.works.step; made = s.works.made; kind_is = s.kind_is; turns = s.turns; number = s.number; settle = ap (λ d. d.settle) s.debts; own = s.own; deal = s.works.stays.deal; guard = s.works.stays.guard; works = s.works }
+  prepare_made e s = record { is = s.is; step = s.works.step; made = s.works.made; kind_is = s.kind_is; expects = s.works.expects; turns = s.turns; number = s.number; settle = ap (λ d. d.settle) s.debts; own = s.own; deal = s.works.stays.deal; guard = s.works.stays.guard; works = s.works }
 
   freeze_made : (e : FreezeOp) → PartStepped n table (freeze_exchanges e) (freeze_kind e) old new → PartMade n table (Freeze e) old new
-  freeze_made e s = record { is = s.is; step = s.works.step; made = s.works.made; kind_is = s.kind_is; turns = s.turns; number = s.number; settle = ap (λ d. d.settle) s.debts; own = s.own; deal = s.works.stays.deal; guard = s.works.stays.guard; works = s.works }
+  freeze_made e s = record { is = s.is; step = s.works.step; made = s.works.made; kind_is = s.kind_is; expects = s.works.expects; turns = s.turns; number = s.number; settle = ap (λ d. d.settle) s.debts; own = s.own; deal = s.works.stays.deal; guard = s.works.stays.guard; works = s.works }
 
-  pin_made : (e : PinOp) → EndStepped table (pin_exchanges e) (pin_kind e) old new → PartMade n table (Pin e) old new
-  pin_made e s = record { is = s.is; step = s.step; made = s.made; kind_is = s.kind_is; turns = s.turns; number = s.number; settle = ap (λ d. d.settle) s.debts; own = s.own; deal = s.deal; guard = s.guard; works = tt }
+  pin_made : (e : PinOp) → EndStepped n table (pin_exchanges e) (pin_kind e) old new → PartMade n table (Pin e) old new
+  pin_made e s = record { is = s.is; step = s.step; made = s.made; kind_is = s.kind_is; expects = s.expects; turns = s.turns; number = s.number; settle = ap (λ d. d.settle) s.debts; own = s.own; deal = s.deal; guard = s.guard; works = tt }
 
   empty_made : (e e' : MoveOp) (answer : Progress PartEnd) → EmptyStepped n table x e e' old new answer → PartMade n table (Empty e) old new
-  empty_made e e' answer s = record { is = s.is; step = s.works.step; made = s.works.made; kind_is = s.kind_is; turns = s.turns; number = s.number; settle = s.settle; own = s.own; deal = s.works.stays.deal; guard = s.works.stays.guard; works = s.works }
+  empty_made e e' answer s = record { is = s.is; step = s.works.step; made = s.works.made; kind_is = s.kind_is; expects = s.works.expects; turns = s.turns; number = s.number; settle = s.settle; own = s.own; deal = s.works.stays.deal; guard = s.works.stays.guard; works = s.works }
 
-  finish_made : (e : FinishOp) → EndStepped table (finish_exchanges e) (finish_kind e) old new → PartMade n table (Finish e) old new
-  finish_made e s = record { is = s.is; step = s.step; made = s.made; kind_is = s.kind_is; turns = s.turns; number = s.number; settle = ap (λ d. d.settle) s.debts; own = s.own; deal = s.deal; guard = s.guard; works = tt }
+  finish_made : (e : FinishOp) → EndStepped n table (finish_exchanges e) (finish_kind e) old new → PartMade n table (Finish e) old new
+  finish_made e s = record { is = s.is; step = s.step; made = s.made; kind_is = s.kind_is; expects = s.expects; turns = s.turns; number = s.number; settle = ap (λ d. d.settle) s.debts; own = s.own; deal = s.deal; guard = s.guard; works = tt }
 
   -- the caller still has no row that it cut, and owes no copy
   heads_free : (exchanges : Bool) (kind : StepKind) → PartStepped n table exchanges kind old new → IsPassOf table old → IsFree p → IsFree q
   heads_free exchanges kind s of free = (s.cut ∙ free.0, s.is.debts.copy ∙ ap (λ d. d.copy) s.debts ∙ sym of.debts.copy ∙ free.1)
 
-  end_free : (exchanges : Bool) (kind : StepKind) → EndStepped table exchanges kind old new → IsFree p → IsFree q
+  end_free : (exchanges : Bool) (kind : StepKind) → EndStepped n table exchanges kind old new → IsFree p → IsFree q
   end_free exchanges kind s free = (s.cut ∙ free.0, ap (λ d. d.copy) s.owed ∙ free.1)
 
   -- The emptying
@@ -166,7 +169,7 @@ module _ (n : ℕ) (table : Table) (x : Control) (op : HelpOp) (old new : Pass) 
 
     -- The pin
     module _ (e e' : PinOp) (is : op.part ≡ Pin e) where
-      pin_room : (s : EndStepped table (pin_exchanges e) (pin_kind e) old new) → NamesAt EmptyLoad new.debts
+      pin_room : (s : EndStepped n table (pin_exchanges e) (pin_kind e) old new) → NamesAt EmptyLoad new.debts
       pin_room s = subst (NamesAt EmptyLoad) (sym s.debts) (subst (λ z. RoomAt z old.debts) is room)
 
       pub at_pin : IsAtPart n table x (Pin e) p
@@ -209,6 +212,7 @@ module _ (n : ℕ) (table : Table) (x : Control) (op : HelpOp) (old new : Pass) 
       step = _;
       made = ap (λ (c : Caller). c.made) s.part;
       kind_is = refl;
+      expects = expects_none n p.made (load_made ControlLoad (index table.start.layout control) (control_word w)) refl;
       turns = ap (λ (r : Pass). r.turns) s.same;
       number = ap (λ (r : Pass). r.number) s.same;
       settle = ap (λ (r : Pass). r.debts.settle) s.same;

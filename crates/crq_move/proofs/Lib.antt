@@ -15,7 +15,7 @@ pub mod LoadLaws
 pub mod FirstStands
 pub mod RowLaws
 pub mod LeavingLaws
-pub mod OwingLaws
+pub mod BindingLaws
 pub mod CopyingLaws
 pub mod ReadLaws
 pub mod BeginLaws

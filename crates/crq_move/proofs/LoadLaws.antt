@@ -37,7 +37,8 @@ use Rattle.crq_move.specs.declared.empty.MoveState.TheVariants.{Load, First}
 use Rattle.crq_move.specs.declared.empty.MoveOp.{MoveOp}
 use Rattle.crq_move.specs.Names.{unfronted_names}
 use Rattle.crq_move.specs.Helpers.{FoundLater}
-use Rattle.crq_move.specs.Emptying.{IsAt, IsFree, IsEmptying, HasPassed, state_exchanges, state_kind, state_rank, empty_left, EmptyAnswers, EmptyStepped}
+use Rattle.crq_move.specs.Binding.{IsFree}
+use Rattle.crq_move.specs.Emptying.{IsAt, IsEmptying, HasPassed, state_exchanges, state_kind, state_rank, empty_left, EmptyAnswers, EmptyStepped}
 use Rattle.crq_move.proofs.Orders.{head_low, old_in}
 use Rattle.crq_move.proofs.HelperLaws.{help_fits, passed_stays, loaded_known, loaded_help}
 use Rattle.crq_move.proofs.EmptySteps.{owes_on}

@@ -1,22 +1,16 @@
--- What the steps of an emptying tell by which a copy that was lost is discarded, and cut out of its list.
-use Rattle.std.proofs.Common.{◌≡◌, ◌⊎◌, ⊎_elim, inl, inr, ℕ, ◌+◌, ◌*◌, ◌-◌, ◌^◌, true, false, Option, Some, None, drop, refl, sym, ap, ◌∙◌, subst, arith}
+-- What the steps of an emptying tell by which a copy is bound, or was lost and is cut out of its list.
+use Rattle.std.proofs.Common.{◌≡◌, ◌⊎◌, ⊎_elim, inl, inr, ℕ, ◌+◌, ◌*◌, ◌-◌, ◌^◌, ◌<◌, false, Option, Some, None, drop, refl, sym, ap, ◌∙◌, subst, arith}
 use Rattle.std.proofs.lemmas.Bool.{false≢true}
-use Rattle.crq_base.specs.declared.kinds.StepKind.TheVariants.{Discard as DiscardKind}
-use Rattle.crq_base.specs.declared.words.Link.{Link}
 use Rattle.crq_base.specs.declared.words.Control.{Control}
-use Rattle.crq_base.specs.Words.{link_word}
 use Rattle.crq_rule.specs.declared.debts.CopyDebt.{CopyDebt}
 use Rattle.crq_rule.specs.declared.debts.CutDebt.{CutDebt}
 use Rattle.crq_rule.specs.declared.debts.Debts.{Debts}
 use Rattle.crq_rule.specs.declared.pass.Pass.{Pass}
 use Rattle.crq_rule.specs.declared.pass.Table.{Table}
-use Rattle.crq_rule.specs.declared.view.Made.{Made}
-use Rattle.crq_rule.specs.declared.view.Caller.{Caller}
 use Rattle.crq_rule.specs.Core.{DeadNames, HasName, moved_up, names_of, renamed}
-use Rattle.crq_rule.specs.Places.{index, link}
 use Rattle.crq_rule.specs.Ranks.{at_head, list_by}
-use Rattle.crq_rule.specs.CopyKinds.{dead_link, lost_name, also_named, discards}
-use Rattle.crq_rows.specs.Passes.{caller, IsPassOf, NamesLag, step_made}
+use Rattle.crq_rule.specs.CopyKinds.{lost_name, also_named}
+use Rattle.crq_rows.specs.Passes.{caller, IsPassOf, NamesLag}
 use Rattle.crq_list.specs.declared.parts.Progress.{Progress}
 use Rattle.crq_list.specs.declared.parts.Progress.TheVariants.{More, Done}
 use Rattle.crq_list.specs.declared.parts.Spot.TheVariants.{Head}
@@ -25,7 +19,6 @@ use Rattle.crq_list.specs.declared.seek.Sought.{Sought}
 use Rattle.crq_list.specs.declared.cut.CutEnd.{CutEnd}
 use Rattle.crq_list.specs.declared.cut.CutEnd.TheVariants.{Clean, Frozen}
 use Rattle.crq_list.specs.declared.cut.CutOp.{CutOp}
-use Rattle.crq_list.specs.Known.{turns_after}
 use Rattle.crq_list.specs.Spots.{NamesTarget, IsListOf}
 use Rattle.crq_list.specs.Seeking.{seek_exchanges, seek_left}
 use Rattle.crq_list.specs.Cutting.{IsCutting, CutStepped}
@@ -34,13 +27,18 @@ use Rattle.crq_list.proofs.SweepLaws.{sweep_begins}
 use Rattle.crq_move.specs.declared.parts.PartEnd.{PartEnd}
 use Rattle.crq_move.specs.declared.parts.PartEnd.TheVariants.{Passed}
 use Rattle.crq_move.specs.declared.empty.MoveState.{MoveState}
-use Rattle.crq_move.specs.declared.empty.MoveState.TheVariants.{Load, CopyLink, Drop, Cut}
+use Rattle.crq_move.specs.declared.empty.MoveState.TheVariants.{Load, Bind, Cut}
 use Rattle.crq_move.specs.declared.empty.MoveOp.{MoveOp}
 use Rattle.crq_move.specs.Names.{names_lost, without_last, without_lost}
-use Rattle.crq_move.specs.Steps.{WordLeft}
-use Rattle.crq_move.specs.Emptying.{IsAt, IsOwing, IsLost, IsEmptying, NamesAt, state_exchanges, state_kind, EmptyAnswers, EmptyStepped}
-use Rattle.crq_move.proofs.EmptyLaws.{nothing_aside, step_helper, step_counted, goes_on, works_on, empty_stepped}
-use Rattle.crq_move.proofs.RowLaws.{discard_aside, dead_apart, sum_less}
+use Rattle.crq_move.specs.declared.bind.BindEnd.{BindEnd}
+use Rattle.crq_move.specs.declared.bind.BindEnd.TheVariants.{Bound, Dead, Discarded}
+use Rattle.crq_move.specs.declared.bind.BindOp.{BindOp}
+use Rattle.crq_move.specs.Helpers.{IsHelper}
+use Rattle.crq_move.specs.Binding.{IsBinding, state_exchanges as bind_swaps, state_left as left_at, bind_exchanges, bind_left, BindAnswers, BindStepped}
+use Rattle.crq_move.specs.Emptying.{IsAt, IsNextCopy, IsEmptying, NamesAt, EmptyAnswers, EmptyStepped}
+use Rattle.crq_move.proofs.HelperLaws.{counted_on}
+use Rattle.crq_move.proofs.EmptyLaws.{grows_none, helper_on, works_on}
+use Rattle.crq_move.proofs.RowLaws.{sum_less}
 use Rattle.crq_move.proofs.BeginLaws.{list_next, next_is_list}
 
 -- the cut of a copy that is lost
@@ -57,8 +55,8 @@ lost_named d debts none = go debts.cut
     go (Some f) = inr (lost_name d, refl, (refl, refl, refl))
 
 -- a list of the new table is told by the generation and event of the copy that is owed
-owed_list : (x : Control) (d : CopyDebt) (p : Caller) → IsOwing x d p → list_next x d.event ≡ record { generation = d.generation; head = d.head }
-owed_list x d p o = λ i. record { generation = sym o.next i; head = (sym (moved_list x (x.generation + 1) d.event refl) ∙ (ap (λ g. list_by x g d.event) (sym o.next) ∙ o.list)) i }
+owed_list : (x : Control) (d : CopyDebt) → IsNextCopy x d → list_next x d.event ≡ record { generation = d.generation; head = d.head }
+owed_list x d o = λ i. record { generation = sym o.next i; head = (sym (moved_list x (x.generation + 1) d.event refl) ∙ (ap (λ g. list_by x g d.event) (sym o.next) ∙ o.list)) i }
 
 -- once a name is gone that the pass had last, what is left of its names still lags behind those that its caller owes
 lost_lags : (run known : DeadNames) (first second : Option CutDebt) → run.first ≡ first → run.second ≡ second → (d : CutDebt) → ((second ≡ None) × (first ≡ Some d)) ⊎ (second ≡ Some d) → (HasName known d → ⊥) → NamesLag run known → NamesLag (without_lost run) known
@@ -82,63 +80,75 @@ lost_second first None = refl
 lost_second first (Some d) = refl
 
 module _ (n : ℕ) (table : Table) (x : Control) (op : MoveOp) (old : Pass) (is : IsEmptying n table x op (caller table old)) (room : NamesAt op.state old.debts) where
-  -- The copy is discarded
-  module _ (d : CopyDebt) (m : Link) (state : op.state ≡ Drop d m) where
-    dropping : IsAt n table x op.passed (Drop d m) (caller table old)
-    dropping = subst (λ z. IsAt n table x op.passed z (caller table old)) state is.at
+  -- A step by which the copy is bound
+  module _ (b : BindOp) (state : op.state ≡ Bind b) where
+    pub binding_now : IsBinding n table b (caller table old) × IsNextCopy x b.debt
+    binding_now = subst (λ z. IsAt n table x op.passed z (caller table old)) state is.at
 
-    has_room : old.debts.second_cut ≡ None
-    has_room = subst (λ z. NamesAt z old.debts) state room
+    pub bind_room : old.debts.second_cut ≡ None
+    bind_room = subst (λ z. NamesAt z old.debts) state room
 
-    abbrev drop_made : ℕ → Made
-    drop_made found = step_made DiscardKind (index table.start.layout (link d.copy)) (link_word m) (link_word (dead_link m)) found
+    module _ (b' : BindOp) (new : Pass) where
+      abbrev at_bind : MoveOp
+      at_bind = record op { state = Bind b }
 
-    -- it was discarded, and is to be cut
-    pub drop_won : (new : Pass) (cut : CutOp) → WordLeft DiscardKind table old new (index table.start.layout (link d.copy)) (link_word m) (link_word (dead_link m)) (discards d.copy m (lost_name d) None) (names_lost (lost_name d) None old.debts) true
-        → cut ≡ lost_cut d → EmptyStepped n table x op (record op { state = Cut cut }) old new More
-    drop_won new cut left cut_is = subst (λ z. EmptyStepped n table x op (record op { state = Cut z }) old new More) (sym cut_is) told
-      where
-        p : Caller
-        p = caller table old
+      -- it is one of the emptying
+      bind_told : (told : Progress BindEnd) (op' : MoveOp) → BindStepped n table b b' old new told → new.debts.settle ≡ old.debts.settle → EmptyAnswers n table x at_bind op' old new More → EmptyStepped n table x op op' old new More
+      bind_told told op' s settle answers = subst (λ (z : MoveState). EmptyStepped n table x (record op { state = z }) op' old new More) (sym state)
+          (record { is = s.is; works = s.works; kind_is = s.kind_is; turns = s.turns; number = s.number; settle = settle; own = s.own; answers = answers })
 
-        r : Caller
-        r = discards d.copy m (lost_name d) None (caller table old)
+      bound_at : (told : Progress BindEnd) → BindStepped n table b b' old new told → (next : MoveState) → IsAt n table x op.passed next (caller table new) → IsEmptying n table x (record op { state = next }) (caller table new)
+      bound_at told s next at = works_on n table x op (caller table old) (caller table new) (bind_exchanges b) is s.is.lawful s.works (λ h helps. (h, s.help ∙ helps, grows_none h)) next at
 
-        owed : new.debts ≡ names_lost (lost_name d) None old.debts
-        owed = ap (λ (a : Pass). a.debts) left.same
+      -- it goes on
+      pub bind_goes : BindStepped n table b b' old new More → EmptyStepped n table x op (record op { state = Bind b' }) old new More
+      bind_goes s = let a = s.answers in bind_told More (record op { state = Bind b' }) s (ap (λ (z : Debts). z.settle) a.2) (
+        bound_at More s (Bind b') (a.0, subst (IsNextCopy x) (sym a.1) (record { next = binding_now.1.next; list = binding_now.1.list })),
+        ap (λ (z : Debts). z.second_cut) a.2 ∙ bind_room,
+        ⊎_elim inl (λ low. inr (sum_less ((2 ^ op.control.log - op.passed) * 2 ^ 170) (2 ^ 167 + 1 + bind_left b') (2 ^ 167 + 1 + bind_left b) (sum_less (2 ^ 167 + 1) (bind_left b') (bind_left b) low))) a.3,
+      )
 
-        cutting : IsCutting n table x (lost_cut d) (caller table new)
-        cutting = let aside = discard_aside d.copy m (lost_name d) None (caller table old) in let helper = step_helper n table x op old new is left.is (drop_made left.found) r left.part aside in (
-          record {
-            counted = step_counted n table x op old new is left.is (drop_made left.found) r left.part aside;
-            on = helper.on;
-            list_is = subst (λ z. IsListOf x z (caller table new)) (owed_list x d (caller table old) dropping.0.owing) (next_is_list x d.event (caller table new) helper);
-            target_is = dropping.0.owing.list;
-            swept = sweep_begins table.start.layout (at_head d.head) (drop n (caller table new).made);
-            at = (ap (λ (c : Caller). c.cut) left.part ∙ dropping.0.owing.uncut, refl);
-          },
-          λ yes. absurd (false≢true yes),
-        )
+      -- the copy is bound, or dead
+      pub bind_bound : BindStepped n table b b' old new (Done Bound) → EmptyStepped n table x op (record op { state = Load }) old new More
+      bind_bound s = let a = s.answers in bind_told (Done Bound) (record op { state = Load }) s (ap (λ (z : Debts). z.settle) a.2)
+          (bound_at (Done Bound) s Load a.0, inl (ap (λ (z : Debts). z.second_cut) a.2 ∙ bind_room), inl (ap bind_swaps a.1))
 
-        told : EmptyStepped n table x op (record op { state = Cut (lost_cut d) }) old new More
-        told = let aside = discard_aside d.copy m (lost_name d) None (caller table old) in
-            empty_stepped n table x op old new is left.is (drop_made left.found) r left.part aside (record op { state = Cut (lost_cut d) }) More (sym (ap state_kind state)) (sym (ap state_exchanges state)) refl
-            (λ _. (dropping.3, dead_apart m dropping.2)) (left.turns ∙ ap (λ b. turns_after b old.turns) (sym (ap state_exchanges state))) (ap (λ (a : Pass). a.number) left.same) (ap (λ (z : Debts). z.settle) owed) (
-              goes_on n table x op old new is left.is (drop_made left.found) r left.part aside (Cut (lost_cut d)) (cutting, ap (λ (c : Caller). c.debts.copy) left.part),
-              subst (NamesAt (Cut (lost_cut d))) (sym owed) (lost_named d old.debts has_room),
-              inl (ap state_exchanges state),
-            )
+      pub bind_dead : BindStepped n table b b' old new (Done Dead) → EmptyStepped n table x op (record op { state = Load }) old new More
+      bind_dead s = let a = s.answers in bind_told (Done Dead) (record op { state = Load }) s (ap (λ (z : Debts). z.settle) a.2) (
+        bound_at (Done Dead) s Load a.0,
+        inl (ap (λ (z : Debts). z.second_cut) a.2 ∙ bind_room),
+        inr (sum_less ((2 ^ op.control.log - op.passed) * 2 ^ 170) (2 ^ 167 + 1) (2 ^ 167 + 1 + bind_left b) (subst (λ z. 2 ^ 167 + 1 < 2 ^ 167 + 1 + left_at z) (sym a.1) (omega arith))),
+      )
 
-    -- or its link was another one
-    pub drop_lost : (new : Pass) → WordLeft DiscardKind table old new (index table.start.layout (link d.copy)) (link_word m) (link_word (dead_link m)) (discards d.copy m (lost_name d) None) old.debts false → EmptyStepped n table x op (record op { state = CopyLink d }) old new More
-    drop_lost new left = let p : Caller = caller table old in let step = drop_made left.found in let debts : new.debts ≡ old.debts = ap (λ (a : Pass). a.debts) left.same in let l = dropping.0 in let o = l.owing in
-        empty_stepped n table x op old new is left.is step p left.part (nothing_aside p) (record op { state = CopyLink d }) More (sym (ap state_kind state)) (sym (ap state_exchanges state)) refl
-        (λ _. (dropping.3, dead_apart m dropping.2)) (left.turns ∙ ap (λ b. turns_after b old.turns) (sym (ap state_exchanges state))) (ap (λ (a : Pass). a.number) left.same) (ap (λ (z : Debts). z.settle) debts) (
-          goes_on n table x op old new is left.is step p left.part (nothing_aside p) (CopyLink d)
-              (subst (IsLost x d) (sym left.part) (record { owing = record { uncut = o.uncut; copy = o.copy; next = o.next; list = o.list }; stand = l.stand; on = l.on; row = l.row; twin_is = l.twin_is })),
-          ap (λ (z : Debts). z.second_cut) debts ∙ has_room,
-          inl (ap state_exchanges state),
-        )
+      -- or it was discarded, and is to be cut
+      pub bind_discarded : (cut : CutOp) → cut ≡ lost_cut b.debt → BindStepped n table b b' old new (Done Discarded) → EmptyStepped n table x op (record op { state = Cut cut }) old new More
+      bind_discarded cut cut_is s = subst (λ z. EmptyStepped n table x op (record op { state = Cut z }) old new More) (sym cut_is) told
+        where
+          d : CopyDebt
+          d = b.debt
+
+          a : BindAnswers n table b b' old new (Done Discarded)
+          a = s.answers
+
+          helper : IsHelper x (caller table new)
+          helper = helper_on x (caller table old) (caller table new) is.helper s.is.lawful s.works.stays (λ h helps. (h, s.help ∙ helps, grows_none h))
+
+          cutting : IsCutting n table x (lost_cut d) (caller table new)
+          cutting = (
+            record {
+              counted = counted_on n (bind_exchanges b) (caller table old) (caller table new) s.works is.counted;
+              on = helper.on;
+              list_is = subst (λ z. IsListOf x z (caller table new)) (owed_list x d (record { next = binding_now.1.next; list = binding_now.1.list })) (next_is_list x d.event (caller table new) helper);
+              target_is = binding_now.1.list;
+              swept = sweep_begins table.start.layout (at_head d.head) (drop n (caller table new).made);
+              at = (a.0.0, refl);
+            },
+            λ yes. absurd (false≢true yes),
+          )
+
+          told : EmptyStepped n table x op (record op { state = Cut (lost_cut d) }) old new More
+          told = bind_told (Done Discarded) (record op { state = Cut (lost_cut d) }) s (ap (λ (z : Debts). z.settle) a.2)
+              (bound_at (Done Discarded) s (Cut (lost_cut d)) (cutting, a.0.1), subst (NamesAt (Cut (lost_cut d))) (sym a.2) (lost_named d old.debts bind_room), inl (ap bind_swaps a.1.1))
 
   -- A step of its cut
   module _ (c : CutOp) (state : op.state ≡ Cut c) where

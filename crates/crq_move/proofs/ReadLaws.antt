@@ -36,7 +36,8 @@ use Rattle.crq_move.specs.declared.empty.MoveState.{MoveState}
 use Rattle.crq_move.specs.declared.empty.MoveState.TheVariants.{Front, Discard, Read}
 use Rattle.crq_move.specs.declared.empty.MoveOp.{MoveOp}
 use Rattle.crq_move.specs.Reads.{IsRead}
-use Rattle.crq_move.specs.Emptying.{Knows, IsHeadKnown, FoundFirst, IsAt, IsEmptying, NamesAt, state_exchanges, empty_exchanges, state_kind, state_rank, empty_left, EmptyAnswers, EmptyStepped}
+use Rattle.crq_move.specs.Helpers.{Knows}
+use Rattle.crq_move.specs.Emptying.{IsHeadKnown, FoundFirst, IsAt, IsEmptying, NamesAt, state_exchanges, empty_exchanges, state_kind, state_rank, empty_left, EmptyAnswers, EmptyStepped}
 use Rattle.crq_move.proofs.Orders.{head_low, old_in}
 use Rattle.crq_move.proofs.EmptyLaws.{nothing_aside, goes_on, empty_stepped}
 

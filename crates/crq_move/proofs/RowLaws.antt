@@ -39,7 +39,8 @@ use Rattle.crq_move.specs.declared.empty.MoveState.TheVariants.{First, Freeze, D
 use Rattle.crq_move.specs.declared.empty.MoveOp.{MoveOp}
 use Rattle.crq_move.specs.Names.{names_lost}
 use Rattle.crq_move.specs.Steps.{WordLeft}
-use Rattle.crq_move.specs.Emptying.{IsHeadKnown, IsFirst, IsFirstLink, FoundFirst, IsFree, IsAt, IsEmptying, NamesAt, state_exchanges, state_kind, state_rank, empty_exchanges, first_of, after_first, EmptyStepped}
+use Rattle.crq_move.specs.Binding.{IsFree}
+use Rattle.crq_move.specs.Emptying.{IsHeadKnown, IsFirst, IsFirstLink, FoundFirst, IsAt, IsEmptying, NamesAt, state_exchanges, state_kind, state_rank, empty_exchanges, first_of, after_first, EmptyStepped}
 use Rattle.crq_move.proofs.Orders.{head_low, old_in}
 use Rattle.crq_move.proofs.FreezeLaws.{frozen_apart}
 use Rattle.crq_move.proofs.EmptyLaws.{Aside, grows_none, nothing_aside, won_aside, goes_on, empty_stepped}

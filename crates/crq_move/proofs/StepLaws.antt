@@ -1,5 +1,5 @@
 -- What a step of a move leaves of a pass.
-use Rattle.std.proofs.Common.{◌≡◌, ◌≢◌, inl, ℕ, ◌==◌, cond, Bool, true, false, Ok, Err, eq-eqb, ne_eqb, refl, sym, ap, ◌∙◌, subst}
+use Rattle.std.proofs.Common.{◌≡◌, ◌≢◌, inl, ℕ, ◌==◌, ◌<◌, cond, Bool, true, false, Ok, Err, eq-eqb, ne_eqb, refl, sym, ap, ◌∙◌, subst}
 use Rattle.crq_base.specs.declared.kinds.StepKind.{StepKind}
 use Rattle.crq_base.specs.declared.kinds.StepKind.TheVariants.{Announce}
 use Rattle.crq_base.specs.declared.words.Link.{Link}
@@ -9,6 +9,7 @@ use Rattle.crq_base.proofs.WordLaws.{control_one}
 use Rattle.crq_rule.specs.declared.pass.Pass.{Pass}
 use Rattle.crq_rule.specs.declared.pass.Table.{Table}
 use Rattle.crq_rule.specs.declared.view.Caller.{Caller}
+use Rattle.crq_rule.specs.Parts.{newest}
 use Rattle.crq_rule.specs.Places.{index, control, head}
 use Rattle.crq_rule.specs.Kinds.{makes}
 use Rattle.crq_rule.specs.ListKinds.{loads_control}
@@ -47,12 +48,14 @@ module _ (table : Table) (old new : Pass) (x : Control) (log shift word from to 
   -- the control word that was found instead is the one that the word spells
   pub not_announced : (y : Control) → IsControl y → control_word y ≡ found → found ≢ from → Announced table old new x log shift (Err y)
   not_announced y bits spells apart = let p : Caller = caller table old in let w = t.after.1 in
+      let is_y : w.control ≡ y = control_one w.control y w.is_control bits (w.word ∙ sym spells) in
       let after : t.after.0 ≡ loads_control y p = sym w.after ∙ (ap (λ b. cond b (announces log shift p) (loads_control w.control p)) (ne_eqb found (control_word x) (λ e. apart (e ∙ sym is_from)))
-      ∙ ap (λ (z : Control). loads_control z p) (control_one w.control y w.is_control bits (w.word ∙ sym spells))) in record {
+      ∙ ap (λ (z : Control). loads_control z p) is_y) in
+      let later : x.generation < newest y = subst (λ (z : Control). x.generation < newest z) is_y (w.later (λ same. apart (sym spells ∙ (ap control_word (sym is_y ∙ same) ∙ sym is_from)))) in record {
         is = t.is;
         same = t.same;
         turns = t.turns;
-        tells = (bits, λ same. apart (sym spells ∙ (ap control_word same ∙ sym is_from)), t.after.2 ∙ (λ i. makes (step_made Announce (at i) (is_from i) (is_to i) (sym spells i)) (after i)));
+        tells = (bits, λ same. apart (sym spells ∙ (ap control_word same ∙ sym is_from)), later, t.after.2 ∙ (λ i. makes (step_made Announce (at i) (is_from i) (is_to i) (sym spells i)) (after i)));
       }
 
 -- what an exchange of a head was, as its words were spelled

@@ -1,7 +1,7 @@
 -- Emptying the frozen lists of the table that moves: what is known between two steps, and what each step tells.
-use Rattle.std.specs.Prelude.{◌≡◌, ◌≢◌, ◌⊎◌, ℕ, ◌+◌, ◌*◌, ◌-◌, ◌^◌, ◌<◌, ◌≤◌, Bool, true, false, [], length, drop, Option, Some, None}
+use Rattle.std.specs.Prelude.{◌≡◌, ◌≢◌, ◌⊎◌, ℕ, ◌+◌, ◌*◌, ◌-◌, ◌^◌, ◌<◌, ◌≤◌, Bool, true, false, [], length, Option, Some, None}
 use Rattle.crq_base.specs.declared.kinds.StepKind.{StepKind}
-use Rattle.crq_base.specs.declared.kinds.StepKind.TheVariants.{Walk, Read as ReadKind, FreezeNode, TwinLoad, Bind as BindKind, Validate as ValidateKind, Discard as DiscardKind, Pop as PopKind, EpochLoad, Retire as RetireKind}
+use Rattle.crq_base.specs.declared.kinds.StepKind.TheVariants.{Walk, Read as ReadKind, FreezeNode, TwinLoad, Validate as ValidateKind, Discard as DiscardKind, Pop as PopKind, EpochLoad, Retire as RetireKind}
 use Rattle.crq_base.specs.declared.words.Link.{Link}
 use Rattle.crq_base.specs.declared.words.Mark.{Mark}
 use Rattle.crq_base.specs.declared.words.Mark.TheVariants.{Val, Inv, Mov, Del}
@@ -17,7 +17,7 @@ use Rattle.crq_rule.specs.declared.view.CutRow.{CutRow}
 use Rattle.crq_rule.specs.declared.view.Help.{Help}
 use Rattle.crq_rule.specs.declared.view.Stand.{Stand}
 use Rattle.crq_rule.specs.declared.view.Caller.{Caller}
-use Rattle.crq_rule.specs.Places.{Place, index, head, link, twin}
+use Rattle.crq_rule.specs.Places.{head, link}
 use Rattle.crq_rule.specs.Ranks.{list_by}
 use Rattle.crq_rule.specs.Helping.{old_head}
 use Rattle.crq_rule.specs.ListKinds.{StandsOn}
@@ -28,7 +28,7 @@ use Rattle.crq_list.specs.declared.parts.Progress.{Progress}
 use Rattle.crq_list.specs.declared.parts.Progress.TheVariants.{More, Done}
 use Rattle.crq_list.specs.declared.insert.CopyOf.{CopyOf}
 use Rattle.crq_list.specs.declared.cut.CutOp.{CutOp}
-use Rattle.crq_list.specs.Known.{last_known, Works, turns_after}
+use Rattle.crq_list.specs.Known.{Works, turns_after}
 use Rattle.crq_list.specs.Operations.{Operation}
 use Rattle.crq_list.specs.Sweeps.{MetFrozen}
 use Rattle.crq_list.specs.Spots.{NamesTarget}
@@ -38,16 +38,13 @@ use Rattle.crq_list.specs.Cutting.{IsCutting}
 use Rattle.crq_move.specs.declared.parts.PartEnd.{PartEnd}
 use Rattle.crq_move.specs.declared.parts.PartEnd.TheVariants.{Done as PartDone, NeedRow, Passed}
 use Rattle.crq_move.specs.declared.empty.MoveState.{MoveState}
-use Rattle.crq_move.specs.declared.empty.MoveState.TheVariants.{Load, First, Freeze, Front, Discard, Twin, Read, Copy, Owed, Bind, CopyLink, Drop, Cut, TwinLink, Validate, Pop, Tag, Retire}
+use Rattle.crq_move.specs.declared.empty.MoveState.TheVariants.{Load, First, Freeze, Front, Discard, Twin, Read, Copy, Bind, Cut, TwinLink, Validate, Pop, Tag, Retire}
 use Rattle.crq_move.specs.declared.empty.MoveOp.{MoveOp}
-use Rattle.crq_move.specs.Helpers.{IsHelper, AllPrepared, AllFrozen, AllEmptied, FoundLater}
+use Rattle.crq_move.specs.Helpers.{Knows, IsHelper, AllPrepared, AllFrozen, AllEmptied, FoundLater}
+use Rattle.crq_move.specs.Binding.{IsFree, IsBinding, bind_exchanges, bind_kind, bind_left}
 use Rattle.crq_move.specs.Reads.{IsRead, unread}
 
 -- What is known of words and rows
-
--- the caller last knew the word at this place to be w
-abbrev pub Knows : ℕ → Table → Place → ℕ → Caller → Type 0
-Knows n table place w p = last_known (drop n p.made) (index table.start.layout place) ≡ Some w
 
 -- the next head was last known to have this link, which is frozen, and names a row
 pub record IsHeadKnown (n : ℕ) (table : Table) (x : Control) (passed : ℕ) (l : Link) (p : Caller) : Type 0 where
@@ -107,24 +104,10 @@ pub record IsLeaving (x : Control) (l last : Link) (p : Caller) : Type 0 where
   pub gone : IsGone last.mark stand p.position.rows
   pub next : IsFirstLink x l last
 
--- the caller owes this copy, which is of its event's list in the new table
-pub record IsOwing (x : Control) (d : CopyDebt) (p : Caller) : Type 0 where
-  pub uncut : p.cut ≡ None
-  pub copy : p.debts.copy ≡ Some d
+-- the copy is of its event's list in the new table
+pub record IsNextCopy (x : Control) (d : CopyDebt) : Type 0 where
   pub next : d.generation ≡ x.generation + 1
   pub list : list_by x d.generation d.event ≡ d.head
-
--- and found that the old row has a twin
-pub record IsLost (x : Control) (d : CopyDebt) (p : Caller) : Type 0 where
-  pub owing : IsOwing x d p
-  pub stand : Stand
-  pub on : In stand p.position.rows
-  pub row : stand.row ≡ d.old
-  pub twin_is : (t : ℕ) × (stand.twin ≡ Some t)
-
--- the caller has no row that it cut, and owes no copy
-abbrev pub IsFree : Caller → Type 0
-IsFree p = (p.cut ≡ None) × (p.debts.copy ≡ None)
 
 -- At each state
 
@@ -145,10 +128,7 @@ IsAt n table x passed (Discard l m e) p = IsFree p × ((s : Stand) × FoundFirst
 IsAt n table x passed (Twin l last) p = IsFree p × IsHeadKnown n table x passed l p × ((s : Stand) × IsFrozen x l last s p)
 IsAt n table x passed (Read row last read place) p = IsFree p × ((s : Stand) × IsUncopied x row last s p × IsRead place read s.event) × (2 ≤ place) × (place < 6)
 IsAt n table x passed (Copy op) p = IsInserting n table x op p × ((o : CopyOf) × (op.copy_of ≡ Some o))
-IsAt n table x passed (Owed d) p = IsOwing x d p
-IsAt n table x passed (Bind d) p = IsOwing x d p × Knows n table (twin d.old) 0 p
-IsAt n table x passed (CopyLink d) p = IsLost x d p
-IsAt n table x passed (Drop d m) p = IsLost x d p × IsLink m × (m.mark ≡ Inv) × Knows n table (link d.copy) (link_word m) p
+IsAt n table x passed (Bind op) p = IsBinding n table op p × IsNextCopy x op.debt
 IsAt n table x passed (Cut op) p = IsCutting n table x op p × (p.debts.copy ≡ None)
 IsAt n table x passed (TwinLink l last t) p = IsFree p × IsHeadKnown n table x passed l p × IsTwinned x l last t p
 IsAt n table x passed (Validate l last t m) p = IsFree p × IsHeadKnown n table x passed l p × IsTwinned x l last t p × IsLink m × (m.mark ≡ Inv) × Knows n table (link t) (link_word m) p
@@ -186,8 +166,7 @@ abbrev pub state_exchanges : MoveState → Bool
 state_exchanges (Freeze l m) = true
 state_exchanges (Discard l m e) = true
 state_exchanges (Copy op) = insert_exchanges op
-state_exchanges (Bind d) = true
-state_exchanges (Drop d m) = true
+state_exchanges (Bind op) = bind_exchanges op
 state_exchanges (Cut op) = seek_exchanges op.state
 state_exchanges (Validate l last t m) = true
 state_exchanges (Pop l last) = true
@@ -205,10 +184,7 @@ state_kind (Discard l m e) = DiscardKind
 state_kind (Twin l last) = TwinLoad
 state_kind (Read row last read place) = ReadKind
 state_kind (Copy op) = insert_kind op.copy_of op.state
-state_kind (Owed d) = TwinLoad
-state_kind (Bind d) = BindKind
-state_kind (CopyLink d) = Walk
-state_kind (Drop d m) = DiscardKind
+state_kind (Bind op) = bind_kind op
 state_kind (Cut op) = seek_kind op.state
 state_kind (TwinLink l last t) = Walk
 state_kind (Validate l last t m) = ValidateKind
@@ -229,10 +205,7 @@ state_rank (Discard l m e) p = 0
 state_rank (Twin l last) p = 2 ^ 166 + 8
 state_rank (Read row last read place) p = 2 ^ 166 + (7 - place)
 state_rank (Copy op) p = state_left op.state p
-state_rank (Owed d) p = 2 ^ 167 + 3
-state_rank (Bind d) p = 0
-state_rank (CopyLink d) p = 2 ^ 167 + 2
-state_rank (Drop d m) p = 0
+state_rank (Bind op) p = 2 ^ 167 + 1 + bind_left op
 state_rank (Cut op) p = 2 ^ 167 + 2 + seek_left op.state p
 state_rank (TwinLink l last t) p = 1
 state_rank (Validate l last t m) p = 0

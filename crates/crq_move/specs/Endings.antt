@@ -1,22 +1,22 @@
 -- What single steps that end a move do to a pass.
 use Rattle.std.specs.Prelude.{◌≡◌, ◌≢◌, ◌==◌, ℕ, ◌+◌, Bool, List, [], ◌∷◌, ◌++◌, Some}
 use Rattle.crq_base.specs.declared.kinds.StepKind.{StepKind}
-use Rattle.crq_base.specs.declared.kinds.StepKind.TheVariants.{CurrentLoad, PinLoad}
+use Rattle.crq_base.specs.declared.kinds.StepKind.TheVariants.{ControlLoad, CurrentLoad, PinLoad}
 use Rattle.crq_base.specs.declared.words.Control.{Control}
 use Rattle.crq_base.specs.declared.words.Current.{Current}
 use Rattle.crq_base.specs.declared.words.Pin.{Pin}
-use Rattle.crq_base.specs.Words.{IsCurrent, IsPin, current_word, pin_word}
+use Rattle.crq_base.specs.Words.{IsControl, IsCurrent, IsPin, control_word, current_word, pin_word}
 use Rattle.crq_rule.specs.declared.pass.Pass.{Pass}
 use Rattle.crq_rule.specs.declared.pass.Table.{Table}
 use Rattle.crq_rule.specs.declared.view.Caller.{Caller}
 use Rattle.crq_rule.specs.declared.view.Help.{Help}
 use Rattle.crq_rule.specs.declared.view.Made.{Made}
 use Rattle.crq_rule.specs.Parts.{NotAfter}
-use Rattle.crq_rule.specs.Places.{index, current, pin}
+use Rattle.crq_rule.specs.Places.{index, control, current, pin}
 use Rattle.crq_rule.specs.Kinds.{makes}
 use Rattle.crq_rule.specs.PinKinds.{loads_for_pin, loads_pin}
 use Rattle.crq_rows.specs.Passes.{caller, IsPassOf, load_made, step_made, counted}
-use Rattle.crq_list.specs.Known.{turns_after}
+use Rattle.crq_list.specs.Known.{Expects, turns_after}
 
 -- a helper found current to be y, whose epoch it is to pin
 pub record LoadedForPin (table : Table) (old new : Pass) (y : Current) : Type 0 where
@@ -58,12 +58,21 @@ pub record FoundOtherPin (table : Table) (x : Control) (p : Caller) : Type 0 whe
   pub made : p.made ≡ before ++ load_made PinLoad (index table.start.layout pin) (pin_word found) ∷ []
   pub other : found.generation ≢ x.generation + 1
 
--- One step of a part that ends a move was made, of this kind. What the pass owes stays, and so do its free rows
-pub record EndStepped (table : Table) (exchanges : Bool) (kind : StepKind) (old new : Pass) : Type 0 where
+-- the last step loaded the control word, and found another one than that of the move
+pub record FoundOtherControl (table : Table) (x : Control) (p : Caller) : Type 0 where
+  pub found : Control
+  pub before : List Made
+  pub bits : IsControl found
+  pub made : p.made ≡ before ++ load_made ControlLoad (index table.start.layout control) (control_word found) ∷ []
+  pub other : found ≢ x
+
+-- One step of a part that ends a move was made, of this kind; an exchange expected what the caller knew by its steps since the first n. What the pass owes stays, and so do its free rows
+pub record EndStepped (n : ℕ) (table : Table) (exchanges : Bool) (kind : StepKind) (old new : Pass) : Type 0 where
   pub is : IsPassOf table new
   pub step : Made
   pub made : (caller table new).made ≡ (caller table old).made ++ step ∷ []
   pub kind_is : step.kind ≡ kind
+  pub expects : Expects n (caller table old).made step
   pub turns : new.turns ≡ turns_after exchanges old.turns
   pub number : new.number ≡ old.number
   pub free : new.free.items ≡ old.free.items
@@ -71,6 +80,5 @@ pub record EndStepped (table : Table) (exchanges : Bool) (kind : StepKind) (old 
   pub own : (caller table new).own ≡ (caller table old).own
   pub deal : (caller table new).deal ≡ (caller table old).deal
   pub guard : (caller table new).guard ≡ (caller table old).guard
-  pub control : (caller table new).found.control ≡ (caller table old).found.control
   pub cut : (caller table new).cut ≡ (caller table old).cut
   pub owed : (caller table new).debts ≡ (caller table old).debts

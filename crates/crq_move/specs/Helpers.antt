@@ -1,5 +1,5 @@
 -- What a caller knows that helps a move, and what each step of a part of it tells.
-use Rattle.std.specs.Prelude.{◌≡◌, ℕ, ◌^◌, ◌<◌, Bool, true, List, [], ◌∷◌, ◌++◌, Some}
+use Rattle.std.specs.Prelude.{◌≡◌, ℕ, ◌^◌, ◌<◌, Bool, true, List, [], ◌∷◌, ◌++◌, drop, Some}
 use Rattle.crq_base.specs.declared.kinds.StepKind.{StepKind}
 use Rattle.crq_base.specs.declared.kinds.StepKind.TheVariants.{Walk}
 use Rattle.crq_base.specs.declared.words.Link.{Link}
@@ -13,10 +13,14 @@ use Rattle.crq_rule.specs.declared.view.Made.{Made}
 use Rattle.crq_rule.specs.declared.view.Caller.{Caller}
 use Rattle.crq_rule.specs.Core.{HasName, names_of}
 use Rattle.crq_rule.specs.Parts.{IsOn}
-use Rattle.crq_rule.specs.Places.{index, head}
+use Rattle.crq_rule.specs.Places.{Place, index, head}
 use Rattle.crq_rule.specs.Ranks.{IsOpen}
 use Rattle.crq_rows.specs.Passes.{caller, IsPassOf, load_made}
-use Rattle.crq_list.specs.Known.{Works, turns_after}
+use Rattle.crq_list.specs.Known.{last_known, Works, turns_after}
+
+-- by its steps since the first n, the caller last knew the word at this place to be w
+abbrev pub Knows : ℕ → Table → Place → ℕ → Caller → Type 0
+Knows n table place w p = last_known (drop n p.made) (index table.start.layout place) ≡ Some w
 
 -- under its guard, the caller helps the move that the control word x tells, and found that word. The new table has a generation
 pub record IsHelper (x : Control) (p : Caller) : Type 0 where

@@ -12,7 +12,7 @@ use Rattle.crq_rule.specs.declared.view.Made.{Made}
 use Rattle.crq_rows.specs.Passes.{caller, IsPassOf}
 use Rattle.crq_list.specs.declared.parts.Progress.{Progress}
 use Rattle.crq_list.specs.declared.parts.Progress.TheVariants.{More, Done}
-use Rattle.crq_list.specs.Known.{Works, turns_after}
+use Rattle.crq_list.specs.Known.{Expects, Works, turns_after}
 use Rattle.crq_list.specs.Operations.{Operation}
 use Rattle.crq_move.specs.declared.empty.MoveState.TheVariants.{Load}
 use Rattle.crq_move.specs.declared.help.HelpPart.{HelpPart}
@@ -23,7 +23,8 @@ use Rattle.crq_move.specs.declared.help.HelpEnd.TheVariants.{Steady, Moving, Nee
 use Rattle.crq_move.specs.declared.help.HelpOp.{HelpOp}
 use Rattle.crq_move.specs.Preparing.{IsPreparing, prepare_exchanges, prepare_kind, prepare_left}
 use Rattle.crq_move.specs.Freezing.{IsFreezing, freeze_exchanges, freeze_kind, freeze_left}
-use Rattle.crq_move.specs.Emptying.{IsEmptying, IsFree, NamesAt, NeedsRow, empty_exchanges, empty_kind, empty_left}
+use Rattle.crq_move.specs.Binding.{IsFree}
+use Rattle.crq_move.specs.Emptying.{IsEmptying, NamesAt, NeedsRow, empty_exchanges, empty_kind, empty_left}
 use Rattle.crq_move.specs.Pinning.{IsPinning, pin_exchanges, pin_kind, pin_left}
 use Rattle.crq_move.specs.Finishing.{IsFinishing, finish_exchanges, finish_kind, finish_left}
 
@@ -111,12 +112,13 @@ PartWorks n (Freeze op) p q = Works n (freeze_exchanges op) p q
 PartWorks n (Empty op) p q = Works n (empty_exchanges op) p q
 PartWorks n _ p q = Unit {0}
 
--- one step of this part was made. The event that the pass owes stays
+-- one step of this part was made; an exchange expected what the caller knew by its steps since the first n. The event that the pass owes stays
 pub record PartMade (n : ℕ) (table : Table) (part : HelpPart) (old new : Pass) : Type 0 where
   pub is : IsPassOf table new
   pub step : Made
   pub made : (caller table new).made ≡ (caller table old).made ++ step ∷ []
   pub kind_is : step.kind ≡ part_kind part
+  pub expects : Expects n (caller table old).made step
   pub turns : new.turns ≡ turns_after (part_exchanges part) old.turns
   pub number : new.number ≡ old.number
   pub settle : new.debts.settle ≡ old.debts.settle

@@ -1,5 +1,5 @@
 -- Opening the heads of the new table: what is known between two steps, and what each step tells.
-use Rattle.std.specs.Prelude.{◌≡◌, ◌⊎◌, ℕ, ◌+◌, ◌*◌, ◌-◌, ◌^◌, ◌<◌, ◌≤◌, Bool, true, false, length, drop, Some}
+use Rattle.std.specs.Prelude.{◌≡◌, ◌⊎◌, ℕ, ◌+◌, ◌*◌, ◌-◌, ◌^◌, ◌<◌, ◌≤◌, Bool, true, false, length, Some}
 use Rattle.crq_base.specs.declared.kinds.StepKind.{StepKind}
 use Rattle.crq_base.specs.declared.kinds.StepKind.TheVariants.{Walk, Prepare}
 use Rattle.crq_base.specs.declared.words.Link.{Link}
@@ -9,25 +9,24 @@ use Rattle.crq_rule.specs.declared.pass.Pass.{Pass}
 use Rattle.crq_rule.specs.declared.pass.Table.{Table}
 use Rattle.crq_rule.specs.declared.view.Help.{Help}
 use Rattle.crq_rule.specs.declared.view.Caller.{Caller}
-use Rattle.crq_rule.specs.Places.{index, head}
+use Rattle.crq_rule.specs.Places.{head}
 use Rattle.crq_rule.specs.Helping.{new_head}
 use Rattle.crq_rows.specs.Passes.{caller}
 use Rattle.crq_list.specs.declared.parts.Progress.{Progress}
 use Rattle.crq_list.specs.declared.parts.Progress.TheVariants.{More, Done}
-use Rattle.crq_list.specs.Known.{last_known}
 use Rattle.crq_list.specs.Operations.{Operation}
 use Rattle.crq_move.specs.declared.parts.PartEnd.{PartEnd}
 use Rattle.crq_move.specs.declared.parts.PartEnd.TheVariants.{Done as PartDone, NeedRow, Passed}
 use Rattle.crq_move.specs.declared.prepare.PrepareState.{PrepareState}
 use Rattle.crq_move.specs.declared.prepare.PrepareState.TheVariants.{Load, Open}
 use Rattle.crq_move.specs.declared.prepare.PrepareOp.{PrepareOp}
-use Rattle.crq_move.specs.Helpers.{IsHelper, AllPrepared, PartStepped}
+use Rattle.crq_move.specs.Helpers.{Knows, IsHelper, AllPrepared, PartStepped}
 
 -- the next head, where it is to be opened: it was last known to have this link, which is of no newer table than the one that moves
 pub record IsOpening (n : ℕ) (table : Table) (x : Control) (passed : ℕ) (l : Link) (p : Caller) : Type 0 where
   pub bits : IsLink l
   pub older : l.generation ≤ x.generation
-  pub known : last_known (drop n p.made) (index table.start.layout (head (new_head x p.number passed))) ≡ Some (link_word l)
+  pub known : Knows n table (head (new_head x p.number passed)) (link_word l) p
 
 abbrev pub IsAt : ℕ → Table → Control → ℕ → PrepareState → Caller → Type 0
 IsAt n table x passed Load p = Unit {0}

@@ -1,5 +1,5 @@
 -- What single steps of a move do to a pass.
-use Rattle.std.specs.Prelude.{◌≡◌, ◌≢◌, ◌⊎◌, ◌==◌, cond, ℕ, Bool, None, Result, Ok, Err}
+use Rattle.std.specs.Prelude.{◌≡◌, ◌≢◌, ◌⊎◌, ◌==◌, ◌<◌, cond, ℕ, Bool, None, Result, Ok, Err}
 use Rattle.crq_base.specs.declared.kinds.StepKind.{StepKind}
 use Rattle.crq_base.specs.declared.kinds.StepKind.TheVariants.{Announce, Walk, Bind}
 use Rattle.crq_base.specs.declared.words.Link.{Link}
@@ -12,6 +12,7 @@ use Rattle.crq_rule.specs.declared.pass.Pass.{Pass}
 use Rattle.crq_rule.specs.declared.pass.Table.{Table}
 use Rattle.crq_rule.specs.declared.view.Caller.{Caller}
 use Rattle.crq_rule.specs.declared.view.Made.{Made}
+use Rattle.crq_rule.specs.Parts.{newest}
 use Rattle.crq_rule.specs.Places.{index, control, head, link, twin}
 use Rattle.crq_rule.specs.Kinds.{makes}
 use Rattle.crq_rule.specs.ListKinds.{loads_control}
@@ -24,10 +25,10 @@ use Rattle.crq_rows.specs.Passes.{caller, IsPassOf, load_made, step_made, counte
 abbrev pub announcing : Table → Control → ℕ → ℕ → ℕ → Made
 announcing table x log shift found = step_made Announce (index table.start.layout control) (control_word x) (control_word (moving_to x log shift)) found
 
--- with Ok the table is announced, and with Err control was found to be y in place of x
+-- with Ok the table is announced, and with Err control was found to be y in place of x, which tells of a later table
 abbrev pub AnnounceTells : Table → Control → ℕ → ℕ → Caller → Caller → Result (Unit {0}) Control → Type 0
 AnnounceTells table x log shift p q (Ok u) = q ≡ makes (announcing table x log shift (control_word x)) (announces log shift p)
-AnnounceTells table x log shift p q (Err y) = IsControl y × (y ≢ x) × (q ≡ makes (announcing table x log shift (control_word y)) (loads_control y p))
+AnnounceTells table x log shift p q (Err y) = IsControl y × (y ≢ x) × (x.generation < newest y) × (q ≡ makes (announcing table x log shift (control_word y)) (loads_control y p))
 
 -- an exchange of the control word was made, from x to that of a move
 pub record Announced (table : Table) (old new : Pass) (x : Control) (log shift : ℕ) (answer : Result (Unit {0}) Control) : Type 0 where

@@ -4,16 +4,16 @@ ghost use Rattle.crq_rows.specs.Passes.{IsPassOf};
 ghost use Rattle.crq_list.specs.declared.parts.Progress.TheVariants.{More, Done};
 ghost use Rattle.crq_list.specs.Operations.{IsUnderWay, MakesStep};
 ghost use Rattle.crq_move.specs.declared.parts.PartEnd.TheVariants.{Done as PartDone};
-ghost use Rattle.crq_move.specs.declared.empty.MoveState.TheVariants.{Load, First, Freeze, Front, Discard, Twin, Read, Copy, Owed, Bind, CopyLink, Drop, Cut, TwinLink, Validate, Pop, Tag, Retire};
+ghost use Rattle.crq_move.specs.declared.empty.MoveState.TheVariants.{Load, First, Freeze, Front, Discard, Twin, Read, Copy, Bind, Cut, TwinLink, Validate, Pop, Tag, Retire};
 ghost use Rattle.crq_move.specs.Emptying.{the_emptying, empty_exchanges, NamesAt, after_first};
 
+use crate::bind::{BindEnd, BindOp};
 use crate::heads::{next_list, old_head};
 use crate::names::{forget_front, forget_lost, forget_row};
 use crate::parts::PartEnd;
 use crate::reads::{read_word, unread};
 use crate::steps::{
-    bind_step, copy_link_step, discard_step, drop_step, freeze_row_step, head_step, owed_twin_step,
-    pop_step, row_step, twin_step, validate_step,
+    discard_step, freeze_row_step, head_step, pop_step, row_step, twin_step, validate_step,
 };
 use crq_base::{Control, Event, Link, Mark};
 use crq_list::{CopyOf, CutEnd, CutOp, InsertEnd, InsertOp, ListAt, Progress};
@@ -40,15 +40,9 @@ pub enum MoveState {
     Read(u32, Link, Event, u32),
     /// A copy of the row is being linked into the new table.
     Copy(InsertOp),
-    /// The pass owes this copy, and the old row's twin is to be loaded.
-    Owed(CopyDebt),
-    /// The old row was found to have no twin, and the copy is to be bound to it.
-    Bind(CopyDebt),
-    /// The old row has another twin, and the link of the copy is to be loaded.
-    CopyLink(CopyDebt),
-    /// The copy was found not to be valid, with this link, and is to be discarded.
-    Drop(CopyDebt, Link),
-    /// The copy was discarded, and is being cut out of its list.
+    /// The pass owes the copy, which is being bound to the row.
+    Bind(BindOp),
+    /// The row has another twin, and the copy was discarded, and is being cut out of its list.
     Cut(CutOp),
     /// The head's row is frozen, and has this twin, whose link is to be loaded.
     TwinLink(Link, Link, u32),
@@ -106,11 +100,10 @@ impl MoveOp {
         match self.state {
             MoveState::Freeze(_, _)
             | MoveState::Discard(_, _, _)
-            | MoveState::Bind(_)
-            | MoveState::Drop(_, _)
             | MoveState::Validate(_, _, _, _)
             | MoveState::Pop(_, _) => true,
             MoveState::Copy(op) => op.exchanges(),
+            MoveState::Bind(op) => op.exchanges(),
             MoveState::Cut(op) => op.exchanges(),
             _ => false,
         }
@@ -317,7 +310,7 @@ impl MoveOp {
                 let Some(debt) = pass.debts.copy else {
                     unreachable!()
                 };
-                self.state = MoveState::Owed(debt);
+                self.state = MoveState::Bind(BindOp::new(&debt));
                 Progress::More
             }
             Progress::Done(InsertEnd::Frozen) => {
@@ -327,76 +320,30 @@ impl MoveOp {
         }
     }
 
-    /// Loads the twin of the row whose copy the pass owes.
-    fn owed(&mut self, table: &Table, pass: &mut Pass, debt: CopyDebt) -> Progress<PartEnd>
+    /// Makes a step by which the copy that the pass owes is bound. Where it was discarded instead, it is cut out of its list.
+    fn bind(&mut self, table: &Table, pass: &mut Pass, binding: BindOp) -> Progress<PartEnd>
         requires of { IsPassOf table.now pass.old }
         requires op { IsUnderWay the_emptying table.now (self.old, pass.old) }
         requires room { NamesAt self.old.state pass.old.debts }
-        requires state { self.old.state ≡ Owed debt }
+        requires state { self.old.state ≡ Bind binding }
         ensures { MakesStep the_emptying table.now (self.old, pass.old) (self.new, pass.new) result }
     {
-        if owed_twin_step(table, pass, &debt) == 0 {
-            self.state = MoveState::Bind(debt);
-        } else {
-            self.state = MoveState::CopyLink(debt);
-        }
-        Progress::More
-    }
-
-    /// Binds the copy.
-    fn bind(&mut self, table: &Table, pass: &mut Pass, debt: CopyDebt) -> Progress<PartEnd>
-        requires of { IsPassOf table.now pass.old }
-        requires op { IsUnderWay the_emptying table.now (self.old, pass.old) }
-        requires room { NamesAt self.old.state pass.old.debts }
-        requires state { self.old.state ≡ Bind debt }
-        ensures { MakesStep the_emptying table.now (self.old, pass.old) (self.new, pass.new) result }
-    {
-        if bind_step(table, pass, &debt) == 0 {
-            self.state = MoveState::Load;
-        } else {
-            self.state = MoveState::CopyLink(debt);
-        }
-        Progress::More
-    }
-
-    /// Loads the link of the copy that the pass owes. Where it is dead, the pass owes it no more.
-    fn copy_link(&mut self, table: &Table, pass: &mut Pass, debt: CopyDebt) -> Progress<PartEnd>
-        requires of { IsPassOf table.now pass.old }
-        requires op { IsUnderWay the_emptying table.now (self.old, pass.old) }
-        requires room { NamesAt self.old.state pass.old.debts }
-        requires state { self.old.state ≡ CopyLink debt }
-        ensures { MakesStep the_emptying table.now (self.old, pass.old) (self.new, pass.new) result }
-    {
-        let link = copy_link_step(table, pass, &debt);
-        match link.mark {
-            Mark::Del => self.state = MoveState::Load,
-            _ => self.state = MoveState::Drop(debt, link),
-        }
-        Progress::More
-    }
-
-    /// Discards that copy.
-    fn drop_copy(
-        &mut self,
-        table: &Table,
-        pass: &mut Pass,
-        debt: CopyDebt,
-        link: Link,
-    ) -> Progress<PartEnd>
-        requires of { IsPassOf table.now pass.old }
-        requires op { IsUnderWay the_emptying table.now (self.old, pass.old) }
-        requires room { NamesAt self.old.state pass.old.debts }
-        requires state { self.old.state ≡ Drop debt link }
-        ensures { MakesStep the_emptying table.now (self.old, pass.old) (self.new, pass.new) result }
-    {
-        if drop_step(table, pass, &debt, link) {
-            let list = ListAt {
-                generation: debt.generation,
-                head: debt.head,
-            };
-            self.state = MoveState::Cut(CutOp::new(list, Some((debt.event, debt.copy))));
-        } else {
-            self.state = MoveState::CopyLink(debt);
+        let mut op = binding;
+        match op.step(table, pass) {
+            Progress::More => self.state = MoveState::Bind(op),
+            Progress::Done(BindEnd::Discarded) => {
+                let CopyDebt {
+                    generation,
+                    head,
+                    event,
+                    copy,
+                    ..
+                } = binding.debt;
+                let list = ListAt { generation, head };
+                self.state = MoveState::Cut(CutOp::new(list, Some((event, copy))));
+            }
+            Progress::Done(BindEnd::Bound) => self.state = MoveState::Load,
+            Progress::Done(BindEnd::Dead) => self.state = MoveState::Load,
         }
         Progress::More
     }
@@ -539,10 +486,7 @@ impl MoveOp {
                 self.read(table, pass, row, last, read, place)
             }
             MoveState::Copy(op) => self.copy(table, pass, op),
-            MoveState::Owed(debt) => self.owed(table, pass, debt),
-            MoveState::Bind(debt) => self.bind(table, pass, debt),
-            MoveState::CopyLink(debt) => self.copy_link(table, pass, debt),
-            MoveState::Drop(debt, link) => self.drop_copy(table, pass, debt, link),
+            MoveState::Bind(op) => self.bind(table, pass, op),
             MoveState::Cut(op) => self.cut(table, pass, op),
             MoveState::TwinLink(head, last, twin) => self.twin_link(table, pass, head, last, twin),
             MoveState::Validate(head, last, twin, link) => {

@@ -2,14 +2,14 @@
 ghost use Rattle.std.specs.Prelude.{◌≡◌};
 ghost use Rattle.crq_rows.specs.Passes.{IsPassOf};
 ghost use Rattle.crq_list.specs.Operations.{IsUnderWay, MakesStep};
-ghost use Rattle.crq_move.specs.declared.finish.FinishState.TheVariants.{LoadPin, LoadCurrent, Pass as PassState, Open};
+ghost use Rattle.crq_move.specs.declared.finish.FinishState.TheVariants.{LoadPin, LoadCurrent, Pass as PassState, LoadControl, Open};
 ghost use Rattle.crq_move.specs.Finishing.{the_finishing, finish_exchanges};
 
 use crate::ending::{finish_step, pass_step, pin_load_step};
 use crate::parts::PartEnd;
 use crq_base::{Control, Current, Pin};
 use crq_current::current_step;
-use crq_list::Progress;
+use crq_list::{Progress, control_step};
 use crq_rows::{Pass, Table};
 
 /// What is done next to open the table.
@@ -21,12 +21,14 @@ pub enum FinishState {
     LoadCurrent(Pin),
     /// Current was found to be this one, which isn't past the pin, and is to be led past it.
     Pass(Pin, Current),
-    /// Current was found to be this one, which is past the pin, and the table is to be opened.
+    /// Current was found to be this one, which is past the pin, and the control word is to be loaded.
+    LoadControl(Pin, Current),
+    /// The control word was found to be that of the move still, and the table is to be opened.
     Open(Pin, Current),
 }
 
 /// Opens the next table once the lists of the table that moves are empty, one atomic step at a time: it leads current past
-/// the pin, unless it is so already, and then exchanges the control word.
+/// the pin, unless it is so already, loads the control word, and then exchanges it.
 #[derive(Clone, Copy)]
 pub struct FinishOp {
     /// The control word of the move.
@@ -79,11 +81,11 @@ impl FinishOp {
         ensures { MakesStep the_finishing table.now (self.old, pass.old) (self.new, pass.new) result }
     {
         let current = current_step(table, pass, false);
-        self.state = if pin.epoch < current.epoch {
-            FinishState::Open(pin, current)
-        } else {
-            FinishState::Pass(pin, current)
-        };
+        if pin.epoch < current.epoch {
+            self.state = FinishState::LoadControl(pin, current);
+            return Progress::More;
+        }
+        self.state = FinishState::Pass(pin, current);
         Progress::More
     }
 
@@ -103,6 +105,27 @@ impl FinishOp {
         pass_step(table, pass, current);
         self.state = FinishState::LoadCurrent(pin);
         Progress::More
+    }
+
+    /// Loads the control word. Where it isn't that of the move any more, another helper opened the table.
+    fn load_control(
+        &mut self,
+        table: &Table,
+        pass: &mut Pass,
+        pin: Pin,
+        current: Current,
+    ) -> Progress<PartEnd>
+        requires of { IsPassOf table.now pass.old }
+        requires op { IsUnderWay the_finishing table.now (self.old, pass.old) }
+        requires state { self.old.state ≡ LoadControl pin current }
+        ensures { MakesStep the_finishing table.now (self.old, pass.old) (self.new, pass.new) result }
+    {
+        let control = control_step(table, pass);
+        if control.pack() == self.control.pack() {
+            self.state = FinishState::Open(pin, current);
+            return Progress::More;
+        }
+        Progress::Done(PartEnd::Passed)
     }
 
     /// Opens the table, where the control word still is that of the move. Where it isn't, another helper did so.
@@ -132,6 +155,7 @@ impl FinishOp {
             FinishState::LoadPin => self.load_pin(table, pass),
             FinishState::LoadCurrent(pin) => self.load_current(table, pass, pin),
             FinishState::Pass(pin, current) => self.pass(table, pass, pin, current),
+            FinishState::LoadControl(pin, current) => self.load_control(table, pass, pin, current),
             FinishState::Open(pin, current) => self.open(table, pass, pin, current),
         }
     }

@@ -5,6 +5,8 @@
 //! opens the new table once current is past the pin.
 #![tactic(auto)]
 
+mod announcing;
+mod bind;
 mod empty;
 mod ending;
 mod finish;
@@ -18,6 +20,8 @@ mod prepare;
 mod reads;
 mod steps;
 
+pub use announcing::announce;
+pub use bind::{BindEnd, BindOp, BindState};
 pub use empty::{MoveOp, MoveState};
 pub use ending::{finish_step, for_pin_step, pass_step, pin_load_step, pin_step};
 pub use finish::{FinishOp, FinishState};

@@ -16,13 +16,10 @@ use crate::calendar::Calendar;
 use crate::runs::{Spent, enter, insert_within, leave};
 use crate::settling::{debt_of, list_of};
 use crq_base::{Control, Event, PutEnd, Refusal};
-use crq_current::current_step;
+use crq_current::{EPOCHS_END, current_step};
 use crq_list::InsertOp;
 use crq_rows::Pass;
 use crq_rule::SettleDebt;
-
-/// The epoch of current from which on no event is put, so that enough epochs are left to settle those that were: 2^32 - 64.
-const EPOCHS_END: u32 = u32::MAX - 63;
 
 impl Calendar {
     /// Makes this insertion while the guard is on, and notes the event as owed.

@@ -1,5 +1,5 @@
 -- What a step function asks of each kind that moves the table.
-use Rattle.std.proofs.Common.{◌≡◌, ℕ, Bool, false, [], ◌∷◌, ◌++◌, None, Some, cond, get_or, set, eqb, sym, refl, ap, ◌∙◌, subst, eq-eqb, ne_eqb}
+use Rattle.std.proofs.Common.{◌≡◌, ◌≢◌, ℕ, ◌+◌, ◌<◌, Bool, true, false, [], ◌∷◌, ◌++◌, None, Some, cond, get_or, set, eqb, arith, sym, refl, ap, ◌∙◌, subst, eq-eqb, ne_eqb}
 use mathlib.Core.Logic.{dite}
 use native.Mathlib.Decide.{ℕ_discrete}
 use prog.Atomic.{either}
@@ -8,13 +8,14 @@ use Rattle.crq_base.specs.declared.entry.Entry.TheVariants.{Table}
 use Rattle.crq_base.specs.declared.words.Link.{Link}
 use Rattle.crq_base.specs.declared.words.Mark.TheVariants.{Mov}
 use Rattle.crq_base.specs.declared.words.Control.{Control}
-use Rattle.crq_base.specs.Words.{IsLink, IsControl, link_word, control_word}
+use Rattle.crq_base.specs.Words.{flag_number, IsLink, IsControl, link_word, control_word}
 use Rattle.crq_base.proofs.WordLaws.{link_one, control_one}
 use Rattle.crq_rule.specs.declared.layout.Start.{Start}
 use Rattle.crq_rule.specs.declared.view.Caller.{Caller}
 use Rattle.crq_rule.specs.Places.{index, control, head, link, IsHead, IsRow}
 use Rattle.crq_rule.specs.Core.{caller_of, owed_by}
-use Rattle.crq_rule.specs.Ranks.{at_head, at_row}
+use Rattle.crq_rule.specs.Ranks.{Shape, shape_of, at_head, at_row}
+use Rattle.crq_rule.specs.Parts.{newest, Fits}
 use Rattle.crq_rule.specs.Helping.{helped_by}
 use Rattle.crq_rule.specs.ListKinds.{noted, cuts, loads_control, without_stand, unnamed_row}
 use Rattle.crq_rule.specs.MoveKinds.{moving_to, announces, prepared_link, leaves_head, frozen_link, freezes_row, MayAnnounce, MayPrepare, MayFreezeHead, MayFreezeRow, MayPop}
@@ -26,6 +27,27 @@ use Rattle.crq_rule.proofs.CoverLaws.{guarded_by}
 use Rattle.crq_rule.proofs.Lawfuls.{stand_covered}
 use Rattle.crq_rule.proofs.GuardSteps.{same_words}
 use Rattle.crq_rule.proofs.ListSteps.{words_after, set_there, told_here, won, lost}
+
+-- steady control words of one generation and one shape are one
+steady_one : (x y : Control) → IsControl x → IsControl y → x.moving ≡ false → y.moving ≡ false → x.generation ≡ y.generation → shape_of x ≡ shape_of y → x ≡ y
+steady_one x y is_x is_y steady_x steady_y same shape = λ i. record {
+  generation = same i;
+  moving = (steady_x ∙ sym steady_y) i;
+  log = (shape i).log;
+  shift = (shape i).shift;
+  new_log = (is_x.steady_log steady_x ∙ sym (is_y.steady_log steady_y)) i;
+  new_shift = (is_x.steady_shift steady_x ∙ sym (is_y.steady_shift steady_y)) i;
+}
+
+-- where control isn't the steady word that was found any more, it tells of a later table
+found_later : (start : Start) (now : Control) (shape : ℕ → Shape) (x : Control) → Fits start now shape now → Fits start now shape x → x.moving ≡ false → now ≢ x → x.generation < newest now
+found_later start now shape x is was steady other = go now.moving refl
+  where
+    go : (b : Bool) → now.moving ≡ b → x.generation < newest now
+    go true moves = let high : newest now ≡ now.generation + 1 = ap (λ b. now.generation + flag_number b) moves in let low = was.low in omega arith
+    go false still = dite (ℕ_discrete x.generation now.generation)
+        (λ same. absurd (other (steady_one now x is.spelled was.spelled still steady (sym same) (sym is.size ∙ (ap shape (sym same) ∙ was.size)))))
+        (λ apart. let high : newest now ≡ now.generation + 0 = ap (λ b. now.generation + flag_number b) still in let low = was.low in omega arith)
 
 module _ (key : Start) (p : Caller) where
   abbrev j : ℕ
@@ -46,6 +68,7 @@ module _ (key : Start) (p : Caller) where
           control = c.words.control;
           is_control = inv.spelled.is_control;
           word = sym at;
+          later = λ apart. absurd (apart found);
           after = (λ i. cond (same i) (announces log shift (is i)) (loads_control c.words.control (is i)))
               ∙ (λ i. record (caller_of c j) { own = sym (put_here c.own j (c.own j ++ Table j log shift ∷ [])) i; permit = sym (put_here c.permit j false) i });
         },
@@ -59,6 +82,7 @@ module _ (key : Start) (p : Caller) where
           control = c.words.control;
           is_control = inv.spelled.is_control;
           word = sym at;
+          later = found_later c.start c.words.control c.shape x inv.sizes.now (inv.finds.controls j x b may'.control) may'.steady;
           after = (λ i. cond (other i) (announces log shift (is i)) (loads_control c.words.control (is i))) ∙ told_here key p c;
         },
       ))

@@ -22,7 +22,7 @@ use Rattle.crq_rule.specs.declared.view.Made.{Made}
 use Rattle.crq_rule.specs.declared.view.Caller.{Caller}
 use Rattle.crq_rule.specs.declared.view.View.{View}
 use Rattle.crq_rule.specs.Places.{IsRow, IsHomeRow}
-use Rattle.crq_rule.specs.Parts.{NotAfter, IsEvent, IsOn}
+use Rattle.crq_rule.specs.Parts.{NotAfter, IsEvent, IsOn, newest}
 use Rattle.crq_rule.specs.Core.{Core, HasName, names_of, caller_of}
 use Rattle.crq_rule.specs.Helping.{IsHelping}
 use Rattle.crq_rule.specs.Invariant.{Inv}
@@ -208,11 +208,12 @@ word_after e = min (e + 1) (2 ^ 64 - 1)
 abbrev pub TellsRoom : ℕ → Caller → Type 0
 TellsRoom r p = length p.hand < p.start.layout.home
 
--- a table was to be announced where control was found to be x: it was, or else the control word that was found is known now
+-- a table was to be announced where control was found to be x: it was, or else the control word that was found is known now, and tells of a table that is later than x's
 pub record FoundAnnounce (x : Control) (log shift found : ℕ) (p q : Caller) : Type 0 where
   pub control : Control
   pub is_control : IsControl control
   pub word : control_word control ≡ found
+  pub later : control ≢ x → x.generation < newest control
   pub after : cond (found == control_word x) (announces log shift p) (loads_control control p) ≡ q
 
 -- a helper found current for the pin, which isn't before any that it found

@@ -3,7 +3,7 @@ ghost use Rattle.std.specs.Prelude.{◌<◌, length};
 ghost use Rattle.crq_base.specs.Words.{IsControl};
 
 use crate::tests::halting::{Exchange, stop_before};
-use crate::tests::helping::{announce, announced, finish, helper, next_pass, opened};
+use crate::tests::helping::{announced, finish, helper, next_pass, opened, sets};
 use crate::tests::moved::{is_moved, looker};
 use crq_base::Control;
 use std::alloc::{AllocError, Global};
@@ -67,7 +67,7 @@ fn outcome_of(
     let Some(pass) = next_pass(&table, &mut places) else {
         return Ok(None);
     };
-    if !announce(&table, pass, NEXT_LOG, NEXT_SHIFT) {
+    if !sets(&table, pass, NEXT_LOG, NEXT_SHIFT) {
         return Ok(None);
     }
     let Some(mut other) = helper(&table, &mut places) else {

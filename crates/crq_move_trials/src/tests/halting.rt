@@ -7,7 +7,7 @@ ghost use Rattle.crq_move_trials.specs.Looking.{IsLooker};
 use crate::tests::helping::{Helper, announced, finish, helper, opened, step};
 use crate::tests::moved::{is_moved, looker};
 use crq_base::{Control, Memory};
-use crq_move::{FinishState, HelpPart, MoveState};
+use crq_move::{BindState, FinishState, HelpPart, MoveState};
 use crq_rows::{Owes, Pass, Table};
 use std::alloc::{AllocError, Global};
 use std::test::Fail;
@@ -44,14 +44,22 @@ pub(crate) enum Exchange {
     Finish,
 }
 
+/// Whether a binding at this state is at this exchange, where it makes one next.
+fn binds(state: BindState, exchange: Exchange) -> bool {
+    match state {
+        BindState::Bind => exchange == Exchange::Bind,
+        BindState::Drop(_) => exchange == Exchange::Drop,
+        _ => false,
+    }
+}
+
 /// Whether an emptying at this state is at this exchange, where it makes one next.
 fn empties(state: MoveState, exchange: Exchange) -> bool {
     match state {
         MoveState::Freeze(_, _) => exchange == Exchange::FreezeNode,
         MoveState::Copy(_) => exchange == Exchange::Copy,
-        MoveState::Bind(_) => exchange == Exchange::Bind,
+        MoveState::Bind(op) => binds(op.state, exchange),
         MoveState::Validate(_, _, _, _) => exchange == Exchange::Validate,
-        MoveState::Drop(_, _) => exchange == Exchange::Drop,
         MoveState::Cut(_) => exchange == Exchange::Cut,
         MoveState::Pop(_, _) => exchange == Exchange::Pop,
         _ => false,

@@ -1,12 +1,13 @@
 //! Callers that help a move: a table that may move, events that stand in it, and the helpers' steps.
 ghost use Rattle.std.specs.Prelude.{◌≡◌, ◌<◌, ◌+◌, ℕ, true, length, IfOk, IfSome};
+ghost use Rattle.crq_base.specs.Starts.{IsFirst};
 ghost use Rattle.crq_rows.specs.Passes.{IsNew};
 ghost use Rattle.crq_move_trials.specs.Moving.{AreNewPlaces, HasEntered, MayHelp};
 
-use crq_base::{Control, Event, First};
-use crq_current::current_step;
+use crq_base::{Announce, Control, Event, First};
+use crq_current::{EPOCHS_END, current_step};
 use crq_list::{InsertEnd, InsertOp, ListAt, Progress, control_step, head_of};
-use crq_move::{HelpEnd, HelpOp, announce_step};
+use crq_move::{HelpEnd, HelpOp, announce};
 use crq_rows::{Pass, Passes, Seating, Table, confirm_step, enter_step, epoch_step, passes};
 use crq_rule::{Layout, open_table};
 use std::alloc::{AllocError, Global};
@@ -17,8 +18,6 @@ const STEPS: u32 = 4096;
 const ROWS: u32 = 16;
 /// The callers that put no event: one announces the new table, one looks on, and the others help.
 pub(crate) const HELPERS: u32 = 6;
-/// Epochs from which on current's isn't raised any more.
-const LAST_EPOCHS: u32 = u32::MAX - 63;
 
 /// A caller: its help, while that is under way, and its pass.
 pub(crate) type Helper = (Option<HelpOp>, Pass);
@@ -59,7 +58,7 @@ pub(crate) fn enter(table: &Table, pass: &mut Pass) -> Option<Control>
     confirm_step(table, pass);
     let control = control_step(table, pass);
     let current = current_step(table, pass, false);
-    if current.epoch < LAST_EPOCHS {
+    if current.epoch < EPOCHS_END {
         Some(control)
     } else {
         None
@@ -107,21 +106,42 @@ fn put_all(table: &Table, places: &mut Vec<Seating>, times: &[u32]) -> bool
     true
 }
 
-/// Announces that the table moves into one of 2^log lists, whose buckets are 2^shift ticks wide, and says whether that was
-/// done.
-pub(crate) fn announce(table: &Table, mut pass: Pass, log: u32, shift: u32) -> bool
+/// A table that may move and starts so, and the passes of so many callers, which have made no step.
+pub(crate) fn table_for(
+    alloc: Global,
+    workers: u32,
+    first: First,
+) -> Result<(Table, Vec<Seating>), AllocError>
+    requires workers { (0 < workers) × (workers < 17) }
+    requires first { IsFirst first }
+    ensures places { IfOk result (λ made. AreNewPlaces made.0 made.1.items) }
+    ensures moves { IfOk result (λ made. made.0.start.moves ≡ true) }
+{
+    let layout = Layout::of(workers, ROWS);
+    let (table, all) = passes(open_table(alloc, &layout, first, true)?);
+    let Passes { places } = all;
+    Ok((table, places))
+}
+
+/// What a new caller is answered that announces that the table moves into one of 2^log lists, whose buckets are 2^shift
+/// ticks wide.
+pub(crate) fn announces(table: &Table, mut pass: Pass, log: u32, shift: u32) -> Announce
     requires new { (j : ℕ) × IsNew table.now j pass }
     requires moves { table.now.start.moves ≡ true }
     requires log { log < 16 }
     requires shift { shift < 32 }
 {
-    let Some(control) = enter(table, &mut pass) else {
-        return false;
-    };
-    if control.moving || control.generation >= (1 << 30) - 2 {
-        return false;
-    }
-    announce_step(table, &mut pass, &control, log, shift).is_ok()
+    announce(table, &mut pass, log, shift)
+}
+
+/// Whether a new caller sets such a table.
+pub(crate) fn sets(table: &Table, pass: Pass, log: u32, shift: u32) -> bool
+    requires new { (j : ℕ) × IsNew table.now j pass }
+    requires moves { table.now.start.moves ≡ true }
+    requires log { log < 16 }
+    requires shift { shift < 32 }
+{
+    matches!(announces(table, pass, log, shift), Announce::Set(_))
 }
 
 /// A table in which events stand at these times, and that was announced to move into one of 2^log lists, whose buckets are
@@ -138,16 +158,15 @@ pub(crate) fn announced(
     ensures places { IfOk result (λ made. IfSome made (λ pair. AreNewPlaces pair.0 pair.1.items)) }
     ensures moves { IfOk result (λ made. IfSome made (λ pair. pair.0.start.moves ≡ true)) }
 {
-    let layout = Layout::of(times.len() as u32 + HELPERS, ROWS);
-    let (table, all) = passes(open_table(alloc, &layout, First::of_program(), true)?);
-    let Passes { mut places } = all;
+    let workers = times.len() as u32 + HELPERS;
+    let (table, mut places) = table_for(alloc, workers, First::of_program())?;
     if !put_all(&table, &mut places, times) {
         return Ok(None);
     }
     let Some(pass) = next_pass(&table, &mut places) else {
         return Ok(None);
     };
-    if announce(&table, pass, log, shift) {
+    if sets(&table, pass, log, shift) {
         Ok(Some((table, places)))
     } else {
         Ok(None)
