@@ -30,9 +30,18 @@ use Rattle.crq_list.specs.Spots.{IsListOf}
 use Rattle.crq_list.specs.Inserting.{IsInserting}
 use Rattle.crq_list.proofs.SeekSteps.{now_open, now_list}
 use Rattle.crq_move.specs.declared.help.HelpOp.{HelpOp}
-use Rattle.crq_move.specs.declared.help.HelpPart.TheVariants.{Prepare}
+use Rattle.crq_move.specs.declared.help.HelpPart.TheVariants.{Prepare, Empty}
+use Rattle.crq_move.specs.declared.empty.MoveOp.{MoveOp}
+use Rattle.crq_move.specs.declared.empty.MoveState.TheVariants.{Bind}
+use Rattle.crq_move.specs.declared.bind.BindOp.{BindOp}
+use Rattle.crq_move.specs.declared.bind.BindState.TheVariants.{Twin}
 use Rattle.crq_move.specs.declared.prepare.PrepareState.TheVariants.{Load}
 use Rattle.crq_move.specs.Helpers.{IsHelper}
+use Rattle.crq_move.specs.Binding.{the_binding}
+use Rattle.crq_move.specs.Emptying.{IsAt, IsEmptying, NamesAt}
+use Rattle.crq_move.specs.Helping.{IsAtPart, RoomAt}
+use Rattle.crq_move.proofs.BindingLaws.{binding_begins}
+use Rattle.crq_list.specs.Operations.{IsUnderWay}
 use Rattle.crq_move.proofs.PrepareLaws.{prepare_begins}
 use Rattle.crq_move_trials.specs.Moving.{AreNewPlaces, HasEntered, MayHelp}
 
@@ -131,3 +140,11 @@ module _ {table : Table} {x : Control} {pass : Pass} (h : HasEntered table x pas
     h.of,
     ((0, x, record { control = refl; at = (prepare_begins 0 table x (caller table pass) (omega arith) (is_helper moving), (h.inside.uncut, ap (λ (d : Debts). d.copy) h.debts)) }), inl room),
   )
+
+-- a copy that a helper left owed can be bound by what its pass owes alone
+pub left_binding : (table : Table) (pass : Pass) (op : HelpOp) (e : MoveOp) (b : BindOp) → op.part ≡ Empty e → e.state ≡ Bind b → MayHelp table (Some op, pass) → IsUnderWay the_binding table (record { debt = b.debt; state = Twin }, pass) × (pass.debts.second_cut ≡ None)
+left_binding table pass op e b part state may = let u = may.1.0 in let emptying : IsEmptying u.0 table u.1 e (caller table pass) = subst (λ z. IsAtPart u.0 table u.1 z (caller table pass)) part u.2.at in
+    let binding = subst (λ z. IsAt u.0 table u.1 e.passed z (caller table pass)) state emptying.at in (
+      (u.0, u.1, binding_begins u.0 table b.debt (caller table pass) emptying.counted binding.0.uncut binding.0.copy),
+      subst (λ z. NamesAt z pass.debts) state (subst (λ z. RoomAt z pass.debts) part may.1.1),
+    )

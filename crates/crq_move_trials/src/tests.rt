@@ -6,4 +6,5 @@ mod halting;
 mod helping;
 mod moved;
 mod moving;
+mod owing;
 mod turns;

@@ -26,7 +26,7 @@ struct Outcome {
 }
 
 /// The control word of the second move.
-fn second_of(control: &Control) -> Control
+pub(crate) fn second_of(control: &Control) -> Control
     ensures { IsControl result }
 {
     Control {
